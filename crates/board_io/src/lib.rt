@@ -2,9 +2,24 @@
 #![tactic(auto)]
 
 mod bytes;
+mod calls;
+mod ends;
+mod links;
 mod list;
+mod memory;
+mod script;
+mod standard;
 mod stop;
+#[cfg(test)]
+mod tests;
+mod whole;
 
 pub use bytes::Bytes;
+pub use ends::{Sink, Source};
+pub use links::{LinkError, LinkEvent, Links, SendError};
 pub use list::List;
+pub use memory::{MemSink, MemSource};
+pub use script::ScriptLinks;
+pub use standard::{StdSink, StdSource};
 pub use stop::{Failed, Stop};
+pub use whole::{ReadError, read_all, write_all};

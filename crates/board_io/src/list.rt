@@ -1,6 +1,7 @@
 //! A list of items that owns its memory.
 
-ghost use Rattle.std.specs.Prelude.{◌≡◌, [], ◌∷◌, ◌++◌, OnOk, IfErr};
+ghost use Rattle.std.specs.Prelude.{◌≡◌, [], ◌∷◌, ◌++◌, IfOk, OnOk, IfErr};
+ghost use Rattle.std.specs.Fn.{FnReturnsAt};
 
 use std::alloc::{AllocError, Global};
 use std::marker::Model;
@@ -59,5 +60,23 @@ impl<T> List<T> {
         self.items
             .push(item)
             .map_err(|failed| (failed.value, AllocError))
+    }
+
+    /// An equal list, whose items `clone` copies.
+    pub fn try_clone_with<F: Fn(&T) -> Result<T, AllocError>>(
+        &self,
+        clone: F,
+    ) -> Result<List<T>, AllocError>
+    where
+        T: Drop,
+        requires callable { F.IsAlwaysCallable clone }
+        requires equal { (item copy : T) → FnReturnsAt F.Fn clone item (Ok copy) → copy ≡ item }
+        ensures { IfOk result (λ copy. copy ≡ self.now) }
+    {
+        let mut items = Vec::new(*self.items.allocator());
+        for item in self.as_slice() {
+            items.push(clone(item)?)?;
+        }
+        Ok(List { items })
     }
 }

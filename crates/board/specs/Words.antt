@@ -1,0 +1,10 @@
+use Rattle.std.specs.Prelude.{ℕ, if◌then◌else◌, nat_eq, List, [], ◌∷◌, Option, Some, None, codes}
+use Rattle.std.specs.Cmp.Lexicographic.{pointwise}
+use Rattle.board.specs.declared.words.Command.{Command}
+use Rattle.board.specs.declared.words.Command.TheVariants.{Merge}
+
+-- the command that these words ask for, where they are a form of one. This project's own.
+abbrev pub asked : List (List ℕ) → Option Command
+asked [] = None
+asked (word ∷ []) = if pointwise nat_eq word (codes "merge") then Some Merge else None
+asked (word ∷ next ∷ more) = None

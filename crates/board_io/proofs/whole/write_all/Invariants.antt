@@ -1,0 +1,13 @@
+use Rattle.std.proofs.Common.{length, ◌-◌, ◌≤◌, take}
+use Rattle.board_io.specs.Ends.{Took}
+use Rattle.board_io.proofs.whole.write_all.Given as goal
+
+abbrev pub invariant-loop-out : goal.invariant-loop-out
+invariant-loop-out g l = record {
+  within : l.out ≤ length l.bytes;
+  taken : Took (g.K.Sink.held l.initial.sink) (g.K.Sink.held l.sink) (take l.out l.bytes);
+  counted : g.K.Sink.faults l.initial.sink ≤ g.K.Sink.faults l.sink;
+}
+
+abbrev pub decreases-loop-out : goal.decreases-loop-out
+decreases-loop-out g l = length l.bytes - l.out

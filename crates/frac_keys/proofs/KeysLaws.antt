@@ -1,0 +1,106 @@
+-- The keys between two ends rise strictly from the one to the other.
+use Rattle.std.proofs.Common.{◌≡◌, ℕ, zero, suc, ◌+◌, ◌-◌, ◌/◌, ◌≤◌, true, List, [], ◌∷◌, ◌++◌, length, Option, Some, None, eqb, refl, sym, ◌∙◌, subst, length-append, ◌<◌, le_refl, arith}
+use Rattle.std.specs.List.{list_all}
+use Rattle.std.proofs.lemmas.Bool.{cond_both, and_from, and_parts, eqb-true, eqb-false}
+use Rattle.std.proofs.lemmas.List.Folds.{list_all-append}
+use Rattle.frac_keys.specs.Keys.{is_key}
+use Rattle.frac_keys.specs.Between.{key_between, keys_above, keys_below, keys_inside, keys_between}
+use Rattle.frac_keys.specs.Rising.{ends_rise, is_end, lies_between, rise_between}
+use Rattle.frac_keys.proofs.OrderLaws.{IsLess-from, bytes_less-from, IsLess-trans}
+use Rattle.frac_keys.proofs.BetweenLaws.{key_between-law}
+
+-- keys that rise to a key and keys that rise from it rise together
+pub rise_between-join : (a b : Option (List ℕ)) (xs : List (List ℕ)) (k : List ℕ) (ys : List (List ℕ)) → rise_between a (Some k) xs ≡ true → rise_between (Some k) b ys ≡ true → rise_between a b (xs ++ k ∷ ys) ≡ true
+rise_between-join a b [] k ys h l = and_from (ends_rise a (Some k)) (rise_between (Some k) b ys) h l
+rise_between-join a b (x ∷ xs) k ys h l =
+    let p = and_parts (ends_rise a (Some x)) (rise_between (Some x) (Some k) xs) h in
+    and_from (ends_rise a (Some x)) (rise_between (Some x) b (xs ++ k ∷ ys)) p.0 (rise_between-join (Some x) b xs k ys p.1 l)
+
+ends_rise-trans : (a : Option (List ℕ)) (k : List ℕ) (b : Option (List ℕ)) → ends_rise a (Some k) ≡ true → ends_rise (Some k) b ≡ true → ends_rise a b ≡ true
+ends_rise-trans None k b h l = refl
+ends_rise-trans (Some a) k None h l = refl
+ends_rise-trans (Some a) k (Some b) h l = bytes_less-from (IsLess-trans (IsLess-from a k h) (IsLess-from k b l))
+
+-- where keys rise from one end to another, so do the ends
+pub rise_between-ends : (a b : Option (List ℕ)) (keys : List (List ℕ)) → rise_between a b keys ≡ true → ends_rise a b ≡ true
+rise_between-ends a b [] h = h
+rise_between-ends a b (k ∷ keys) h =
+    let p = and_parts (ends_rise a (Some k)) (rise_between (Some k) b keys) h in
+    ends_rise-trans a k b p.0 (rise_between-ends (Some k) b keys p.1)
+
+-- and each key lies between the ends
+wider : (a : Option (List ℕ)) (k : List ℕ) (b : Option (List ℕ)) (keys : List (List ℕ)) → ends_rise a (Some k) ≡ true → list_all (lies_between (Some k) b) keys ≡ true → list_all (lies_between a b) keys ≡ true
+wider a k b [] l h = refl
+wider a k b (x ∷ keys) l h =
+    let p = and_parts (lies_between (Some k) b x) (list_all (lies_between (Some k) b) keys) h in
+    let q = and_parts (ends_rise (Some k) (Some x)) (ends_rise (Some x) b) p.0 in
+    and_from (lies_between a b x) (list_all (lies_between a b) keys)
+    (and_from (ends_rise a (Some x)) (ends_rise (Some x) b) (ends_rise-trans a k (Some x) l q.0) q.1)
+    (wider a k b keys l p.1)
+
+pub lies_between-risen : (a b : Option (List ℕ)) (keys : List (List ℕ)) → rise_between a b keys ≡ true → list_all (lies_between a b) keys ≡ true
+lies_between-risen a b [] h = refl
+lies_between-risen a b (k ∷ keys) h =
+    let p = and_parts (ends_rise a (Some k)) (rise_between (Some k) b keys) h in
+    and_from (lies_between a b k) (list_all (lies_between a b) keys)
+    (and_from (ends_rise a (Some k)) (ends_rise (Some k) b) p.0 (rise_between-ends (Some k) b keys p.1))
+    (wider a k b keys p.0 (lies_between-risen (Some k) b keys p.1))
+
+-- The law: there are n keys, they are keys, and they rise strictly from one end to the other.
+pub record AreBetween (a b : Option (List ℕ)) (n : ℕ) (keys : List (List ℕ)) : Type 0 where
+  pub count : length keys ≡ n
+  pub are_keys : list_all is_key keys ≡ true
+  pub rise : rise_between a b keys ≡ true
+
+none : (a b : Option (List ℕ)) → ends_rise a b ≡ true → AreBetween a b 0 []
+none a b h = record { count = refl; are_keys = refl; rise = h }
+
+joined : {a b : Option (List ℕ)} {m n : ℕ} {xs : List (List ℕ)} {k : List ℕ} {ys : List (List ℕ)} (total : ℕ) → m + n + 1 ≡ total → is_key k ≡ true
+    → AreBetween a (Some k) m xs → AreBetween (Some k) b n ys → AreBetween a b total (xs ++ k ∷ ys)
+joined {a} {b} {m} {n} {xs} {k} {ys} total e key h l = record {
+  count = length-append xs (k ∷ ys) ∙ omega (arith, h.count, l.count);
+  are_keys = list_all-append is_key xs (k ∷ ys) ∙ and_from (list_all is_key xs) (list_all is_key (k ∷ ys)) h.are_keys (and_from (is_key k) (list_all is_key ys) key l.are_keys);
+  rise = rise_between-join a b xs k ys h.rise l.rise;
+}
+
+open_above : (a : Option (List ℕ)) → ends_rise a None ≡ true
+open_above None = refl
+open_above (Some a) = refl
+
+keys_above-law : (a : Option (List ℕ)) (n : ℕ) → is_end a ≡ true → AreBetween a None n (keys_above a n)
+unfolding keys_above
+keys_above-law a zero h = none a None (open_above a)
+keys_above-law a (suc n) h =
+    let k = key_between-law a None h refl (open_above a) in
+    joined {xs = []} (suc n) (omega arith) k.key (none a (Some (key_between a None)) k.above) (keys_above-law (Some (key_between a None)) n k.key)
+
+keys_below-law : (b : Option (List ℕ)) (n : ℕ) → is_end b ≡ true → AreBetween None b n (keys_below b n)
+unfolding keys_below
+keys_below-law b zero h = none None b refl
+keys_below-law b (suc n) h =
+    let k = key_between-law None b refl h refl in
+    joined {ys = []} (suc n) (omega arith) k.key (keys_below-law (Some (key_between None b)) n k.key) (none (Some (key_between None b)) b k.below)
+
+keys_inside-law : (depth : ℕ) (a b : Option (List ℕ)) (n : ℕ) → n ≤ depth → is_end a ≡ true → is_end b ≡ true → ends_rise a b ≡ true → AreBetween a b n (keys_inside depth a b n)
+unfolding keys_inside
+keys_inside-law zero a b n most h l e = let none_left : 0 ≡ n = omega arith in subst (λ m. AreBetween a b m []) none_left (none a b e)
+keys_inside-law (suc depth) a b n most h l e =
+    let c = Some (key_between a b) in
+    let k = key_between-law a b h l e in
+    let upper = n - n / 2 - 1 in
+    cond_both (eqb n 0) [] (keys_inside depth a c (n / 2) ++ key_between a b ∷ keys_inside depth c b upper) (AreBetween a b n)
+    (λ t. subst (λ m. AreBetween a b m []) (sym (eqb-true n 0 t)) (none a b e))
+    (λ f.
+    let some : 0 < n = grind (arith, eqb-false n 0 f) in
+    joined n (omega arith) k.key
+    (keys_inside-law depth a c (n / 2) (omega arith) h k.key k.above)
+    (keys_inside-law depth c b upper (omega arith) k.key l k.below))
+
+pub keys_between-law : (a b : Option (List ℕ)) (n : ℕ) → is_end a ≡ true → is_end b ≡ true → ends_rise a b ≡ true → AreBetween a b n (keys_between a b n)
+keys_between-law a None n h l e = keys_above-law a n h
+keys_between-law None (Some b) n h l e = keys_below-law (Some b) n l
+keys_between-law (Some a) (Some b) n h l e = keys_inside-law n (Some a) (Some b) n (le_refl n) h l e
+
+-- the same of lists that are known to be those keys
+pub keys_between_are : (a b : Option (List ℕ)) (n : ℕ) → is_end a ≡ true → is_end b ≡ true → ends_rise a b ≡ true → (keys : List (List ℕ)) → keys ≡ keys_between a b n → AreBetween a b n keys
+keys_between_are a b n h l e keys are = subst (AreBetween a b n) (sym are) (keys_between-law a b n h l e)

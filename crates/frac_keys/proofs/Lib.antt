@@ -1,0 +1,12 @@
+pub mod Rows
+pub mod DigitLaws
+pub mod OrderLaws
+pub mod MidpointLaws
+pub mod IntegerLaws
+pub mod KeyLaws
+pub mod BetweenLaws
+pub mod KeysLaws
+pub mod PartLemmas
+pub mod MidpointLemmas
+pub mod IntegerLemmas
+pub mod KeysLemmas
