@@ -1,0 +1,84 @@
+-- The machine over the bytes from an offset on.
+use Rattle.std.proofs.Common.{◌≡◌, ℕ, zero, suc, ◌+◌, ◌-◌, ◌<◌, ◌≤◌, List, [], ◌∷◌, length, take, drop, get_or, Some, None, refl, sym, ap, subst, ◌∙◌, arith, length-drop}
+use Rattle.std.specs.Prelude.{slice_get}
+use Rattle.std.proofs.lemmas.List.{drop-drop, get_or-drop, drop_all}
+use Rattle.scene_json.specs.Value.{Stands}
+use Rattle.scene_json.specs.Faults.{IsFirstFault, IsFaultOf}
+use Rattle.scene_json.specs.declared.brackets.Bracket.{Bracket}
+use Rattle.scene_json.specs.declared.machine.Mode.{Mode}
+use Rattle.scene_json.specs.Machine.{Outcome, state, ended, refused, top, step, fault_of}
+use Rattle.scene_json.proofs.Machines.{run, start, run-append}
+use Rattle.scene_json.proofs.Ends.{take_one, ended_stands, ended_only, refused_faulty, done_stands, done_only, undone_faulty}
+use Rattle.scene_json.proofs.Places.{told}
+
+get_is : (xs : List ℕ) (n : ℕ) → n < length xs → slice_get xs n ≡ Some (get_or xs n 0)
+get_is [] n h = absurd (omega arith)
+get_is (x ∷ xs) zero h = refl
+get_is (x ∷ xs) (suc n) h = get_is xs n (omega arith)
+
+get_none : (xs : List ℕ) (n : ℕ) → length xs ≤ n → slice_get xs n ≡ None
+get_none [] n h = refl
+get_none (x ∷ xs) zero h = absurd (omega arith)
+get_none (x ∷ xs) (suc n) h = get_none xs n (omega arith)
+
+module _ (bytes : List ℕ) (at i : ℕ) (low : at ≤ i) where
+  got : i < length bytes → slice_get (drop at bytes) (i - at) ≡ Some (get_or bytes i 0)
+  got high =
+      let place : at + (i - at) ≡ i = omega arith in
+      get_is (drop at bytes) (i - at) (omega (arith, length-drop at bytes)) ∙ ap Some (get_or-drop at bytes (i - at) 0 ∙ ap (λ k. get_or bytes k 0) place)
+
+  behind : drop (i - at) (drop at bytes) ≡ drop i bytes
+  behind = let place : at + (i - at) ≡ i = omega arith in drop-drop (i - at) at bytes ∙ ap (λ k. drop k bytes) place
+
+  module _ (m : Mode) (st : List Bracket) (is : run 128 start (take (i - at) (drop at bytes)) ≡ state m st) where
+    pub read_on : (o : Outcome) → i < length bytes → step 128 m st (get_or bytes i 0) ≡ o → run 128 start (take (i + 1 - at) (drop at bytes)) ≡ o
+    read_on o high e =
+        let one : suc (i - at) ≡ i + 1 - at = omega arith in
+        ap (λ k. run 128 start (take k (drop at bytes))) (sym one) ∙ ap (run 128 start) (take_one (drop at bytes) (i - at) (get_or bytes i 0) (got high))
+        ∙ run-append 128 start (take (i - at) (drop at bytes)) (get_or bytes i 0 ∷ []) ∙ ap (λ o'. run 128 o' (get_or bytes i 0 ∷ [])) is ∙ e
+
+    -- the value ends before the byte at i
+    pub end_found : i < length bytes → step 128 m st (get_or bytes i 0) ≡ ended (get_or bytes i 0) → (text : List ℕ) × Stands (drop at bytes) text (drop i bytes)
+    end_found high e = subst (λ r. (text : List ℕ) × Stands (drop at bytes) text r) behind (ended_stands (drop at bytes) (i - at) m st is (get_or bytes i 0) (got high) e)
+
+    pub end_only : i < length bytes → step 128 m st (get_or bytes i 0) ≡ ended (get_or bytes i 0) → (text rest : List ℕ) → Stands (drop at bytes) text rest → rest ≡ drop i bytes
+    end_only high e text rest s = ended_only (drop at bytes) (i - at) m st is (get_or bytes i 0) (got high) e text rest s ∙ behind
+
+    -- the byte at i is refused
+    pub refused_fault : i < length bytes → step 128 m st (get_or bytes i 0) ≡ refused → IsFirstFault bytes at (fault_of m (top st) (Some (get_or bytes i 0)) i)
+    refused_fault high e =
+        let place : at + (i - at) ≡ i = omega arith in
+        record {
+          faulty = refused_faulty (drop at bytes) (i - at) m st is (get_or bytes i 0) (got high) e;
+          first = subst (λ k. IsFaultOf bytes at (fault_of m (top st) (Some (get_or bytes i 0)) k)) place
+              (told bytes at (i - at) (omega (arith, length-drop at bytes)) m st is (λ b g. subst (λ x. step 128 m st x ≡ refused) (same b g) e) (Some (get_or bytes i 0)) (got high));
+        }
+      where
+        same : (b : ℕ) → slice_get (drop at bytes) (i - at) ≡ Some b → get_or bytes i 0 ≡ b
+        same b g = let s : Some (get_or bytes i 0) ≡ Some b = sym (got high) ∙ g in cc
+
+    -- the bytes end
+    module _ (full : i ≡ length bytes) where
+      none : slice_get (drop at bytes) (i - at) ≡ None
+      none = get_none (drop at bytes) (i - at) (omega (arith, length-drop at bytes))
+
+      all : length (drop at bytes) ≤ i - at
+      all = omega (arith, length-drop at bytes)
+
+      nothing : [] ≡ drop (length bytes) bytes
+      nothing = sym (drop_all (length bytes) bytes (omega arith))
+
+      pub done_found : step 128 m st 32 ≡ ended 32 → (text : List ℕ) × Stands (drop at bytes) text (drop (length bytes) bytes)
+      done_found e = subst (λ r. (text : List ℕ) × Stands (drop at bytes) text r) nothing (done_stands (drop at bytes) (i - at) m st is all e)
+
+      pub finished_only : (text rest : List ℕ) → Stands (drop at bytes) text rest → rest ≡ drop (length bytes) bytes
+      finished_only text rest s = done_only (drop at bytes) (i - at) m st is all text rest s ∙ nothing
+
+      pub undone_fault : (step 128 m st 32 ≡ ended 32 → ⊥) → IsFirstFault bytes at (fault_of m (top st) None (length bytes))
+      undone_fault undone =
+          let place : at + (i - at) ≡ length bytes = omega arith in
+          record {
+            faulty = undone_faulty (drop at bytes) (i - at) m st is all undone;
+            first = subst (λ k. IsFaultOf bytes at (fault_of m (top st) None k)) place
+                (told bytes at (i - at) (omega (arith, length-drop at bytes)) m st is (λ b g. let s : None ≡ Some b = sym none ∙ g in cc) None none);
+          }

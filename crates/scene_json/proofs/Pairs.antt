@@ -1,0 +1,22 @@
+-- Members as pairs: what holds of the one holds of the other.
+use Rattle.std.proofs.Common.{◌≡◌, ◌≤◌, ℕ, List, [], ◌∷◌, refl, sym, ap, subst, map, All, IsUtf8, bytes_eq, take, length, take_all}
+use Rattle.std.proofs.lemmas.List.Elements.{recursion_from_All, All-map, All-same}
+use Rattle.std.specs.List.{IsDistinct}
+use Rattle.scene_json.specs.declared.text.Member.{Member}
+use Rattle.scene_json.specs.Compact.{Member as Pair}
+use Rattle.scene_json.specs.Members.{pairs, pair_of}
+use Rattle.scene_json.specs.Value.{IsCompact}
+use Rattle.scene_json.proofs.Collapsed.{names_of}
+use Rattle.scene_json.proofs.CompactLaws.{AreMembers}
+
+pub names-pairs : (ms : List Member) → names_of (pairs ms) ≡ map (λ m. m.name) ms
+names-pairs [] = refl
+names-pairs (m ∷ ms) = ap (λ rest. m.name ∷ rest) (names-pairs ms)
+
+pub pairs-AreMembers : (limit i : ℕ) (ms : List Member) → length (pairs ms) ≤ i → All (λ (m : Pair). IsUtf8 m.0) (take i (pairs ms)) →
+    IsDistinct bytes_eq (map (λ m. m.name) ms) → All (λ m. IsCompact limit m.value) ms → AreMembers limit (pairs ms)
+pairs-AreMembers limit i ms all named distinct valued = record {
+  named = recursion_from_All (λ (m : Pair). IsUtf8 m.0) (pairs ms) (All-same (λ (m : Pair). IsUtf8 m.0) (pairs ms) _ (sym (take_all i (pairs ms) all)) named);
+  valued = recursion_from_All (λ (m : Pair). IsCompact limit m.1) (pairs ms) (All-map (λ (m : Pair). IsCompact limit m.1) pair_of ms valued);
+  distinct = subst (IsDistinct bytes_eq) (sym (names-pairs ms)) distinct;
+}

@@ -1,0 +1,248 @@
+-- How a pass over a text lays it out.
+use Rattle.std.proofs.Common.{◌≡◌, ℕ, ◌+◌, ◌-◌, ◌<◌, ◌≤◌, List, [], ◌∷◌, ◌++◌, Bool, true, false, not, ◌&&◌, ◌==◌, eqb, if◌then◌else◌, length, take, flat_map, refl, sym, ap, ◌∙◌, append-nil, append_assoc, arith, inl, inr}
+use Rattle.std.specs.List.{list_all, AllByRecursion}
+use Rattle.std.proofs.lemmas.List.{length-append, take_at}
+use Rattle.std.proofs.lemmas.Bool.{and_parts, cond_both, cases_Bool, eqb-true}
+use Rattle.std.proofs.lemmas.Bool.Decides.{nat_tests}
+use Rattle.scene_json.specs.Characters.{is_space}
+use Rattle.scene_json.specs.Tree.{Piece, IsPiece, piece_spelling, string_spelling, Container, array, object, opening, closing, Label, unnamed, named, IsLabel, label_spelling, Tree, scalar, text, empty, filled, Values, last, next, spelling, values_spelling, IsGood, AreGood}
+use Rattle.scene_json.specs.Layout.{line, label_laid_out, laid_out, values_laid_out}
+use Rattle.scene_json.specs.Passes.{behind_string, is_opening, is_closing, spaces_from, put_before, put_behind}
+use Rattle.scene_json.proofs.Behind.{Place, outside, inside, string_front, front-behind, length-behind_string, pieces-front, pieces-behind}
+use Rattle.scene_json.proofs.Literals.{is_plain, literal-plain, literal-some}
+
+-- the layout of what a text has from here on
+abbrev pub layout : Place → Bool → ℕ → List ℕ → List ℕ
+layout place first spaces [] = []
+layout outside first spaces (b ∷ bs) =
+    (if is_space b then [] else put_before first spaces b ++ b ∷ put_behind (spaces_from first spaces b) b)
+    ++ layout (if b == 34 then inside false else outside) (if is_space b then first else is_opening b) (if is_space b then spaces else spaces_from first spaces b) bs
+layout (inside escaped) first spaces (b ∷ bs) =
+    b ∷ layout (if b == 34 && not escaped then outside else inside (b == 92 && not escaped)) first spaces bs
+
+-- a string is kept
+inside-string : (escaped first : Bool) (spaces : ℕ) (bs : List ℕ) → layout (inside escaped) first spaces bs ≡ string_front escaped bs ++ layout outside first spaces (behind_string escaped bs)
+inside-string escaped first spaces [] = refl
+inside-string escaped first spaces (b ∷ bs) = elim (cases_Bool (b == 34 && not escaped)) [
+  | inl e ↦ rw e refl
+  | inr e ↦ rw e (ap (λ x. b ∷ x) (inside-string (b == 92 && not escaped) first spaces bs))
+]
+
+-- white space is left out
+pub space-step : (first : Bool) (spaces b : ℕ) (bs : List ℕ) → is_space b ≡ true → layout outside first spaces (b ∷ bs) ≡ layout outside first spaces bs
+space-step first spaces b bs space =
+    let quote : eqb b 34 ≡ false = grind (arith, nat_tests) in
+    rw (space, quote) refl
+
+-- a byte that is no white space and begins no string
+pub byte-step : (first : Bool) (spaces b : ℕ) (bs : List ℕ) → is_space b ≡ false → eqb b 34 ≡ false → layout outside first spaces (b ∷ bs) ≡ put_before first spaces b ++ (b ∷ (put_behind (spaces_from first spaces b) b ++ layout outside (is_opening b) (spaces_from first spaces b) bs))
+byte-step first spaces b bs space quote =
+    rw (space, quote) (append_assoc (put_before first spaces b) (b ∷ put_behind (spaces_from first spaces b) b) _)
+
+pub quote-step : (first : Bool) (spaces : ℕ) (bs : List ℕ) → layout outside first spaces (34 ∷ bs) ≡ put_before first spaces 34 ++ (34 ∷ (string_front false bs ++ layout outside false (spaces_from first spaces 34) (behind_string false bs)))
+quote-step first spaces bs =
+    append_assoc (put_before first spaces 34) (34 ∷ []) (layout (inside false) false (spaces_from first spaces 34) bs)
+    ∙ ap (λ x. put_before first spaces 34 ++ (34 ∷ x)) (inside-string false false (spaces_from first spaces 34) bs)
+
+-- what the pass copies at once, a string or a byte, and what stands behind it
+abbrev pub token : ℕ → List ℕ → List ℕ
+token b bs = b ∷ (if b == 34 then string_front false bs else [])
+
+abbrev pub behind_token : ℕ → List ℕ → List ℕ
+behind_token b bs = if b == 34 then behind_string false bs else bs
+
+token-behind : (b : ℕ) (bs : List ℕ) → token b bs ++ behind_token b bs ≡ b ∷ bs
+token-behind b bs = elim (cases_Bool (eqb b 34)) [
+  | inl e ↦ rw e (ap (λ x. b ∷ x) (front-behind false bs))
+  | inr e ↦ rw e refl
+]
+
+pub length-behind_token : (b : ℕ) (bs : List ℕ) → length (behind_token b bs) ≤ length bs
+length-behind_token b bs = elim (cases_Bool (eqb b 34)) [
+  | inl e ↦ rw e (length-behind_string false bs)
+  | inr e ↦ rw e (omega arith)
+]
+
+token-step : (first : Bool) (spaces b : ℕ) (bs : List ℕ) → is_space b ≡ false → layout outside first spaces (b ∷ bs) ≡ put_before first spaces b ++ (token b bs ++ (put_behind (spaces_from first spaces b) b ++ layout outside (is_opening b) (spaces_from first spaces b) (behind_token b bs)))
+token-step first spaces b bs space = elim (cases_Bool (eqb b 34)) [
+  | inl e ↦ let same : b ≡ 34 = eqb-true b 34 e in rw same (quote-step first spaces bs)
+  | inr e ↦ byte-step first spaces b bs space e ∙ rw e refl
+]
+
+pub spaces_from-le : (first : Bool) (spaces b : ℕ) → spaces_from first spaces b ≤ spaces + 2
+spaces_from-le first spaces b =
+    cond_both (is_closing b) _ _ (λ (n : ℕ). n ≤ spaces + 2)
+    (λ _. cond_both first _ _ (λ (n : ℕ). n ≤ spaces + 2) (λ _. omega arith) (λ _. omega arith))
+    (λ _. cond_both first _ _ (λ (n : ℕ). n ≤ spaces + 2) (λ _. omega arith) (λ _. omega arith))
+
+regroup : (a b c d e : List ℕ) → (((a ++ b) ++ c) ++ d) ++ e ≡ a ++ (b ++ (c ++ (d ++ e)))
+regroup a b c d e = simp append_assoc
+
+regroup-last : (a b c d : List ℕ) → (a ++ (b ++ c)) ++ d ≡ a ++ (b ++ (c ++ d))
+regroup-last a b c d = simp append_assoc
+
+-- one turn of the loop that lays a text out, where a token stands
+pub turn : (first : Bool) (spaces now b : ℕ) (bs rest after was broken copied parted : List ℕ) → is_space b ≡ false → rest ≡ b ∷ bs → after ≡ behind_token b bs
+    → now ≡ spaces_from first spaces b → broken ≡ was ++ put_before first spaces b → copied ≡ broken ++ take (length rest - length after) rest → parted ≡ copied ++ put_behind now b
+    → parted ++ layout outside (is_opening b) now after ≡ was ++ layout outside first spaces rest
+turn first spaces now b bs rest after was broken copied parted space at left level breaks copies parts =
+    let whole : rest ≡ token b bs ++ after = at ∙ sym (token-behind b bs) ∙ ap (λ x. token b bs ++ x) (sym left) in
+    let long : length rest - length after ≡ length (token b bs) = omega (arith, ap length whole, length-append (token b bs) after) in
+    let cut : take (length rest - length after) rest ≡ token b bs = ap (λ n. take n rest) long ∙ ap (take (length (token b bs))) whole ∙ take_at (token b bs) after _ refl in
+    let written : parted ≡ ((was ++ put_before first spaces b) ++ token b bs) ++ put_behind now b = rw (parts, copies, breaks, cut) refl in
+    ap (λ x. x ++ layout outside (is_opening b) now after) written
+    ∙ regroup was (put_before first spaces b) (token b bs) (put_behind now b) (layout outside (is_opening b) now after)
+    ∙ rw (level, left, at) (ap (λ x. was ++ x) (sym (token-step first spaces b bs space)))
+
+plain-step : (spaces b : ℕ) (bs : List ℕ) → is_plain b ≡ true → layout outside false spaces (b ∷ bs) ≡ b ∷ layout outside false spaces bs
+plain-step spaces b bs plain =
+    let space : is_space b ≡ false = grind (arith, nat_tests) in
+    let quote : eqb b 34 ≡ false = grind (arith, nat_tests) in
+    let comma : eqb b 44 ≡ false = grind (arith, nat_tests) in
+    let colon : eqb b 58 ≡ false = grind (arith, nat_tests) in
+    let opens : is_opening b ≡ false = grind (arith, nat_tests) in
+    let closes : is_closing b ≡ false = grind (arith, nat_tests) in
+    rw (space, quote, closes, comma, colon, opens) refl
+
+plain-steps : (xs : List ℕ) (spaces : ℕ) (bs : List ℕ) → list_all is_plain xs ≡ true → layout outside false spaces (xs ++ bs) ≡ xs ++ layout outside false spaces bs
+plain-steps [] spaces bs h = refl
+plain-steps (x ∷ xs) spaces bs h =
+    let both = and_parts (is_plain x) (list_all is_plain xs) h in
+    plain-step spaces x (xs ++ bs) both.0 ∙ ap (λ y. x ∷ y) (plain-steps xs spaces bs both.1)
+
+blank-steps : (xs : List ℕ) (first : Bool) (spaces : ℕ) (bs : List ℕ) → list_all is_space xs ≡ true → layout outside first spaces (xs ++ bs) ≡ layout outside first spaces bs
+blank-steps [] first spaces bs h = refl
+blank-steps (x ∷ xs) first spaces bs h =
+    let both = and_parts (is_space x) (list_all is_space xs) h in
+    space-step first spaces x (xs ++ bs) both.0 ∙ blank-steps xs first spaces bs both.1
+
+string-steps : (ps : List Piece) (spaces : ℕ) (bs : List ℕ) → AllByRecursion IsPiece ps → layout outside false spaces (string_spelling ps ++ bs) ≡ string_spelling ps ++ layout outside false spaces bs
+string-steps ps spaces bs good =
+    ap (λ x. layout outside false spaces (34 ∷ x)) (append_assoc (flat_map piece_spelling ps) (34 ∷ []) bs)
+    ∙ quote-step false spaces (flat_map piece_spelling ps ++ 34 ∷ bs)
+    ∙ rw (pieces-front ps bs good, pieces-behind ps bs good) refl
+
+opening-step : (c : Container) (spaces : ℕ) (bs : List ℕ) → layout outside false spaces (opening c ∷ bs) ≡ opening c ∷ layout outside true spaces bs
+opening-step array spaces bs = refl
+opening-step object spaces bs = refl
+
+empty-step : (c : Container) (spaces : ℕ) (bs : List ℕ) → layout outside true spaces (closing c ∷ bs) ≡ closing c ∷ layout outside false spaces bs
+empty-step array spaces bs = refl
+empty-step object spaces bs = refl
+
+closing-step : (c : Container) (spaces : ℕ) (bs : List ℕ) → layout outside false (spaces + 2) (closing c ∷ bs) ≡ line spaces ++ (closing c ∷ layout outside false spaces bs)
+closing-step array spaces bs =
+    let back : spaces + 2 - 2 ≡ spaces = omega arith in
+    byte-step false (spaces + 2) 93 bs refl refl ∙ rw back refl
+closing-step object spaces bs =
+    let back : spaces + 2 - 2 ≡ spaces = omega arith in
+    byte-step false (spaces + 2) 125 bs refl refl ∙ rw back refl
+
+comma-step : (spaces : ℕ) (bs : List ℕ) → layout outside false spaces (44 ∷ bs) ≡ 44 ∷ (line spaces ++ layout outside false spaces bs)
+comma-step spaces bs = byte-step false spaces 44 bs refl refl
+
+colon-step : (spaces : ℕ) (bs : List ℕ) → layout outside false spaces (58 ∷ bs) ≡ 58 ∷ 32 ∷ layout outside false spaces bs
+colon-step spaces bs = byte-step false spaces 58 bs refl refl
+
+-- a label on its line
+label-steps : (c : Container) (l : Label) (spaces : ℕ) (bs : List ℕ) → IsLabel c l → line spaces ++ layout outside false spaces (label_spelling l ++ bs) ≡ label_spelling (label_laid_out spaces l) ++ layout outside false spaces bs
+label-steps array (unnamed before) spaces bs good = ap (λ x. line spaces ++ x) (blank-steps before false spaces bs good)
+label-steps array (named before name between after) spaces bs good = absurd good
+label-steps object (unnamed before) spaces bs good = absurd good
+label-steps object (named before name between after) spaces bs good =
+    let e : (before ++ (string_spelling name ++ (between ++ 58 ∷ after))) ++ bs ≡ before ++ (string_spelling name ++ (between ++ 58 ∷ (after ++ bs))) = simp append_assoc in
+    let passed : layout outside false spaces ((before ++ (string_spelling name ++ (between ++ 58 ∷ after))) ++ bs) ≡ string_spelling name ++ (58 ∷ 32 ∷ layout outside false spaces bs) =
+    ap (layout outside false spaces) e
+    ∙ blank-steps before false spaces (string_spelling name ++ (between ++ 58 ∷ (after ++ bs))) good.0
+    ∙ string-steps name spaces (between ++ 58 ∷ (after ++ bs)) good.1
+    ∙ ap (λ x. string_spelling name ++ x) (blank-steps between false spaces (58 ∷ (after ++ bs)) good.2 ∙ colon-step spaces (after ++ bs) ∙ ap (λ x. 58 ∷ 32 ∷ x) (blank-steps after false spaces bs good.3)) in
+    ap (λ x. line spaces ++ x) passed
+    ∙ sym (regroup-last (line spaces) (string_spelling name) (58 ∷ 32 ∷ []) (layout outside false spaces bs))
+
+-- what begins with a byte that is no white space and closes nothing
+record Heads (bs : List ℕ) : Type 0 where
+  head : ℕ
+  more : List ℕ
+  parts : bs ≡ head ∷ more
+  solid : is_space head ≡ false
+  closes : is_closing head ≡ false
+
+plain-heads : (s : List ℕ) → 0 < length s → list_all is_plain s ≡ true → Heads s
+plain-heads [] some plain = absurd (omega arith)
+plain-heads (b ∷ bs) some plain =
+    let first = (and_parts (is_plain b) (list_all is_plain bs) plain).0 in
+    record { head = b; more = bs; parts = refl; solid = grind (arith, nat_tests); closes = grind (arith, nat_tests) }
+
+opening-heads : (c : Container) (bs : List ℕ) → Heads (opening c ∷ bs)
+opening-heads array bs = record { head = 91; more = bs; parts = refl; solid = refl; closes = refl }
+opening-heads object bs = record { head = 123; more = bs; parts = refl; solid = refl; closes = refl }
+
+string-heads : (ps : List Piece) → Heads (string_spelling ps)
+string-heads ps = record { head = 34; more = flat_map piece_spelling ps ++ 34 ∷ []; parts = refl; solid = refl; closes = refl }
+
+tree-heads : (t : Tree) → IsGood t → Heads (spelling t)
+tree-heads (scalar literal) good = plain-heads literal (literal-some literal good) (literal-plain literal good)
+tree-heads (text pieces) good = string-heads pieces
+tree-heads (empty c blank) good = opening-heads c (blank ++ closing c ∷ [])
+tree-heads (filled c values) good = opening-heads c (values_spelling values ++ closing c ∷ [])
+
+-- behind an opening bracket a line begins there
+first-step : (spaces b : ℕ) (bs : List ℕ) → is_space b ≡ false → is_closing b ≡ false → layout outside true spaces (b ∷ bs) ≡ line (spaces + 2) ++ layout outside false (spaces + 2) (b ∷ bs)
+first-step spaces b bs solid closes = rw (solid, closes) (append_assoc (line (spaces + 2)) _ _)
+
+first-line : (blank xs : List ℕ) (spaces : ℕ) (bs : List ℕ) → list_all is_space blank ≡ true → Heads xs → layout outside true spaces (blank ++ (xs ++ bs)) ≡ line (spaces + 2) ++ layout outside false (spaces + 2) (blank ++ (xs ++ bs))
+first-line blank xs spaces bs space h =
+    let e : xs ++ bs ≡ h.head ∷ (h.more ++ bs) = ap (λ x. x ++ bs) h.parts in
+    blank-steps blank true spaces (xs ++ bs) space
+    ∙ ap (layout outside true spaces) e
+    ∙ first-step spaces h.head (h.more ++ bs) h.solid h.closes
+    ∙ ap (λ x. line (spaces + 2) ++ x) (sym (blank-steps blank false (spaces + 2) (xs ++ bs) space ∙ ap (layout outside false (spaces + 2)) e))
+
+label-line : (c : Container) (l : Label) (t : Tree) (spaces : ℕ) (bs : List ℕ) → IsLabel c l → IsGood t → layout outside true spaces (label_spelling l ++ (spelling t ++ bs)) ≡ line (spaces + 2) ++ layout outside false (spaces + 2) (label_spelling l ++ (spelling t ++ bs))
+label-line array (unnamed before) t spaces bs label good = first-line before (spelling t) spaces bs label (tree-heads t good)
+label-line array (named before name between after) t spaces bs label good = absurd label
+label-line object (unnamed before) t spaces bs label good = absurd label
+label-line object (named before name between after) t spaces bs label good =
+    let e : (before ++ (string_spelling name ++ (between ++ 58 ∷ after))) ++ (spelling t ++ bs) ≡ before ++ (string_spelling name ++ ((between ++ 58 ∷ after) ++ (spelling t ++ bs))) =
+    regroup-last before (string_spelling name) (between ++ 58 ∷ after) (spelling t ++ bs) in
+    rw e (first-line before (string_spelling name) spaces ((between ++ 58 ∷ after) ++ (spelling t ++ bs)) label.0 (string-heads name))
+
+values-line : (c : Container) (vs : Values) (spaces : ℕ) (bs : List ℕ) → AreGood c vs → layout outside true spaces (values_spelling vs ++ bs) ≡ line (spaces + 2) ++ layout outside false (spaces + 2) (values_spelling vs ++ bs)
+values-line c (last label value blank) spaces bs good =
+    let e = regroup-last (label_spelling label) (spelling value) blank bs in
+    rw e (label-line c label value spaces (blank ++ bs) good.0 good.1)
+values-line c (next label value blank values) spaces bs good =
+    let e = regroup-last (label_spelling label) (spelling value) (blank ++ 44 ∷ values_spelling values) bs in
+    rw e (label-line c label value spaces ((blank ++ 44 ∷ values_spelling values) ++ bs) good.0 good.1)
+
+-- the pass lays out a value, and what follows as if it stood alone
+mutual
+  tree-steps : (t : Tree) (spaces : ℕ) (bs : List ℕ) → IsGood t → layout outside false spaces (spelling t ++ bs) ≡ spelling (laid_out spaces t) ++ layout outside false spaces bs
+  tree-steps (scalar literal) spaces bs good = plain-steps literal spaces bs (literal-plain literal good)
+  tree-steps (text pieces) spaces bs good = string-steps pieces spaces bs good
+  tree-steps (empty c blank) spaces bs good =
+      opening-step c spaces ((blank ++ closing c ∷ []) ++ bs)
+      ∙ ap (λ x. opening c ∷ x) (ap (layout outside true spaces) (append_assoc blank (closing c ∷ []) bs) ∙ blank-steps blank true spaces (closing c ∷ bs) good ∙ empty-step c spaces bs)
+  tree-steps (filled c values) spaces bs good =
+      opening-step c spaces ((values_spelling values ++ closing c ∷ []) ++ bs)
+      ∙ ap (λ x. opening c ∷ x) (ap (layout outside true spaces) (append_assoc (values_spelling values) (closing c ∷ []) bs) ∙ values-line c values spaces (closing c ∷ bs) good ∙ values-steps c values spaces bs good
+      ∙ sym (append_assoc (values_spelling (values_laid_out spaces values)) (closing c ∷ []) (layout outside false spaces bs)))
+
+  values-steps : (c : Container) (vs : Values) (spaces : ℕ) (bs : List ℕ) → AreGood c vs → line (spaces + 2) ++ layout outside false (spaces + 2) (values_spelling vs ++ closing c ∷ bs) ≡ values_spelling (values_laid_out spaces vs) ++ closing c ∷ layout outside false spaces bs
+  values-steps c (last label value blank) spaces bs good =
+      ap (λ x. line (spaces + 2) ++ layout outside false (spaces + 2) x) (regroup-last (label_spelling label) (spelling value) blank (closing c ∷ bs))
+      ∙ label-steps c label (spaces + 2) (spelling value ++ (blank ++ closing c ∷ bs)) good.0
+      ∙ ap (λ x. label_spelling (label_laid_out (spaces + 2) label) ++ x) (tree-steps value (spaces + 2) (blank ++ closing c ∷ bs) good.1
+      ∙ ap (λ x. spelling (laid_out (spaces + 2) value) ++ x) (blank-steps blank false (spaces + 2) (closing c ∷ bs) good.2 ∙ closing-step c spaces bs))
+      ∙ sym (regroup-last (label_spelling (label_laid_out (spaces + 2) label)) (spelling (laid_out (spaces + 2) value)) (line spaces) (closing c ∷ layout outside false spaces bs))
+  values-steps c (next label value blank values) spaces bs good =
+      ap (λ x. line (spaces + 2) ++ layout outside false (spaces + 2) x) (regroup-last (label_spelling label) (spelling value) (blank ++ 44 ∷ values_spelling values) (closing c ∷ bs))
+      ∙ label-steps c label (spaces + 2) (spelling value ++ ((blank ++ 44 ∷ values_spelling values) ++ closing c ∷ bs)) good.0
+      ∙ ap (λ x. label_spelling (label_laid_out (spaces + 2) label) ++ x) (tree-steps value (spaces + 2) ((blank ++ 44 ∷ values_spelling values) ++ closing c ∷ bs) good.1
+      ∙ ap (λ x. spelling (laid_out (spaces + 2) value) ++ x) (ap (layout outside false (spaces + 2)) (append_assoc blank (44 ∷ values_spelling values) (closing c ∷ bs)) ∙ blank-steps blank false (spaces + 2) (44 ∷ (values_spelling values ++ closing c ∷ bs)) good.2
+      ∙ comma-step (spaces + 2) (values_spelling values ++ closing c ∷ bs) ∙ ap (λ x. 44 ∷ x) (values-steps c values spaces bs good.3)))
+      ∙ sym (regroup-last (label_spelling (label_laid_out (spaces + 2) label)) (spelling (laid_out (spaces + 2) value)) (44 ∷ values_spelling (values_laid_out spaces values)) (closing c ∷ layout outside false spaces bs))
+
+pub layout-tree : (t : Tree) → IsGood t → layout outside false 0 (spelling t) ≡ spelling (laid_out 0 t)
+layout-tree t good =
+    ap (layout outside false 0) (sym (append-nil (spelling t))) ∙ tree-steps t 0 [] good ∙ append-nil (spelling (laid_out 0 t))

@@ -1,0 +1,407 @@
+-- The turns of the loops that go over the values of an array and of an object, and the ends of literals.
+use Rattle.std.proofs.Common.{◌≡◌, ◌<◌, ◌≤◌, ℕ, suc, ◌+◌, ◌-◌, List, [], ◌∷◌, ◌++◌, true, false, ◌==◌, if◌then◌else◌, refl, sym, ap, ap₂, ◌∙◌, subst, arith, length, get_or, take, drop, map, append_assoc, drop-drop, get_or-drop, add-zero, ◌⊎◌, inl, inr, ⊎_elim, drop_at, take_at, length-drop, length-append, le_trans, bytes_eq}
+use Rattle.std.proofs.lemmas.Bool.{both_ways}
+use Rattle.std.specs.List.{AllByRecursion, prefix_len, join_with_byte}
+use Rattle.indexmap.specs.IndexMap.{insert_entry}
+use Rattle.scene_json.specs.Characters.{is_space, is_blank}
+use Rattle.scene_json.specs.Tree.{Piece, IsPiece, Container, array, object, opening, closing, Label, unnamed, named, label_spelling, Tree, Values, last, next, IsNumber, IsWord, IsGood, IsLabel, spelling, values_spelling, string_spelling, depth}
+use Rattle.scene_json.specs.Compact.{Member, content, compact, members, collapsed, label_name, member_text, container_text, array_text, object_text}
+use Rattle.scene_json.specs.Value.{Stands, Follows, extends_number}
+use Rattle.scene_json.specs.Walk.{Quoted, Literal, Filled, AppendsValue, items_text}
+use Rattle.scene_json.proofs.Collapsed.{collapsed-push}
+use Rattle.scene_json.proofs.Contents.{drop-after, inside-after}
+use Rattle.scene_json.proofs.Escapes.{prefix-run}
+use Rattle.scene_json.proofs.Reading.{tree-Head, begins_value, closing-no-value, scalar-Head, begins_number, number-Head, number-extends, Follows-Stops, closing-no-space, closing-ends, regroup-last, regroup-next, Follows-blank}
+use Rattle.scene_json.proofs.Walks.{At, At-Stands, At-Container, EmptyAt, FilledAt, first-empty, first-filled, skip-to, stands-At, stands-skip, stops-none}
+
+-- literals
+number-first : (s rest : List ℕ) (b : ℕ) → IsNumber s → get_or (s ++ rest) 0 0 ≡ b → begins_number b ≡ false → ⊥
+number-first s rest b good first fails =
+    let h = number-Head s good in
+    let same : h.first ≡ b = sym (ap (λ x. get_or (x ++ rest) 0 0) h.parts) ∙ first in
+    both_ways (begins_number b) fails (rw (← same) h.begins)
+
+abbrev word_length : ℕ → ℕ
+word_length b = if b == 102 then 5 else 4
+
+word-at : (s rest : List ℕ) (b : ℕ) → IsNumber s ⊎ IsWord s → get_or (s ++ rest) 0 0 ≡ b → begins_number b ≡ false → length s ≡ word_length b
+word-at s rest b (inl n) first fails = absurd (number-first s rest b n first fails)
+word-at s rest b (inr (inl e)) first fails = subst (λ x. length s ≡ word_length x) (sym (ap (λ x. get_or (x ++ rest) 0 0) e) ∙ first) (ap length e)
+word-at s rest b (inr (inr (inl e))) first fails = subst (λ x. length s ≡ word_length x) (sym (ap (λ x. get_or (x ++ rest) 0 0) e) ∙ first) (ap length e)
+word-at s rest b (inr (inr (inr e))) first fails = subst (λ x. length s ≡ word_length x) (sym (ap (λ x. get_or (x ++ rest) 0 0) e) ∙ first) (ap length e)
+
+pub literal-word : {xs text rest : List ℕ} (b : ℕ) → Literal xs text rest → get_or xs 0 0 ≡ b → begins_number b ≡ false → length text ≡ word_length b
+literal-word {xs} {text} {rest} b l first fails = word-at text rest b l.good (sym (ap (λ x. get_or x 0 0) l.parts) ∙ first) fails
+
+number-at : (s rest : List ℕ) → IsNumber s ⊎ IsWord s → Follows s rest → (get_or (s ++ rest) 0 0 ≡ 110 → ⊥) → (get_or (s ++ rest) 0 0 ≡ 116 → ⊥) → (get_or (s ++ rest) 0 0 ≡ 102 → ⊥) →
+    length s ≡ prefix_len extends_number (s ++ rest)
+number-at s rest (inl n) ends a b c =
+    sym (prefix-run extends_number s rest (number-extends s n) ∙ ap (λ k. length s + k) (stops-none extends_number rest (Follows-Stops s rest n ends)) ∙ add-zero (length s))
+number-at s rest (inr (inl e)) ends a b c = absurd (a (ap (λ x. get_or (x ++ rest) 0 0) e))
+number-at s rest (inr (inr (inl e))) ends a b c = absurd (b (ap (λ x. get_or (x ++ rest) 0 0) e))
+number-at s rest (inr (inr (inr e))) ends a b c = absurd (c (ap (λ x. get_or (x ++ rest) 0 0) e))
+
+pub literal-number : {xs text rest : List ℕ} → Literal xs text rest → (get_or xs 0 0 ≡ 110 → ⊥) → (get_or xs 0 0 ≡ 116 → ⊥) → (get_or xs 0 0 ≡ 102 → ⊥) →
+    length text ≡ prefix_len extends_number xs
+literal-number {xs} {text} {rest} l a b c =
+    let first = λ (k : ℕ) (no : get_or xs 0 0 ≡ k → ⊥) (e : get_or (text ++ rest) 0 0 ≡ k). no (ap (λ x. get_or x 0 0) l.parts ∙ e) in
+    number-at text rest l.good l.ends (first 110 a) (first 116 b) (first 102 c) ∙ ap (prefix_len extends_number) (sym l.parts)
+
+pub literal-taken : (bytes : List ℕ) (at end : ℕ) {text rest : List ℕ} → Literal (drop at bytes) text rest → end ≡ at + length text →
+    (take (end - at) (drop at bytes) ≡ text) × (drop end bytes ≡ rest)
+literal-taken bytes at end {text} {rest} l e =
+    let span : end - at ≡ length text = omega (arith, e) in (
+      rw (span, l.parts) (take_at text rest (length text) refl),
+      rw e (sym (drop-drop (length text) at bytes) ∙ ap (drop (length text)) l.parts ∙ drop_at text rest (length text) refl),
+    )
+
+-- the first of the values of a container: its label, its value, the white space behind it and the byte there
+pub record Turn (c : Container) (xs : List ℕ) (left : Values) (rest : List ℕ) : Type 0 where
+  pub label : Label
+  pub value : Tree
+  pub blank : List ℕ
+  pub mark : ℕ
+  pub tail : List ℕ
+  pub labelled : IsLabel c label
+  pub good : IsGood value
+  pub shallow : depth value ≤ 128
+  pub space : is_blank blank ≡ true
+  pub solid : is_space mark ≡ false
+  pub ends : extends_number mark ≡ false
+  pub parts : xs ≡ label_spelling label ++ (spelling value ++ (blank ++ mark ∷ tail))
+  pub goes : ((mark ≡ closing c) × (tail ≡ rest) × (members left ≡ (label_name label, compact value) ∷ []))
+      ⊎ ((mark ≡ 44) × ((others : Values) × Filled c tail others rest × (members left ≡ (label_name label, compact value) ∷ members others)))
+
+pub turn : (c : Container) (xs : List ℕ) (left : Values) (rest : List ℕ) → Filled c xs left rest → Turn c xs left rest
+turn c xs (last l v blank) rest f = record {
+  label = l;
+  value = v;
+  blank = blank;
+  mark = closing c;
+  tail = rest;
+  labelled = f.good.0;
+  good = f.good.1;
+  shallow = le_trans f.shallow (omega arith);
+  space = f.good.2;
+  solid = closing-no-space c;
+  ends = closing-ends c;
+  parts = f.parts ∙ regroup-last (label_spelling l) (spelling v) blank (closing c ∷ rest);
+  goes = inl (refl, refl, refl);
+}
+turn c xs (next l v blank vs) rest f = record {
+  label = l;
+  value = v;
+  blank = blank;
+  mark = 44;
+  tail = values_spelling vs ++ closing c ∷ rest;
+  labelled = f.good.0;
+  good = f.good.1;
+  shallow = omega (arith, f.shallow);
+  space = f.good.2;
+  solid = refl;
+  ends = refl;
+  parts = f.parts ∙ regroup-next (label_spelling l) (spelling v) blank (values_spelling vs) (closing c ∷ rest);
+  goes = inr (refl, (vs, record { good = f.good.3; shallow = omega (arith, f.shallow); parts = refl }, refl));
+}
+
+-- a value behind white space, up to the byte that comes behind it
+value-stands : (blank : List ℕ) (v : Tree) (between : List ℕ) (mark : ℕ) (tail : List ℕ) → is_blank blank ≡ true → IsGood v → depth v ≤ 128 → is_blank between ≡ true →
+    extends_number mark ≡ false → Stands (blank ++ (spelling v ++ (between ++ mark ∷ tail))) (compact v) (between ++ mark ∷ tail)
+value-stands blank v between mark tail space good shallow spaced ends = record {
+  blank = blank;
+  value = spelling v;
+  parts = refl;
+  space = space;
+  is = record { tree = v; good = good; shallow = shallow; spells = refl; means = refl };
+  ends = Follows-blank (spelling v) between tail mark spaced ends;
+}
+
+-- an item
+item-blank : (l : Label) → IsLabel array l → is_blank (label_spelling l) ≡ true
+item-blank (unnamed before) h = h
+item-blank (named _ _ _ _) h = absurd h
+
+pub item-Stands : {xs rest : List ℕ} {left : Values} → (t : Turn array xs left rest) → Stands xs (compact t.value) (t.blank ++ t.mark ∷ t.tail)
+item-Stands {xs} {rest} {left} t = subst (λ s. Stands s (compact t.value) (t.blank ++ t.mark ∷ t.tail)) (sym t.parts)
+    (value-stands (label_spelling t.label) t.value t.blank t.mark t.tail (item-blank t.label t.labelled) t.good t.shallow t.space t.ends)
+
+-- the byte behind a value
+pub mark-at : (bytes : List ℕ) (end place : ℕ) (blank : List ℕ) (mark : ℕ) (tail : List ℕ) → is_blank blank ≡ true → is_space mark ≡ false → drop end bytes ≡ blank ++ mark ∷ tail →
+    place ≡ end + prefix_len is_space (drop end bytes) → drop place bytes ≡ mark ∷ tail
+mark-at bytes end place blank mark tail space solid e is = skip-to bytes end place blank (mark ∷ tail) space solid e is
+
+pub byte-at : (bytes : List ℕ) (at : ℕ) {b : ℕ} {rest : List ℕ} → drop at bytes ≡ b ∷ rest → get_or bytes at 0 ≡ b
+byte-at bytes at {b} {rest} e = ap (λ k. get_or bytes k 0) (sym (add-zero at)) ∙ sym (get_or-drop at bytes 0 0) ∙ ap (λ s. get_or s 0 0) e
+
+-- the loop over items
+abbrev items_of : List Member → List ℕ
+items_of ms = join_with_byte 44 (map (λ (member : Member). member.1) ms) ++ 93 ∷ []
+
+items-more : (name text : List ℕ) (vs : Values) → items_of ((name, text) ∷ members vs) ≡ text ++ 44 ∷ items_of (members vs)
+items-more name text (last l v blank) = append_assoc text (44 ∷ compact v) (93 ∷ [])
+items-more name text (next l v blank vs) = append_assoc text (44 ∷ join_with_byte 44 (compact v ∷ map (λ (member : Member). member.1) (members vs))) (93 ∷ [])
+
+pub record Items (bytes : List ℕ) (at place : ℕ) (before out : List ℕ) : Type 0 where
+  pub begun : at ≤ place
+  pub within : place ≤ length bytes
+  pub split : (vs : Values) (rest : List ℕ) → Filled array (drop at bytes) vs rest →
+      (left : Values) × Filled array (drop place bytes) left rest × (out ++ items_text left ≡ before ++ items_text vs)
+
+abbrev pub Taken : List ℕ → ℕ → List ℕ → List ℕ → Values → List ℕ → Type 0
+Taken bytes mark before out vs rest =
+    ((get_or bytes mark 0 ≡ 93) × (out ≡ before ++ items_text vs) × (drop (mark + 1) bytes ≡ rest))
+    ⊎ ((get_or bytes mark 0 ≡ 44) × ((left : Values) × Filled array (drop (mark + 1) bytes) left rest × (out ++ items_text left ≡ before ++ items_text vs)))
+
+items-last : (out v done name : List ℕ) (left : Values) → members left ≡ (name, v) ∷ [] → done ≡ (out ++ v) ++ 93 ∷ [] → done ≡ out ++ items_text left
+items-last out v done name left ms e = e ∙ append_assoc out v (93 ∷ []) ∙ ap (λ m. out ++ items_of m) (sym ms)
+
+items-next : (out v done name : List ℕ) (left vs : Values) → members left ≡ (name, v) ∷ members vs → done ≡ (out ++ v) ++ 44 ∷ [] → done ++ items_text vs ≡ out ++ items_text left
+items-next out v done name left vs ms e =
+    ap (λ d. d ++ items_text vs) e ∙ append_assoc (out ++ v) (44 ∷ []) (items_text vs) ∙ append_assoc out v (44 ∷ items_text vs)
+    ∙ ap (λ s. out ++ s) (sym (items-more name v vs)) ∙ ap (λ m. out ++ items_of m) (sym ms)
+
+pub items-turn : (bytes : List ℕ) (at place end mark : ℕ) (before out more done : List ℕ) → Items bytes at place before out → AppendsValue bytes place end out more →
+    mark ≡ end + prefix_len is_space (drop end bytes) → done ≡ more ++ get_or bytes mark 0 ∷ [] →
+    (vs : Values) (rest : List ℕ) → Filled array (drop at bytes) vs rest → (mark < length bytes) × Taken bytes mark before done vs rest
+items-turn bytes at place end mark before out more done loop appends is pushed vs rest f =
+    let s = loop.split vs rest f in
+    let t = turn array (drop place bytes) s.0 rest s.1 in
+    let a = appends (compact t.value) (t.blank ++ t.mark ∷ t.tail) (item-Stands t) in
+    let m = mark-at bytes end mark t.blank t.mark t.tail t.space t.solid a.1 is in
+    let byte = byte-at bytes mark m in
+    let wrote : (k : ℕ) → t.mark ≡ k → done ≡ (out ++ compact t.value) ++ k ∷ [] = λ k e. pushed ∙ ap₂ (λ x b. x ++ b ∷ []) a.0 (byte ∙ e) in
+    let after = drop-after bytes mark m in (
+      inside-after bytes mark m,
+      ⊎_elim
+          (λ g. inl (byte ∙ g.0, items-last out (compact t.value) done (label_name t.label) s.0 g.2 (wrote 93 g.0) ∙ s.2, after ∙ g.1))
+          (λ g. inr (
+            byte ∙ g.0,
+            (
+              g.1.0,
+              subst (λ x. Filled array x g.1.0 rest) (sym after) g.1.1,
+              items-next out (compact t.value) done (label_name t.label) s.0 g.1.0 g.1.2 (wrote 44 g.0) ∙ s.2,
+            ),
+          ))
+          t.goes,
+    )
+
+-- a member
+pub record Field (xs : List ℕ) (left : Values) (rest : List ℕ) : Type 0 where
+  pub before : List ℕ
+  pub name : List Piece
+  pub between : List ℕ
+  pub after : List ℕ
+  pub value : Tree
+  pub blank : List ℕ
+  pub mark : ℕ
+  pub tail : List ℕ
+  pub leads : is_blank before ≡ true
+  pub named : AllByRecursion IsPiece name
+  pub parted : is_blank between ≡ true
+  pub follows : is_blank after ≡ true
+  pub good : IsGood value
+  pub shallow : depth value ≤ 128
+  pub space : is_blank blank ≡ true
+  pub solid : is_space mark ≡ false
+  pub ends : extends_number mark ≡ false
+  pub parts : xs ≡ before ++ (string_spelling name ++ (between ++ 58 ∷ (after ++ (spelling value ++ (blank ++ mark ∷ tail)))))
+  pub goes : ((mark ≡ 125) × (tail ≡ rest) × (members left ≡ (content name, compact value) ∷ []))
+      ⊎ ((mark ≡ 44) × ((others : Values) × Filled object tail others rest × (members left ≡ (content name, compact value) ∷ members others)))
+
+unlabel : (before : List ℕ) (name : List Piece) (between after rest : List ℕ) → label_spelling (named before name between after) ++ rest ≡
+    before ++ (string_spelling name ++ (between ++ 58 ∷ (after ++ rest)))
+unlabel before name between after rest = simp append_assoc
+
+field-of : {xs rest : List ℕ} {left : Values} (l : Label) → IsLabel object l → (t : Turn object xs left rest) → t.label ≡ l → Field xs left rest
+field-of (unnamed before) h t e = absurd h
+field-of {xs} {rest} {left} (named before name between after) h t e = record {
+  before = before;
+  name = name;
+  between = between;
+  after = after;
+  value = t.value;
+  blank = t.blank;
+  mark = t.mark;
+  tail = t.tail;
+  leads = h.0;
+  named = h.1;
+  parted = h.2;
+  follows = h.3;
+  good = t.good;
+  shallow = t.shallow;
+  space = t.space;
+  solid = t.solid;
+  ends = t.ends;
+  parts = t.parts ∙ ap (λ l. label_spelling l ++ (spelling t.value ++ (t.blank ++ t.mark ∷ t.tail))) e
+      ∙ unlabel before name between after (spelling t.value ++ (t.blank ++ t.mark ∷ t.tail));
+  goes = ⊎_elim
+      (λ g. inl (g.0, g.1, g.2 ∙ ap (λ l. (label_name l, compact t.value) ∷ []) e))
+      (λ g. inr (g.0, (g.1.0, g.1.1, g.1.2 ∙ ap (λ l. (label_name l, compact t.value) ∷ members g.1.0) e)))
+      t.goes;
+}
+
+pub field : {xs rest : List ℕ} {left : Values} → Filled object xs left rest → Field xs left rest
+field {xs} {rest} {left} f = let t = turn object xs left rest f in field-of t.label t.labelled t refl
+
+-- the loop over members
+pub record Members (bytes : List ℕ) (at place : ℕ) (entries : List Member) : Type 0 where
+  pub begun : at ≤ place
+  pub within : place ≤ length bytes
+  pub split : (vs : Values) (rest : List ℕ) → Filled object (drop at bytes) vs rest →
+      (left : Values) × (done : List Member) × Filled object (drop place bytes) left rest × (members vs ≡ done ++ members left) × (entries ≡ collapsed done)
+
+-- what `content_of` finds
+abbrev pub Names : List ℕ → ℕ → List ℕ → ℕ → Type 0
+Names bytes at name colon = (text rest : List ℕ) → Quoted (drop at bytes) text rest → (name ≡ text) × (drop colon bytes ≡ rest)
+
+-- what follows the name, and what follows the colon
+abbrev value_part : {xs rest : List ℕ} {left : Values} → Field xs left rest → List ℕ
+value_part f = f.after ++ (spelling f.value ++ (f.blank ++ f.mark ∷ f.tail))
+
+field-quoted : (bytes : List ℕ) (place start : ℕ) {left : Values} {rest : List ℕ} (f : Field (drop place bytes) left rest) → start ≡ place + prefix_len is_space (drop place bytes) →
+    Quoted (drop start bytes) (content f.name) (f.between ++ 58 ∷ value_part f)
+field-quoted bytes place start f is = record {
+  pieces = f.name;
+  good = f.named;
+  parts = skip-to bytes place start f.before (string_spelling f.name ++ (f.between ++ 58 ∷ value_part f)) f.leads refl f.parts is;
+  means = refl;
+}
+
+field-colon : (bytes : List ℕ) (place start colon sign : ℕ) (name : List ℕ) {left : Values} {rest : List ℕ} (f : Field (drop place bytes) left rest) → start ≡ place + prefix_len is_space (drop place bytes) →
+    Names bytes start name colon → sign ≡ colon + prefix_len is_space (drop colon bytes) → (name ≡ content f.name) × (drop sign bytes ≡ 58 ∷ value_part f)
+field-colon bytes place start colon sign name f is names signed =
+    let n = names _ _ (field-quoted bytes place start f is) in
+    (n.0, skip-to bytes colon sign f.between (58 ∷ value_part f) f.parted refl n.1 signed)
+
+field-value : (bytes : List ℕ) (sign : ℕ) {xs : List ℕ} {left : Values} {rest : List ℕ} (f : Field xs left rest) → drop sign bytes ≡ 58 ∷ value_part f →
+    Stands (drop (sign + 1) bytes) (compact f.value) (f.blank ++ f.mark ∷ f.tail)
+field-value bytes sign f e = subst (λ s. Stands s (compact f.value) (f.blank ++ f.mark ∷ f.tail)) (sym (drop-after bytes sign e))
+    (value-stands f.after f.value f.blank f.mark f.tail f.follows f.good f.shallow f.space f.ends)
+
+pub members-name : (bytes : List ℕ) (at place start : ℕ) {entries : List Member} {vs : Values} {rest : List ℕ} → Members bytes at place entries → Filled object (drop at bytes) vs rest →
+    start ≡ place + prefix_len is_space (drop place bytes) → (text after : List ℕ) × Quoted (drop start bytes) text after
+members-name bytes at place start {entries} {vs} {rest} loop f is = let g = field (loop.split vs rest f).2 in (content g.name, g.between ++ 58 ∷ value_part g, field-quoted bytes place start g is)
+
+pub members-value : (bytes : List ℕ) (at place start colon sign : ℕ) (name : List ℕ) {entries : List Member} {vs : Values} {rest : List ℕ} → Members bytes at place entries → Filled object (drop at bytes) vs rest →
+    start ≡ place + prefix_len is_space (drop place bytes) → Names bytes start name colon → sign ≡ colon + prefix_len is_space (drop colon bytes) →
+    (sign < length bytes) × ((text after : List ℕ) × Stands (drop (sign + 1) bytes) text after)
+members-value bytes at place start colon sign name {entries} {vs} {rest} loop f is names signed =
+    let g = field (loop.split vs rest f).2 in
+    let e = field-colon bytes place start colon sign name g is names signed in
+    (inside-after bytes sign e.1, (compact g.value, g.blank ++ g.mark ∷ g.tail, field-value bytes sign g e.1))
+
+abbrev pub Kept : List ℕ → ℕ → List Member → Values → List ℕ → Type 0
+Kept bytes mark entries vs rest =
+    ((get_or bytes mark 0 ≡ 125) × (entries ≡ collapsed (members vs)) × (drop (mark + 1) bytes ≡ rest))
+    ⊎ ((get_or bytes mark 0 ≡ 44) × ((left : Values) × (done : List Member) × Filled object (drop (mark + 1) bytes) left rest × (members vs ≡ done ++ members left) × (entries ≡ collapsed done)))
+
+pub members-turn : (bytes : List ℕ) (at place start colon sign end mark : ℕ) (name value : List ℕ) (entries more : List Member) → Members bytes at place entries →
+    start ≡ place + prefix_len is_space (drop place bytes) → Names bytes start name colon → sign ≡ colon + prefix_len is_space (drop colon bytes) →
+    AppendsValue bytes (sign + 1) end [] value → mark ≡ end + prefix_len is_space (drop end bytes) → more ≡ insert_entry bytes_eq entries name value →
+    (vs : Values) (rest : List ℕ) → Filled object (drop at bytes) vs rest → (mark < length bytes) × Kept bytes mark more vs rest
+members-turn bytes at place start colon sign end mark name value entries more loop is names signed appends marked inserted vs rest f =
+    let s = loop.split vs rest f in
+    let g = field s.2 in
+    let e = field-colon bytes place start colon sign name g is names signed in
+    let a = appends _ _ (field-value bytes sign g e.1) in
+    let m = mark-at bytes end mark g.blank g.mark g.tail g.space g.solid a.1 marked in
+    let byte = byte-at bytes mark m in
+    let after = drop-after bytes mark m in
+    let kept : more ≡ collapsed (s.1 ++ (content g.name, compact g.value) ∷ []) =
+    inserted ∙ ap₂ (λ n v. insert_entry bytes_eq entries n v) e.0 a.0 ∙ ap (λ d. insert_entry bytes_eq d (content g.name) (compact g.value)) s.4 ∙ sym (collapsed-push s.1 (content g.name) (compact g.value)) in (
+      inside-after bytes mark m,
+      ⊎_elim
+          (λ h. inl (byte ∙ h.0, kept ∙ ap collapsed (sym (s.3 ∙ ap (λ x. s.1 ++ x) h.2)), after ∙ h.1))
+          (λ h. inr (
+            byte ∙ h.0,
+            (
+              h.1.0,
+              s.1 ++ (content g.name, compact g.value) ∷ [],
+              subst (λ x. Filled object x h.1.0 rest) (sym after) h.1.1,
+              s.3 ∙ ap (λ x. s.1 ++ x) h.1.2 ∙ sym (append_assoc s.1 ((content g.name, compact g.value) ∷ []) (members h.1.0)),
+              kept,
+            ),
+          ))
+          g.goes,
+    )
+
+-- writing members, each behind a mark
+abbrev pub marked : ℕ → List Member → List ℕ
+marked mark [] = 125 ∷ []
+marked mark (m ∷ ms) = mark ∷ (member_text m ++ marked 44 ms)
+
+joined-marked : (m : Member) (ms : List Member) → join_with_byte 44 (map member_text (m ∷ ms)) ++ 125 ∷ [] ≡ member_text m ++ marked 44 ms
+joined-marked m [] = refl
+joined-marked m (n ∷ ns) = append_assoc (member_text m) (44 ∷ join_with_byte 44 (map member_text (n ∷ ns))) (125 ∷ []) ∙ ap (λ s. member_text m ++ 44 ∷ s) (joined-marked n ns)
+
+pub object-marked : (ms : List Member) → 0 < length ms → object_text ms ≡ marked 123 ms
+unfolding object_text
+object-marked [] h = absurd (omega arith)
+object-marked (m ∷ ms) h = ap (λ s. 123 ∷ s) (joined-marked m ms)
+
+pub front : (bytes : List ℕ) (at : ℕ) {b : ℕ} → get_or bytes at 0 ≡ b → get_or (drop at bytes) 0 0 ≡ b
+front bytes at e = get_or-drop at bytes 0 0 ∙ ap (λ k. get_or bytes k 0) (add-zero at) ∙ e
+
+-- a literal isn't empty, and it stands within the text
+pub literal-fits : (bytes : List ℕ) (at : ℕ) {text rest : List ℕ} → Literal (drop at bytes) text rest → (at < at + length text) × (at + length text ≤ length bytes)
+literal-fits bytes at {text} {rest} l =
+    let h = scalar-Head text l.good in
+    let long : length text ≡ suc (length h.more) = ap length h.parts in
+    let size : length bytes - at ≡ length text + length rest = sym (length-drop at bytes) ∙ ap length l.parts ∙ length-append text rest in
+    (omega arith, omega arith)
+
+pub behind : (bytes : List ℕ) (at : ℕ) {b : ℕ} → get_or (drop at bytes) 0 0 ≡ b → get_or bytes at 0 ≡ b
+behind bytes at e = ap (λ k. get_or bytes k 0) (sym (add-zero at)) ∙ sym (get_or-drop at bytes 0 0) ∙ e
+
+-- values and containers within the text
+pub at-inside : (bytes : List ℕ) (start : ℕ) {text rest : List ℕ} → At (drop start bytes) text rest → start < length bytes
+at-inside bytes start {text} {rest} a = let h = tree-Head a.tree a.good in inside-after bytes start (a.parts ∙ ap (λ s. s ++ rest) h.parts)
+
+pub stands-inside : (bytes : List ℕ) (at : ℕ) {text rest : List ℕ} → Stands (drop at bytes) text rest → at ≤ length bytes
+stands-inside bytes at s = let start = at + prefix_len is_space (drop at bytes) in omega (arith, at-inside bytes start (stands-skip bytes at start s refl))
+
+opening-no-space : (c : Container) → is_space (opening c) ≡ false
+opening-no-space array = refl
+opening-no-space object = refl
+
+pub container-of : (c : Container) (bytes : List ℕ) (at : ℕ) {text rest : List ℕ} → Stands (drop at bytes) text rest → get_or bytes at 0 ≡ opening c →
+    EmptyAt c (drop at bytes) text rest ⊎ FilledAt c (drop at bytes) text rest
+container-of c bytes at s first = let here = front bytes at first in At-Container c (stands-At s (ap is_space here ∙ opening-no-space c)) here
+
+pub container-inside : (c : Container) (bytes : List ℕ) (at first : ℕ) {text rest : List ℕ} → Stands (drop at bytes) text rest → get_or bytes at 0 ≡ opening c →
+    first ≡ at + 1 + prefix_len is_space (drop (at + 1) bytes) → first < length bytes
+container-inside c bytes at first s opens is = ⊎_elim
+    (λ e. inside-after bytes first (first-empty c bytes at first e is))
+    (λ f. inside-after bytes first (first-filled c bytes at first f is).2)
+    (container-of c bytes at s opens)
+
+pub empty-of : (c : Container) (bytes : List ℕ) (at first : ℕ) {text rest : List ℕ} → Stands (drop at bytes) text rest → get_or bytes at 0 ≡ opening c →
+    first ≡ at + 1 + prefix_len is_space (drop (at + 1) bytes) → get_or bytes first 0 ≡ closing c → (opening c ∷ closing c ∷ [] ≡ text) × (drop (first + 1) bytes ≡ rest)
+empty-of c bytes at first s opens is closes = ⊎_elim
+    (λ e. (e.means, drop-after bytes first (first-empty c bytes at first e is)))
+    (λ f. let h = first-filled c bytes at first f is in
+    absurd (both_ways (begins_value (closing c)) (closing-no-value c) (let same : h.0 ≡ closing c = sym (byte-at bytes first h.2) ∙ closes in rw (← same) h.3)))
+    (container-of c bytes at s opens)
+
+pub filled-of : (c : Container) (bytes : List ℕ) (at first : ℕ) {text rest : List ℕ} → Stands (drop at bytes) text rest → get_or bytes at 0 ≡ opening c →
+    first ≡ at + 1 + prefix_len is_space (drop (at + 1) bytes) → (get_or bytes first 0 ≡ closing c → ⊥) →
+    (vs : Values) × Filled c (drop (at + 1) bytes) vs rest × (container_text c (members vs) ≡ text)
+filled-of c bytes at first {text} {rest} s opens is other = ⊎_elim
+    (λ e. absurd (other (byte-at bytes first (first-empty c bytes at first e is))))
+    (λ f. (f.values, subst (λ x. Filled c x f.values rest) (drop-drop 1 at bytes) f.filled, f.means))
+    (container-of c bytes at s opens)
+
+pub array-items : (vs : Values) → array_text (map (λ (member : Member). member.1) (members vs)) ≡ 91 ∷ items_text vs
+unfolding array_text
+array-items vs = refl
+
+pub items-stands : (bytes : List ℕ) (at place : ℕ) {before out : List ℕ} {vs : Values} {rest : List ℕ} → Items bytes at place before out → Filled array (drop at bytes) vs rest →
+    (text after : List ℕ) × Stands (drop place bytes) text after
+items-stands bytes at place {before} {out} {vs} {rest} loop f = let t = turn array (drop place bytes) _ rest (loop.split vs rest f).1 in (_, _, item-Stands t)
+
+pub collapsed-some : (vs : Values) → 0 < length (collapsed (members vs))
+collapsed-some (last l v blank) = omega arith
+collapsed-some (next l v blank vs) = omega arith
+
+pub appends-behind : (bytes : List ℕ) (at start end : ℕ) (old new : List ℕ) → start ≡ at + prefix_len is_space (drop at bytes) → AppendsValue bytes start end old new → AppendsValue bytes at end old new
+appends-behind bytes at start end old new is appends text rest s = appends text rest (At-Stands (stands-skip bytes at start s is))

@@ -1,0 +1,112 @@
+-- What a text that begins a value, and one that a value stands in, say of the machine's run, and the other way round.
+use Rattle.std.proofs.Common.{◌≡◌, ℕ, List, [], ◌∷◌, ◌++◌, refl, sym, ap, subst, ◌∙◌, arith, append_assoc, append-nil}
+use Rattle.scene_json.specs.Tree.{spelling}
+use Rattle.scene_json.specs.Compact.{compact}
+use Rattle.scene_json.specs.Value.{Follows, Stands, Begins}
+use Rattle.scene_json.specs.declared.brackets.Bracket.{Bracket}
+use Rattle.scene_json.specs.declared.machine.Mode.{Mode}
+use Rattle.scene_json.specs.Machine.{Outcome, state, ended, refused, step}
+use Rattle.scene_json.proofs.Machines.{run, start, Reaches}
+use Rattle.scene_json.proofs.Rests.{Finishes}
+use Rattle.scene_json.proofs.Unrolled.{spaced_from, spaced_to}
+use Rattle.scene_json.proofs.Onward.{onward}
+use Rattle.scene_json.proofs.Backward.{backward}
+use Rattle.scene_json.proofs.Closers.{closed}
+
+-- the run is in a state
+pub record Runs (limit : ℕ) (from : Outcome) (bytes : List ℕ) : Type 0 where
+  pub mode : Mode
+  pub brackets : List Bracket
+  pub is : run limit from bytes ≡ state mode brackets
+
+module _ (limit : ℕ) where
+  pub refused_stays : (xs : List ℕ) (m : Mode) (st : List Bracket) → run limit refused xs ≡ state m st → ⊥
+  refused_stays [] m st e = cc
+  refused_stays (x ∷ xs) m st e = refused_stays xs m st e
+
+  pub ended_stays : (b : ℕ) (xs : List ℕ) (m : Mode) (st : List Bracket) → run limit (ended b) xs ≡ state m st → ⊥
+  ended_stays b [] m st e = cc
+  ended_stays b (x ∷ xs) m st e = refused_stays xs m st e
+
+  pub runs_onward : (left xs w : List ℕ) (o : Outcome) (m : Mode) (st : List Bracket) → Reaches limit left o (xs ++ w) → run limit o xs ≡ state m st → Finishes limit left m st w
+  runs_onward left xs w refused m st f e = absurd f
+  runs_onward left xs w (ended b) m st f e = absurd (ended_stays b xs m st e)
+  runs_onward left [] w (state m0 st0) m st f e = subst (λ o. Reaches limit left o w) e f
+  runs_onward left (x ∷ xs) w (state m0 st0) m st f e = runs_onward left xs w (step limit m0 st0 x) m st (onward limit left m0 st0 x (xs ++ w) f) e
+
+  pub runs_backward : (left xs w : List ℕ) (o : Outcome) (m : Mode) (st : List Bracket) → Finishes limit left m st w → run limit o xs ≡ state m st → Reaches limit left o (xs ++ w)
+  runs_backward left xs w refused m st f e = absurd (refused_stays xs m st e)
+  runs_backward left xs w (ended b) m st f e = absurd (ended_stays b xs m st e)
+  runs_backward left [] w (state m0 st0) m st f e = subst (λ o. Reaches limit left o w) (sym e) f
+  runs_backward left (x ∷ xs) w (state m0 st0) m st f e = backward limit left m0 st0 x (xs ++ w) (runs_backward left xs w (step limit m0 st0 x) m st f e)
+
+  -- what completes a value with nothing left over is run over
+  runs_through : (xs w : List ℕ) (o : Outcome) → Reaches limit [] o (xs ++ w) → Runs limit o xs
+  runs_through xs w refused f = absurd f
+  runs_through xs w (ended b) f = absurd (cc)
+  runs_through [] w (state m st) f = record { mode = m; brackets = st; is = refl }
+  runs_through (x ∷ xs) w (state m st) f =
+      let r = runs_through xs w (step limit m st x) (onward limit [] m st x (xs ++ w) f) in
+      record { mode = r.mode; brackets = r.brackets; is = r.is }
+
+  -- ---- what begins a value is run over, and no other text
+  pub begins_runs : (bytes : List ℕ) → Begins limit bytes → Runs limit start bytes
+  begins_runs bytes b = runs_through bytes b.more start (subst (Reaches limit [] start) (sym b.parts)
+      (spaced_from b.blank b.value b.space (record {
+        tree = b.is.tree;
+        rest = [];
+        good = b.is.good;
+        shallow = omega (arith, b.is.shallow);
+        spells = sym b.is.spells ∙ sym (append-nil (spelling b.is.tree));
+        ends = tt;
+        follows = refl;
+      })))
+
+  pub runs_begins : (bytes : List ℕ) → Runs limit start bytes → Begins limit bytes
+  runs_begins bytes r =
+      let c = closed limit r.mode r.brackets in
+      let b = spaced_to (runs_backward [] bytes c.0 start r.mode r.brackets c.1 r.is) in
+      let s = b.follows in
+      record {
+        more = c.0;
+        blank = b.blank;
+        value = spelling s.tree;
+        text = compact s.tree;
+        parts = b.spells ∙ ap (λ x. b.blank ++ x) (s.spells ∙ ap (λ x. spelling s.tree ++ x) s.follows ∙ append-nil (spelling s.tree));
+        space = b.is;
+        is = record { tree = s.tree; good = s.good; shallow = omega (arith, s.shallow); spells = refl; means = refl };
+      }
+
+  -- less of what begins a value begins one
+  pub begins_less : (xs ys : List ℕ) → Begins limit (xs ++ ys) → Begins limit xs
+  begins_less xs ys b = record { more = ys ++ b.more; blank = b.blank; value = b.value; text = b.text; parts = sym (append_assoc xs ys b.more) ∙ b.parts; space = b.space; is = b.is }
+
+  pub runs_less : (xs ys : List ℕ) → Runs limit start (xs ++ ys) → Runs limit start xs
+  runs_less xs ys r = begins_runs xs (begins_less xs ys (runs_begins (xs ++ ys) r))
+
+-- ---- where a value stands
+pub stands_start : (bytes text rest : List ℕ) → Stands bytes text rest → Reaches 128 rest start bytes
+stands_start bytes text rest s = subst (Reaches 128 rest start) (sym s.parts) (spaced_from s.blank (s.value ++ rest) s.space (record {
+  tree = s.is.tree;
+  rest = rest;
+  good = s.is.good;
+  shallow = omega (arith, s.is.shallow);
+  spells = ap (λ x. x ++ rest) (sym s.is.spells);
+  ends = subst (λ v. Follows v rest) (sym s.is.spells) s.ends;
+  follows = refl;
+}))
+
+pub start_stands : (bytes rest : List ℕ) → Reaches 128 rest start bytes → (text : List ℕ) × Stands bytes text rest
+start_stands bytes rest r =
+    let b = spaced_to r in
+    let s = b.follows in (
+      compact s.tree,
+      record {
+        blank = b.blank;
+        value = spelling s.tree;
+        parts = b.spells ∙ ap (λ x. b.blank ++ x) (s.spells ∙ ap (λ x. spelling s.tree ++ x) s.follows);
+        space = b.is;
+        is = record { tree = s.tree; good = s.good; shallow = omega (arith, s.shallow); spells = refl; means = refl };
+        ends = subst (Follows (spelling s.tree)) s.follows s.ends;
+      },
+    )

@@ -1,0 +1,6 @@
+use Rattle.scene_json.specs.Members.{pairs}
+use Rattle.scene_json.proofs.Quoting.{Written}
+use Rattle.scene_json.proofs.build.raw_object.Given as goal
+
+abbrev pub invariant-loop-i : goal.invariant-loop-i
+invariant-loop-i l = Written l.i l.out.items (pairs l.member-items)

@@ -1,0 +1,17 @@
+-- The first fault of a text that begins at an offset.
+use Rattle.std.specs.Prelude.{◌≡◌, ℕ, ◌+◌, List, drop}
+use Rattle.scene_json.specs.Value.{IsFaulty, IsTooDeep, IsBadUtf8, IsBadSyntax}
+use Rattle.scene_json.specs.declared.fault.JsonFault.{JsonFault}
+use Rattle.scene_json.specs.declared.fault.JsonFault.TheVariants.{Syntax, Depth, Utf8}
+
+-- The fault is told by the longest stretch from the offset on that some continuation makes a value; its place counts
+-- over all bytes. This project's own.
+abbrev pub IsFaultOf : List ℕ → ℕ → JsonFault → Type 0
+IsFaultOf bytes at (Syntax place) = (n : ℕ) × (place ≡ at + n) × IsBadSyntax (drop at bytes) n
+IsFaultOf bytes at (Depth place) = (n : ℕ) × (place ≡ at + n) × IsTooDeep (drop at bytes) n
+IsFaultOf bytes at (Utf8 place) = (n : ℕ) × (place ≡ at + n) × IsBadUtf8 (drop at bytes) n
+
+-- No value stands at the offset, and this is the first fault there.
+pub record IsFirstFault (bytes : List ℕ) (at : ℕ) (fault : JsonFault) : Type 0 where
+  pub faulty : IsFaulty (drop at bytes)
+  pub first : IsFaultOf bytes at fault

@@ -1,0 +1,26 @@
+-- The layout of two spaces a level. This project's own choice of white space, which RFC 8259, section 2, leaves free.
+use Rattle.std.specs.Prelude.{ℕ, ◌+◌, List, [], ◌∷◌, replicate}
+use Rattle.scene_json.specs.Tree.{Label, unnamed, named, Tree, scalar, text, empty, filled, Values, last, next}
+
+-- a new line with so many spaces
+abbrev pub line : ℕ → List ℕ
+line spaces = 10 ∷ replicate spaces 32
+
+-- a label on a line of its own, with a space behind the colon
+abbrev pub label_laid_out : ℕ → Label → Label
+label_laid_out spaces (unnamed before) = unnamed (line spaces)
+label_laid_out spaces (named before name between after) = named (line spaces) name [] (32 ∷ [])
+
+-- the tree with each member and item on a line of its own, two spaces deeper than its container
+abbrev mutual
+  pub laid_out : ℕ → Tree → Tree
+  laid_out spaces (scalar literal) = scalar literal
+  laid_out spaces (text pieces) = text pieces
+  laid_out spaces (empty container blank) = empty container []
+  laid_out spaces (filled container values) = filled container (values_laid_out spaces values)
+
+  pub values_laid_out : ℕ → Values → Values
+  values_laid_out spaces (last label value blank) =
+      last (label_laid_out (spaces + 2) label) (laid_out (spaces + 2) value) (line spaces)
+  values_laid_out spaces (next label value blank values) =
+      next (label_laid_out (spaces + 2) label) (laid_out (spaces + 2) value) [] (values_laid_out spaces values)

@@ -1,0 +1,11 @@
+pub mod Characters
+pub mod Compact
+pub mod Faults
+pub mod Layout
+pub mod Machine
+pub mod Members
+pub mod Parts
+pub mod Passes
+pub mod Tree
+pub mod Value
+pub mod Walk

@@ -1,0 +1,34 @@
+-- What a pass over the bytes of a text meets. Only contracts of private functions cite this.
+use Rattle.std.specs.Prelude.{ℕ, ◌+◌, ◌-◌, List, [], ◌∷◌, Bool, not, ◌&&◌, ◌||◌, ◌==◌, if◌then◌else◌}
+use Rattle.scene_json.specs.Characters.{quotation_mark, comma, colon, backslash}
+use Rattle.scene_json.specs.Layout.{line}
+
+-- What stands behind a string, of which these bytes are the rest: it ends at the first `"` without a `\` before it that
+-- escapes it. RFC 8259, section 7.
+abbrev pub behind_string : Bool → List ℕ → List ℕ
+behind_string escaped [] = []
+behind_string escaped (b ∷ bs) =
+    if b == quotation_mark && not escaped then bs else behind_string (b == backslash && not escaped) bs
+
+-- a bracket that opens an array or an object. RFC 8259, section 2.
+abbrev pub is_opening : ℕ → Bool
+is_opening b = b == 91 || b == 123
+
+-- a bracket that closes one
+abbrev pub is_closing : ℕ → Bool
+is_closing b = b == 93 || b == 125
+
+-- How many spaces a line has from this byte on, in the layout: two more from the first one in a container on, two fewer
+-- from the bracket on that closes it, unless it is empty. This project's own.
+abbrev pub spaces_from : Bool → ℕ → ℕ → ℕ
+spaces_from first spaces b =
+    if is_closing b then (if first then spaces else spaces - 2) else (if first then spaces + 2 else spaces)
+
+-- what the layout has before a byte: there the number of spaces changes, on a new line
+abbrev pub put_before : Bool → ℕ → ℕ → List ℕ
+put_before first spaces b =
+    if is_closing b then (if first then [] else line (spaces - 2)) else (if first then line (spaces + 2) else [])
+
+-- what the layout has behind a byte: a new line behind a comma, a space behind a colon
+abbrev pub put_behind : ℕ → ℕ → List ℕ
+put_behind spaces b = if b == comma then line spaces else (if b == colon then 32 ∷ [] else [])

@@ -1,0 +1,222 @@
+//! Values made of their parts.
+
+ghost use Rattle.std.specs.Prelude.{◌≡◌, ℕ, ◌++◌, ◌+◌, ◌<◌, map, IfOk, OnOk, if◌then◌else◌, decimal, All, bytes_eq, flat_map, position};
+ghost use Rattle.std.specs.List.{IsDistinct};
+ghost use Rattle.std.specs.Str.{IsUtf8};
+ghost use Rattle.scene_json.specs.Characters;
+ghost use Rattle.scene_json.specs.Characters.{quote, quoted_byte, needs_escape};
+ghost use Rattle.scene_json.specs.Tree.{null_word, true_word, false_word};
+ghost use Rattle.scene_json.specs.Compact.{array_text, object_text, member_text};
+ghost use Rattle.scene_json.specs.Value.{IsCompact};
+ghost use Rattle.scene_json.specs.Members.{pairs};
+
+use crate::text::{Member, Raw, Text};
+use board_io::List;
+use std::alloc::{AllocError, Global};
+
+/// `null`.
+pub fn raw_null(alloc: Global) -> Result<Raw, AllocError>
+    ensures word { IfOk result (λ raw. raw ≡ null_word) }
+    ensures nests { IfOk result (IsCompact 0) }
+{
+    Ok(Raw::from_compact(Vec::from_slice(alloc, b"null")?))
+}
+
+/// `true` or `false`.
+pub fn raw_truth(alloc: Global, truth: bool) -> Result<Raw, AllocError>
+    ensures word { IfOk result (λ raw. raw ≡ (if truth then true_word else false_word)) }
+    ensures nests { IfOk result (IsCompact 0) }
+{
+    if truth {
+        Ok(Raw::from_compact(Vec::from_slice(alloc, b"true")?))
+    } else {
+        Ok(Raw::from_compact(Vec::from_slice(alloc, b"false")?))
+    }
+}
+
+/// The number in digits.
+pub fn raw_whole(alloc: Global, number: u64) -> Result<Raw, AllocError>
+    ensures digits { IfOk result (λ raw. raw ≡ decimal number) }
+    ensures nests { IfOk result (IsCompact 0) }
+{
+    Ok(Raw::from_compact(number.to_string(alloc)?.into_bytes()))
+}
+
+/// The text as a string: `"` and `\` stand behind a `\`, and of the control characters five have a letter and the
+/// others four digits of base 16 in lower case.
+pub fn raw_text(alloc: Global, text: &Text) -> Result<Raw, AllocError>
+    ensures quote { IfOk result (λ raw. raw ≡ quote text.now) }
+    ensures nests { IfOk result (IsCompact 0) }
+{
+    let mut out = Vec::new(alloc);
+    push_quote(&mut out, text)?;
+    Ok(Raw::from_compact(out))
+}
+
+/// The array of these items, each of which has at most 127 open brackets.
+pub fn raw_array(alloc: Global, items: &List<Raw>) -> Result<Raw, AllocError>
+    requires { All (IsCompact 127) items.now }
+    ensures text { IfOk result (λ raw. raw ≡ array_text items.now) }
+    ensures nests { (limit : ℕ) → All (IsCompact limit) items.now → IfOk result (IsCompact (limit + 1)) }
+{
+    let mut out = Vec::new(alloc);
+    out.push(b'[')?;
+    for (i, item) in items.as_slice().iter().enumerate() {
+        if i > 0 {
+            out.push(b',')?;
+        }
+        out.extend_from_slice(item.as_bytes())?;
+    }
+    out.push(b']')?;
+    Ok(Raw::from_compact(out))
+}
+
+/// The object of these members in their order. No name comes twice, and each value has at most 127 open brackets.
+pub fn raw_object(alloc: Global, members: &List<Member>) -> Result<Raw, AllocError>
+    requires distinct { IsDistinct bytes_eq (map (λ member. member.name) members.now) }
+    requires values { All (λ member. IsCompact 127 member.value) members.now }
+    ensures text { IfOk result (λ raw. raw ≡ object_text (pairs members.now)) }
+    ensures nests { (limit : ℕ) → All (λ member. IsCompact limit member.value) members.now → IfOk result (IsCompact (limit + 1)) }
+{
+    let mut out = Vec::new(alloc);
+    out.push(b'{')?;
+    for (i, member) in members.as_slice().iter().enumerate() {
+        if i > 0 {
+            out.push(b',')?;
+        }
+        push_member(&mut out, &member.name, &member.value)?;
+    }
+    out.push(b'}')?;
+    Ok(Raw::from_compact(out))
+}
+
+/// Appends a member: its quoted name, a colon and its value.
+pub(crate) fn push_member(out: &mut Vec<u8>, name: &Text, value: &Raw) -> Result<(), AllocError>
+    ensures ok { OnOk result (out.new.items ≡ out.old.items ++ member_text (name.now, value.now)) }
+    ensures utf8 { IsUtf8 name.now }
+{
+    push_quote(out, name)?;
+    out.push(b':')?;
+    out.extend_from_slice(value.as_bytes())
+}
+
+/// Appends the quote of a text.
+pub(crate) fn push_quote(out: &mut Vec<u8>, text: &Text) -> Result<(), AllocError>
+    ensures ok { OnOk result (out.new.items ≡ out.old.items ++ quote text.now) }
+    ensures utf8 { IsUtf8 text.now }
+{
+    let bytes = text.as_bytes();
+    out.push(b'"')?;
+    push_quoted(out, bytes)?;
+    out.push(b'"')?;
+    Ok(())
+}
+
+/// Appends what stands between the quotation marks. Bytes that stand for themselves are copied together.
+fn push_quoted(out: &mut Vec<u8>, text: &[u8]) -> Result<(), AllocError>
+    ensures { OnOk result (out.new.items ≡ out.old.items ++ flat_map quoted_byte text.now) }
+{
+    let mut rest = text;
+    while let Some(plain) = first_escaped(rest) {
+        out.extend_from_slice(&rest[..plain])?;
+        push_quoted_byte(out, rest[plain])?;
+        rest = &rest[plain + 1..];
+    }
+    out.extend_from_slice(rest)
+}
+
+/// Where the first byte stands that needs an escape, if there is one.
+fn first_escaped(text: &[u8]) -> Option<usize>
+    ensures { result ≡ position needs_escape text.now }
+{
+    text.iter()
+        .position(|byte| *byte < b' ' || *byte == b'"' || *byte == b'\\')
+}
+
+/// Appends a byte as it stands in a quote.
+fn push_quoted_byte(out: &mut Vec<u8>, byte: u8) -> Result<(), AllocError>
+    ensures { OnOk result (out.new.items ≡ out.old.items ++ quoted_byte byte) }
+{
+    match byte {
+        b'"' | b'\\' => out.extend_from_slice(&[b'\\', byte]),
+        b' '.. => out.extend_from_slice(&[byte]),
+        0x08 => out.extend_from_slice(b"\\b"),
+        b'\t' => out.extend_from_slice(b"\\t"),
+        b'\n' => out.extend_from_slice(b"\\n"),
+        0x0c => out.extend_from_slice(b"\\f"),
+        b'\r' => out.extend_from_slice(b"\\r"),
+        _ => {
+            let digits = [
+                b'\\',
+                b'u',
+                b'0',
+                b'0',
+                hex_digit(byte / 16),
+                hex_digit(byte % 16),
+            ];
+            out.extend_from_slice(&digits)
+        }
+    }
+}
+
+/// The digit of base 16, in lower case.
+fn hex_digit(value: u8) -> u8
+    requires { value < 16 }
+    ensures { result ≡ Characters.hex_digit value }
+{
+    if value < 10 { value + b'0' } else { value + 87 }
+}
+
+#[cfg(test)]
+mod tests {
+    use super::*;
+    use std::test::Fail;
+
+    fn text(rt: &HostRuntime, bytes: &[u8]) -> Result<Text, Fail> {
+        Ok(Text::read(rt.alloc(), bytes)?.ok_or("the bytes are UTF-8")?)
+    }
+
+    #[test]
+    fn builds_values(rt: HostRuntime) -> Result<(), Fail> {
+        let quoted = text(&rt, b"\"\\/\x08\t\n\x0c\r\x1f\x7f\xc3\xa9")?;
+        let rows: [(Raw, &[u8]); 5] = [
+            (raw_null(rt.alloc())?, b"null"),
+            (raw_truth(rt.alloc(), true)?, b"true"),
+            (raw_truth(rt.alloc(), false)?, b"false"),
+            (
+                raw_whole(rt.alloc(), 9_007_199_254_740_991)?,
+                b"9007199254740991",
+            ),
+            (
+                raw_text(rt.alloc(), &quoted)?,
+                b"\"\\\"\\\\/\\b\\t\\n\\f\\r\\u001f\x7f\xc3\xa9\"",
+            ),
+        ];
+        for (raw, wanted) in &rows {
+            assert_eq!(rt; raw.as_bytes(), *wanted);
+        }
+        Ok(())
+    }
+
+    #[test]
+    fn builds_containers(rt: HostRuntime) -> Result<(), Fail> {
+        let items = List::new(rt.alloc());
+        assert_eq!(rt; raw_array(rt.alloc(), &items)?.as_bytes(), b"[]".as_slice());
+        let members = List::new(rt.alloc());
+        assert_eq!(rt;
+            raw_object(rt.alloc(), &members)?.as_bytes(),
+            b"{}".as_slice()
+        );
+        Ok(())
+    }
+
+    #[test]
+    fn orders_texts_by_bytes(rt: HostRuntime) -> Result<(), Fail> {
+        let low = text(&rt, b"ab")?;
+        let high = text(&rt, b"abc")?;
+        assert!(rt; low < high);
+        assert!(rt; low != high);
+        assert!(rt; low == low.try_clone()?);
+        Ok(())
+    }
+}

@@ -1,0 +1,124 @@
+//! The layout of a value for readers.
+
+ghost use Rattle.std.specs.Prelude.{◌≡◌, ◌+◌, ◌++◌, ◌*◌, ◌<◌, ◌^◌, IfOk, OnOk};
+ghost use Rattle.scene_json.specs.Layout.{line, laid_out};
+ghost use Rattle.scene_json.specs.Passes.{is_opening, is_closing, spaces_from, put_before, put_behind};
+ghost use Rattle.scene_json.specs.Tree.{Tree, IsGood, spelling};
+ghost use Rattle.scene_json.specs.Value.{Value};
+
+use crate::machine::is_space;
+use crate::nesting::after_string;
+use crate::text::Raw;
+use board_io::Bytes;
+use std::alloc::{AllocError, Global};
+
+/// The value with each member and item on a line of its own, two spaces deeper than its container, and a space behind
+/// the colon of a member. Empty containers are `{}` and `[]`, and no line feed ends it. It fails for want of memory alone.
+pub fn pretty(alloc: Global, value: &Raw) -> Result<Bytes, AllocError>
+    ensures laid_out { IfOk result (λ bytes. (tree : Tree) → IsGood tree → spelling tree ≡ value.now
+        → bytes ≡ spelling (laid_out 0 tree)) }
+    ensures value { IfOk result (λ bytes. Value 128 bytes value.now) }
+{
+    Ok(Bytes::from_vec(laid_out(alloc, value.as_bytes())?))
+}
+
+/// The layout of a text of JSON, whose own white space is left out.
+fn laid_out(alloc: Global, text: &[u8]) -> Result<Vec<u8>, AllocError>
+    ensures { IfOk result (λ bytes. (tree : Tree) → IsGood tree → spelling tree ≡ text.now
+        → bytes.items ≡ spelling (laid_out 0 tree)) }
+{
+    let mut bytes = Vec::new(alloc);
+    let mut level = 0;
+    let mut first = false;
+    let mut rest = text;
+    while let Some((byte, others)) = rest.split_first() {
+        let after = if *byte == b'"' {
+            after_string(others)
+        } else {
+            others
+        };
+        if !is_space(*byte) {
+            level = break_line(&mut bytes, level, first, *byte)?;
+            bytes.extend_from_slice(&rest[..rest.len() - after.len()])?;
+            part(&mut bytes, level, *byte)?;
+            first = opens(*byte);
+        }
+        rest = after;
+    }
+    Ok(bytes)
+}
+
+/// Begins the line of this byte, if it is the first in a container or closes one that isn't empty, and gives its level.
+fn break_line(bytes: &mut Vec<u8>, level: u64, first: bool, byte: u8) -> Result<u64, AllocError>
+    requires { level + 1 < 2 ^ 64 }
+    ensures level { IfOk result (λ now. 2 * now ≡ spaces_from first (2 * level) byte) }
+    ensures written { OnOk result (bytes.new.items ≡ bytes.old.items ++ put_before first (2 * level) byte) }
+{
+    let closing = closes(byte);
+    if closing == first {
+        return Ok(level);
+    }
+    let level = if closing {
+        level.saturating_sub(1)
+    } else {
+        level + 1
+    };
+    new_line(bytes, level)?;
+    Ok(level)
+}
+
+/// Parts this byte from what follows it, if it is a comma or a colon.
+fn part(bytes: &mut Vec<u8>, level: u64, byte: u8) -> Result<(), AllocError>
+    ensures { OnOk result (bytes.new.items ≡ bytes.old.items ++ put_behind (2 * level) byte) }
+{
+    match byte {
+        b',' => new_line(bytes, level),
+        b':' => bytes.extend_from_slice(b" "),
+        _ => Ok(()),
+    }
+}
+
+/// Begins a line with two spaces for each level.
+fn new_line(bytes: &mut Vec<u8>, level: u64) -> Result<(), AllocError>
+    ensures { OnOk result (bytes.new.items ≡ bytes.old.items ++ line (2 * level)) }
+{
+    bytes.extend_from_slice(b"\n")?;
+    for _ in 0..level {
+        bytes.extend_from_slice(b"  ")?;
+    }
+    Ok(())
+}
+
+/// Whether the byte opens a container.
+fn opens(byte: u8) -> bool
+    ensures { result ≡ is_opening byte }
+{
+    matches!(byte, b'[' | b'{')
+}
+
+/// Whether the byte closes a container.
+fn closes(byte: u8) -> bool
+    ensures { result ≡ is_closing byte }
+{
+    matches!(byte, b']' | b'}')
+}
+
+#[cfg(test)]
+mod tests {
+    use super::*;
+    use crate::samples::raw;
+    use std::test::Fail;
+
+    #[test]
+    fn lays_out_two_spaces_a_level(rt: HostRuntime) -> Result<(), Fail> {
+        let alloc = rt.alloc();
+        let nested = pretty(alloc, &raw(alloc, b"{\"a\":[1,{\"b\":{}}],\"c\":[]}")?)?;
+        let lines = b"{\n  \"a\": [\n    1,\n    {\n      \"b\": {}\n    }\n  ],\n  \"c\": []\n}";
+        assert_eq!(rt; nested.as_slice(), lines.as_slice());
+        let number = pretty(alloc, &raw(alloc, b"7")?)?;
+        assert_eq!(rt; number.as_slice(), b"7".as_slice());
+        let marks = pretty(alloc, &raw(alloc, b"\",:[]{}\\\"\"")?)?;
+        assert_eq!(rt; marks.as_slice(), b"\",:[]{}\\\"\"".as_slice());
+        Ok(())
+    }
+}

@@ -1,0 +1,31 @@
+//! JSON texts and their values.
+#![tactic(auto)]
+
+mod brackets;
+mod build;
+mod compacting;
+mod content;
+mod end;
+mod fault;
+mod layout;
+mod machine;
+mod nesting;
+mod number;
+mod order;
+mod parts;
+#[cfg(test)]
+mod samples;
+mod scalar;
+mod scanning;
+mod sequence;
+mod text;
+
+pub use build::{raw_array, raw_null, raw_object, raw_text, raw_truth, raw_whole};
+pub use end::skip_space;
+pub use fault::{JsonFault, Shape};
+pub use layout::pretty;
+pub use nesting::depth_of;
+pub use parts::{items, members, text_of};
+pub use scalar::{GREATEST_WHOLE, is_null, truth_of, whole_of};
+pub use scanning::scan;
+pub use text::{Member, Raw, Text};

@@ -1,0 +1,63 @@
+//! How deep a value is.
+
+ghost use Rattle.std.specs.Prelude.{◌≡◌, ℕ, ◌≤◌, false};
+ghost use Rattle.scene_json.specs.Value.{IsCompact};
+ghost use Rattle.scene_json.specs.Passes.{behind_string};
+
+use crate::text::Raw;
+
+/// How many brackets are open at once where most are: 0 for a number, a word or a string. It takes no memory.
+pub fn depth_of(value: &Raw) -> u64
+    ensures holds { IsCompact result value.now }
+    ensures least { (limit : ℕ) → IsCompact limit value.now → result ≤ limit }
+{
+    let mut level: u64 = 0;
+    let mut deepest: u64 = 0;
+    let mut rest = value.as_bytes();
+    while let Some((byte, others)) = rest.split_first() {
+        rest = others;
+        match *byte {
+            b'"' => rest = after_string(others),
+            b'[' | b'{' => {
+                level += 1;
+                deepest = deepest.max(level);
+            }
+            b']' | b'}' => level = level.saturating_sub(1),
+            _ => {}
+        }
+    }
+    deepest
+}
+
+/// What stands behind the string that these bytes are the rest of.
+pub(crate) fn after_string(bytes: &[u8]) -> &[u8]
+    ensures { result.now ≡ behind_string false bytes.now }
+{
+    let mut rest = bytes;
+    let mut escaped = false;
+    while let Some((byte, others)) = rest.split_first() {
+        rest = others;
+        if *byte == b'"' && !escaped {
+            return rest;
+        }
+        escaped = *byte == b'\\' && !escaped;
+    }
+    rest
+}
+
+#[cfg(test)]
+mod tests {
+    use super::*;
+    use crate::samples::raw;
+    use std::test::Fail;
+
+    #[test]
+    fn counts_brackets_outside_strings(rt: HostRuntime) -> Result<(), Fail> {
+        let alloc = rt.alloc();
+        assert_eq!(rt; depth_of(&raw(alloc, b"7")?), 0);
+        assert_eq!(rt; depth_of(&raw(alloc, b"\"[\\\"]{\"")?), 0);
+        assert_eq!(rt; depth_of(&raw(alloc, b"[]")?), 1);
+        assert_eq!(rt; depth_of(&raw(alloc, b"{\"a\":[{}]}")?), 3);
+        Ok(())
+    }
+}

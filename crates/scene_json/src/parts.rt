@@ -1,0 +1,137 @@
+//! Taking values apart.
+
+ghost use Rattle.std.specs.Prelude.{◌≡◌, ◌≢◌, ◌-◌, ◌≤◌, ℕ, List as Items, ◌∷◌, length, take, drop, false, IsTrue, IfOk};
+ghost use Rattle.std.specs.Str.{IsUtf8};
+ghost use Rattle.std.specs.List.{AllByRecursion};
+ghost use Rattle.scene_json.specs.Characters.{quote};
+ghost use Rattle.scene_json.specs.Compact.{Member as Pair, array_text, object_text};
+ghost use Rattle.scene_json.specs.Members.{pairs};
+ghost use Rattle.scene_json.specs.Parts.{AreMembers};
+ghost use Rattle.scene_json.specs.Value.{IsCompact};
+ghost use Rattle.scene_json.specs.Walk.{Compacted};
+
+use crate::content::content_of;
+use crate::end::value_end;
+use crate::fault::Shape;
+use crate::text::{Member, Raw, Text};
+use board_io::{List, Stop};
+use std::alloc::{AllocError, Global};
+
+/// The text of a string. `Shape` comes exactly where the value is no string.
+pub fn text_of(alloc: Global, value: &Raw) -> Result<Text, Stop<Shape>>
+    ensures spelled { IfOk result (λ found. value.now ≡ quote found) }
+    ensures only { IfOk result (λ found. (other : Items ℕ) → IsUtf8 other → value.now ≡ quote other → found ≡ other) }
+    ensures shape { result ≡ Err (Stop.Fault (record {})) → (other : Items ℕ) → value.now ≢ quote other }
+{
+    let bytes = value.as_bytes();
+    if !begins_with(bytes, b'"') {
+        return Err(Stop::Fault(Shape));
+    }
+    let (text, _end) = content_of(alloc, bytes, 0)?;
+    Ok(text)
+}
+
+/// Whether this is the first byte.
+fn begins_with(bytes: &[u8], first: u8) -> bool
+    ensures yes { IsTrue result → (more : Items ℕ) × (bytes.now ≡ first ∷ more) }
+    ensures no { result ≡ false → (more : Items ℕ) → bytes.now ≢ first ∷ more }
+{
+    match bytes.split_first() {
+        Some((byte, _more)) => *byte == first,
+        None => false,
+    }
+}
+
+/// The items of an array, in their order. `Shape` comes exactly where the value is no array.
+pub fn items(alloc: Global, value: &Raw) -> Result<List<Raw>, Stop<Shape>>
+    ensures spelled { IfOk result (λ found. value.now ≡ array_text found) }
+    ensures are { IfOk result (λ found. AllByRecursion (IsCompact 127) found) }
+    ensures only { IfOk result (λ found. (others : Items (Items ℕ)) → AllByRecursion (IsCompact 127) others → value.now ≡ array_text others → found ≡ others) }
+    ensures shape { result ≡ Err (Stop.Fault (record {})) → (others : Items (Items ℕ)) → value.now ≢ array_text others }
+{
+    let bytes = value.as_bytes();
+    if !begins_with(bytes, b'[') {
+        return Err(Stop::Fault(Shape));
+    }
+    let (_bracket, rest) = bytes.split_at(1);
+    if begins_with(rest, b']') {
+        return Ok(List::new(alloc));
+    }
+    Ok(List::from_vec(items_from(alloc, bytes)?))
+}
+
+/// The items of an array that has some.
+fn items_from(alloc: Global, bytes: &[u8]) -> Result<Vec<Raw>, AllocError>
+    requires { (first : Items ℕ) × (more : Items (Items ℕ)) × AllByRecursion (IsCompact 127) (first ∷ more) × (bytes.now ≡ array_text (first ∷ more)) }
+    ensures { IfOk result (λ found. (all : Items (Items ℕ)) → AllByRecursion (IsCompact 127) all → bytes.now ≡ array_text all → found.items ≡ all) }
+{
+    let mut found = Vec::new(alloc);
+    let mut at = 1;
+    loop {
+        let end = next_end(bytes, at);
+        found.push(raw_between(alloc, bytes, at, end)?)?;
+        if bytes[end] == b']' {
+            return Ok(found);
+        }
+        at = end + 1;
+    }
+}
+
+/// The members of an object, in their order. `Shape` comes exactly where the value is no object.
+pub fn members(alloc: Global, value: &Raw) -> Result<List<Member>, Stop<Shape>>
+    ensures spelled { IfOk result (λ found. value.now ≡ object_text (pairs found)) }
+    ensures are { IfOk result (λ found. AreMembers 127 (pairs found)) }
+    ensures only { IfOk result (λ found. (others : Items Pair) → AreMembers 127 others → value.now ≡ object_text others → pairs found ≡ others) }
+    ensures shape { result ≡ Err (Stop.Fault (record {})) → (others : Items Pair) → value.now ≢ object_text others }
+{
+    let bytes = value.as_bytes();
+    if !begins_with(bytes, b'{') {
+        return Err(Stop::Fault(Shape));
+    }
+    let (_bracket, rest) = bytes.split_at(1);
+    if begins_with(rest, b'}') {
+        return Ok(List::new(alloc));
+    }
+    Ok(List::from_vec(members_from(alloc, bytes)?))
+}
+
+/// The members of an object that has some.
+fn members_from(alloc: Global, bytes: &[u8]) -> Result<Vec<Member>, AllocError>
+    requires { (first : Pair) × (more : Items Pair) × AreMembers 127 (first ∷ more) × (bytes.now ≡ object_text (first ∷ more)) }
+    ensures { IfOk result (λ found. (all : Items Pair) → AreMembers 127 all → bytes.now ≡ object_text all → pairs found.items ≡ all) }
+{
+    let mut found = Vec::new(alloc);
+    let mut at = 1;
+    loop {
+        let (name, colon) = content_of(alloc, bytes, at)?;
+        let end = next_end(bytes, colon + 1);
+        let value = raw_between(alloc, bytes, colon + 1, end)?;
+        found.push(Member { name, value })?;
+        if bytes[end] == b'}' {
+            return Ok(found);
+        }
+        at = end + 1;
+    }
+}
+
+/// The offset after the compact text that stands at an offset.
+fn next_end(bytes: &[u8], at: usize) -> usize
+    requires within { at ≤ length bytes.now }
+    requires stands { (text rest : Items ℕ) × Compacted (drop at bytes.now) text rest }
+    ensures within { (at ≤ result) × (result ≤ length bytes.now) }
+    ensures end { (text rest : Items ℕ) → Compacted (drop at bytes.now) text rest → (drop result bytes.now ≡ rest) × (take (result - at) (drop at bytes.now) ≡ text) }
+{
+    match value_end(bytes, at) {
+        Ok(end) => end,
+        Err(_) => unreachable!(),
+    }
+}
+
+/// The value whose compact text stands between two offsets.
+fn raw_between(alloc: Global, bytes: &[u8], at: usize, end: usize) -> Result<Raw, AllocError>
+    requires within { (at ≤ end) × (end ≤ length bytes.now) }
+    requires compact { IsCompact 128 (take (end - at) (drop at bytes.now)) }
+    ensures { IfOk result (λ raw. raw ≡ take (end - at) (drop at bytes.now)) }
+{
+    Ok(Raw::from_compact(Vec::from_slice(alloc, &bytes[at..end])?))
+}
