@@ -1,0 +1,5 @@
+mod Distinct
+mod KeyTexts
+pub mod OrderLaws
+mod Rows
+pub mod Sorting

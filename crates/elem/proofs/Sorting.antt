@@ -1,0 +1,205 @@
+-- Members in the order of the bytes of their names.
+use Rattle.std.proofs.Common.{◌≡◌, ℕ, suc, ◌+◌, Bool, true, false, Some, None, ◌⊎◌, inl, inr, List, [], ◌∷◌, map, bytes_eq, Ordering, is_lt, nat_cmp, if◌then◌else◌, refl, sym, ap, ◌∙◌, subst, arith}
+use Rattle.std.specs.Cmp.Lexicographic.{slice_cmp, nat_list_cmp_total, nat_list_eq_equiv, texts_ties}
+use Rattle.std.specs.List.{IsDistinct, AllByRecursion}
+use Rattle.std.specs.List.Sorted.{IsPermutation, IsSortedBy}
+use Rattle.std.specs.Ordering.{is_eq, ordering_reverse}
+use Rattle.std.specs.declared.cmp.Ordering.TheVariants.{Less, Equal, Greater}
+use Rattle.std.proofs.lemmas.Bool.{and_parts, and_from, false≢true}
+use Rattle.std.proofs.lemmas.List.Elements.{All-from_recursion, recursion_from_All}
+use Rattle.std.proofs.lemmas.List.Sorted.{All-permutation, IsPermutation-refl, IsPermutation-sym, IsPermutation-cons, IsPermutation-trans, IsPermutation-middle, IsPermutation-map}
+use Rattle.std.proofs.lemmas.Map.Keys.{IsDistinct-IsPermutation}
+use Rattle.scene_json.specs.Compact.{Member as Pair}
+use Rattle.scene_json.specs.Members.{pairs, pair_of}
+use Rattle.scene_json.specs.declared.text.Member.{Member}
+use Rattle.scene_json.proofs.Collapsed.{names_of}
+use Rattle.scene_json.proofs.Pairs.{names-pairs}
+use Rattle.frac_keys.specs.Keys.{bytes_less}
+use Rattle.frac_keys.specs.Rising.{are_rising, rise_between}
+use Rattle.elem.specs.Facts.{names}
+use Rattle.elem.specs.Texts.{with_member, sorted_members}
+
+-- Each name is less than those after it.
+abbrev pub IsRising : List Pair → Type 0
+IsRising [] = Unit {0}
+IsRising (m ∷ ms) = AllByRecursion (λ (n : Pair). bytes_less m.0 n.0 ≡ true) ms × IsRising ms
+
+-- ---- the order of names
+pub less_is : (o : Ordering) → is_lt o ≡ true → o ≡ Less
+less_is Less h = refl
+less_is Equal h = cc
+less_is Greater h = cc
+
+pub bytes_less-trans : (a b c : List ℕ) → bytes_less a b ≡ true → bytes_less b c ≡ true → bytes_less a c ≡ true
+bytes_less-trans a b c first second =
+    ap is_lt (nat_list_cmp_total.trans a b c (less_is _ first) (less_is _ second))
+
+back : (o : Ordering) → o ≡ Less → is_lt (ordering_reverse o) ≡ false
+back o h = rw h refl
+
+pub bytes_less-asym : (a b : List ℕ) → bytes_less a b ≡ true → bytes_less b a ≡ false
+bytes_less-asym a b h = ap is_lt (nat_list_cmp_total.antisymm b a) ∙ back _ (less_is _ h)
+
+pub bytes_less-same : (a : List ℕ) → bytes_less a a ≡ false
+bytes_less-same a = elim (bytes_less a a) as (λ b. bytes_less a a ≡ b → bytes_less a a ≡ false) [
+  | true ↦ λ h. bytes_less-asym a a h
+  | false ↦ λ h. h
+] refl
+
+turned : (o p : Ordering) → o ≡ ordering_reverse p → is_eq o ≡ false → is_lt p ≡ false → is_lt o ≡ true
+turned o Less e differ above = cc
+turned o Equal e differ above = absurd (false≢true (sym differ ∙ ap is_eq e))
+turned o Greater e differ above = ap is_lt e
+
+-- of two names that differ the one that isn't greater is less
+pub bytes_less-turned : (a b : List ℕ) → bytes_eq a b ≡ false → bytes_less b a ≡ false → bytes_less a b ≡ true
+bytes_less-turned a b differ above =
+    turned (slice_cmp nat_cmp a b) (slice_cmp nat_cmp b a) (nat_list_cmp_total.antisymm a b) (sym (texts_ties a b) ∙ differ) above
+
+-- ---- what holds of each
+pub AllByRecursion-weaker : {X : Type 0} (P Q : X → Type 0) (xs : List X) → ((x : X) → P x → Q x) → AllByRecursion P xs → AllByRecursion Q xs
+AllByRecursion-weaker P Q [] f h = tt
+AllByRecursion-weaker P Q (x ∷ xs) f h = (f x h.0, AllByRecursion-weaker P Q xs f h.1)
+
+AllByRecursion-map : {X Y : Type 0} (f : X → Y) (P : Y → Type 0) (xs : List X) → AllByRecursion P (map f xs) → AllByRecursion (λ x. P (f x)) xs
+AllByRecursion-map f P [] h = tt
+AllByRecursion-map f P (x ∷ xs) h = (h.0, AllByRecursion-map f P xs h.1)
+
+AllByRecursion-with_member : (P : Pair → Type 0) (m : Pair) (ms : List Pair) → P m → AllByRecursion P ms → AllByRecursion P (with_member m ms)
+AllByRecursion-with_member P m [] p h = (p, tt)
+AllByRecursion-with_member P m (n ∷ ns) p h =
+    elim (bytes_less n.0 m.0) as (λ b. AllByRecursion P (if b then n ∷ with_member m ns else m ∷ n ∷ ns)) [
+      | true ↦ (h.0, AllByRecursion-with_member P m ns p h.1)
+      | false ↦ (p, h)
+    ]
+
+AllByRecursion-sorted : (P : Pair → Type 0) (ms : List Pair) → AllByRecursion P ms → AllByRecursion P (sorted_members ms)
+AllByRecursion-sorted P [] h = tt
+AllByRecursion-sorted P (m ∷ ms) h = AllByRecursion-with_member P m (sorted_members ms) h.0 (AllByRecursion-sorted P ms h.1)
+
+-- ---- sorted members rise
+IsRising-with_member : (m : Pair) (ms : List Pair) → AllByRecursion (λ (n : Pair). bytes_eq m.0 n.0 ≡ false) ms → IsRising ms → IsRising (with_member m ms)
+IsRising-with_member m [] apart rise = (tt, tt)
+IsRising-with_member m (n ∷ ns) apart rise =
+    elim (bytes_less n.0 m.0) as (λ b. bytes_less n.0 m.0 ≡ b → IsRising (if b then n ∷ with_member m ns else m ∷ n ∷ ns)) [
+      | true ↦ λ below. (AllByRecursion-with_member _ m ns below rise.0, IsRising-with_member m ns apart.1 rise.1)
+      | false ↦ λ below.
+          let first = bytes_less-turned m.0 n.0 apart.0 below in
+          ((first, AllByRecursion-weaker _ _ ns (λ o above. bytes_less-trans m.0 n.0 o.0 first above) rise.0), rise)
+    ] refl
+
+pub IsRising-sorted : (ms : List Pair) → IsDistinct bytes_eq (names_of ms) → IsRising (sorted_members ms)
+unfolding IsDistinct
+IsRising-sorted [] apart = tt
+IsRising-sorted (m ∷ ms) apart =
+    IsRising-with_member m (sorted_members ms)
+    (AllByRecursion-sorted _ ms (AllByRecursion-map (λ (n : Pair). n.0) (λ y. bytes_eq m.0 y ≡ false) ms apart.0))
+    (IsRising-sorted ms apart.1)
+
+-- ---- sorting only moves members
+IsPermutation-with_member : (m : Pair) (ms : List Pair) → IsPermutation (m ∷ ms) (with_member m ms)
+IsPermutation-with_member m [] = IsPermutation-refl (m ∷ [])
+IsPermutation-with_member m (n ∷ ns) =
+    elim (bytes_less n.0 m.0) as (λ b. IsPermutation (m ∷ n ∷ ns) (if b then n ∷ with_member m ns else m ∷ n ∷ ns)) [
+      | true ↦ IsPermutation-trans _ (n ∷ m ∷ ns) _ (IsPermutation-sym _ _ (IsPermutation-middle (n ∷ []) m ns))
+          (IsPermutation-cons n _ _ (IsPermutation-with_member m ns))
+      | false ↦ IsPermutation-refl (m ∷ n ∷ ns)
+    ]
+
+pub IsPermutation-sorted : (ms : List Pair) → IsPermutation ms (sorted_members ms)
+IsPermutation-sorted [] = IsPermutation-refl []
+IsPermutation-sorted (m ∷ ms) =
+    IsPermutation-trans _ (m ∷ sorted_members ms) _ (IsPermutation-cons m _ _ (IsPermutation-sorted ms)) (IsPermutation-with_member m (sorted_members ms))
+
+-- ---- there is one rising list of some members
+abbrev In : Pair → List Pair → Type 0
+In m [] = ⊥
+In m (n ∷ ns) = (m ≡ n) ⊎ In m ns
+
+all_in : (ms : List Pair) → AllByRecursion (λ (m : Pair). In m ms) ms
+all_in [] = tt
+all_in (m ∷ ms) = (inl refl, AllByRecursion-weaker (λ n. In n ms) (λ n. In n (m ∷ ms)) ms (λ n h. inr h) (all_in ms))
+
+moved_in : (ms ns : List Pair) → IsPermutation ms ns → AllByRecursion (λ (n : Pair). In n ms) ns
+moved_in ms ns h =
+    let P : Pair → Type 0 = λ m. In m ms in
+    recursion_from_All P ns (All-permutation P ms ns h (All-from_recursion P ms (all_in ms)))
+
+at_In : (P : Pair → Type 0) (m : Pair) (ms : List Pair) → In m ms → AllByRecursion P ms → P m
+at_In P m [] i h = absurd i
+at_In P m (n ∷ ns) (inl e) h = subst P (sym e) h.0
+at_In P m (n ∷ ns) (inr i) h = at_In P m ns i h.1
+
+-- what is in a rising list and after its first is in the others
+later_in : (m n : Pair) (ms : List Pair) → bytes_less m.0 n.0 ≡ true → In n (m ∷ ms) → In n ms
+later_in m n ms above (inl e) = absurd (false≢true (sym (bytes_less-same m.0) ∙ ap (λ (o : Pair). bytes_less m.0 o.0) (sym e) ∙ above))
+later_in m n ms above (inr i) = i
+
+first_same : (m n : Pair) (ms ns : List Pair) → IsRising (m ∷ ms) → IsRising (n ∷ ns) → In m (n ∷ ns) → In n (m ∷ ms) → m ≡ n
+first_same m n ms ns rise rise' (inl e) j = e
+first_same m n ms ns rise rise' (inr i) (inl e) = sym e
+first_same m n ms ns rise rise' (inr i) (inr j) =
+    absurd (false≢true (sym (bytes_less-asym n.0 m.0 (at_In (λ o. bytes_less n.0 o.0 ≡ true) m ns i rise'.0)) ∙ at_In (λ o. bytes_less m.0 o.0 ≡ true) n ms j rise.0))
+
+others_in : (m : Pair) (ms ns : List Pair) → AllByRecursion (λ (o : Pair). bytes_less m.0 o.0 ≡ true) ms → AllByRecursion (λ (o : Pair). In o (m ∷ ns)) ms → AllByRecursion (λ (o : Pair). In o ns) ms
+others_in m [] ns above within = tt
+others_in m (o ∷ ms) ns above within = (later_in m o ns above.0 within.0, others_in m ms ns above.1 within.1)
+
+same_in : (ms ns : List Pair) → IsRising ms → IsRising ns → AllByRecursion (λ (m : Pair). In m ns) ms → AllByRecursion (λ (n : Pair). In n ms) ns → ms ≡ ns
+same_in [] [] rise rise' left right = refl
+same_in [] (n ∷ ns) rise rise' left right = absurd right.0
+same_in (m ∷ ms) [] rise rise' left right = absurd left.0
+same_in (m ∷ ms) (n ∷ ns) rise rise' left right =
+    let first = first_same m n ms ns rise rise' left.0 right.0 in
+    let above = subst (λ o. AllByRecursion (λ (p : Pair). bytes_less o.0 p.0 ≡ true) ns) (sym first) rise'.0 in
+    let others = same_in ms ns rise.1 rise'.1
+    (others_in m ms ns rise.0 (subst (λ o. AllByRecursion (λ (p : Pair). In p (o ∷ ns)) ms) (sym first) left.1))
+    (others_in m ns ms above right.1) in
+    λ i. first i ∷ others i
+
+pub same_rising : (ms ns : List Pair) → IsRising ms → IsRising ns → IsPermutation ms ns → ms ≡ ns
+same_rising ms ns rise rise' moved = same_in ms ns rise rise' (moved_in ns ms (IsPermutation-sym _ _ moved)) (moved_in ms ns moved)
+
+-- ---- members by their names alone
+rises : (m : Pair) (ms : List Pair) → AllByRecursion (λ (n : Pair). bytes_less m.0 n.0 ≡ true) ms → IsRising ms → rise_between (Some m.0) None (names_of ms) ≡ true
+rises m [] above rise = refl
+rises m (n ∷ ns) above rise = and_from _ _ above.0 (rises n ns rise.0 rise.1)
+
+pub are_rising-from : (ms : List Pair) → IsRising ms → are_rising (names_of ms) ≡ true
+are_rising-from [] rise = refl
+are_rising-from (m ∷ ms) rise = rises m ms rise.0 rise.1
+
+risen : (m : Pair) (ms : List Pair) → rise_between (Some m.0) None (names_of ms) ≡ true → AllByRecursion (λ (n : Pair). bytes_less m.0 n.0 ≡ true) ms × IsRising ms
+risen m [] h = (tt, tt)
+risen m (n ∷ ns) h =
+    let both = and_parts _ _ h in
+    let others = risen n ns both.1 in
+    ((both.0, AllByRecursion-weaker _ _ ns (λ o above. bytes_less-trans m.0 n.0 o.0 both.0 above) others.0), others)
+
+pub IsRising-from : (ms : List Pair) → are_rising (names_of ms) ≡ true → IsRising ms
+IsRising-from [] h = tt
+IsRising-from (m ∷ ms) h = risen m ms h
+
+-- ---- members that a sort gave
+IsSortedBy-tail : {X : Type 0} (lt : X → X → Bool) (x y : X) (xs : List X) → IsSortedBy lt (x ∷ y ∷ xs) → IsSortedBy lt (y ∷ xs)
+IsSortedBy-tail lt x y xs up k d low high =
+    let next : suc k + 1 ≡ suc (k + 1) = omega arith in
+    let met = up (suc k) d (omega arith) (omega arith) in
+    rw next at met
+
+pub IsRising-from_sort : (vs : List Member) → IsSortedBy (λ (a : Member) (b : Member). bytes_less a.name b.name) vs → IsDistinct bytes_eq (names vs) → IsRising (pairs vs)
+unfolding IsDistinct
+IsRising-from_sort [] up apart = tt
+IsRising-from_sort (v ∷ []) up apart = (tt, tt)
+IsRising-from_sort (v ∷ w ∷ vs) up apart =
+    let first = bytes_less-turned v.name w.name apart.0.0 (up 0 v (omega arith) (omega arith)) in
+    let others = IsRising-from_sort (w ∷ vs) (IsSortedBy-tail (λ a b. bytes_less a.name b.name) v w vs up) apart.1 in
+    ((first, AllByRecursion-weaker _ _ (pairs vs) (λ o above. bytes_less-trans v.name w.name o.0 first above) others.0), others)
+
+-- a sort gives the sorted members
+pub sorted_members-from_sort : (vs ws : List Member) → IsPermutation vs ws → IsSortedBy (λ (a : Member) (b : Member). bytes_less a.name b.name) ws → IsDistinct bytes_eq (names vs) → pairs ws ≡ sorted_members (pairs vs)
+sorted_members-from_sort vs ws moved up apart =
+    let still = IsDistinct-IsPermutation bytes_eq nat_list_eq_equiv.symm (names vs) (names ws) (IsPermutation-map (λ (v : Member). v.name) vs ws moved) apart in
+    let paired = subst (IsDistinct bytes_eq) (sym (names-pairs vs)) apart in
+    same_rising (pairs ws) (sorted_members (pairs vs)) (IsRising-from_sort ws up still) (IsRising-sorted (pairs vs) paired)
+    (IsPermutation-trans _ (pairs vs) _ (IsPermutation-sym _ _ (IsPermutation-map pair_of vs ws moved)) (IsPermutation-sorted (pairs vs)))

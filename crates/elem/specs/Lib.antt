@@ -1,0 +1,4 @@
+pub mod Drawn
+pub mod Facts
+pub mod Order
+pub mod Texts

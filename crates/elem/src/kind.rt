@@ -1,0 +1,57 @@
+//! What an element is, and what a listing entry is for.
+
+ghost use Rattle.std.specs.Prelude.{◌≡◌, IfOk};
+
+use scene_json::Text;
+use std::alloc::AllocError;
+
+/// What an element is.
+#[derive(Drop)]
+pub enum Kind {
+    Rectangle,
+    Diamond,
+    Ellipse,
+    Arrow,
+    Line,
+    Freedraw,
+    Text,
+    Image,
+    Frame,
+    Magicframe,
+    Iframe,
+    Embeddable,
+    /// Any other type, by its name.
+    Other(Text),
+}
+
+/// What a listing entry is for.
+#[derive(Clone, Copy, Debug, PartialEq, Eq)]
+pub enum Role {
+    /// An arrow, an end of which is bound to the element.
+    Arrow,
+    /// A text that stands in the element.
+    Text,
+}
+
+impl Kind {
+    /// An equal kind.
+    pub fn try_clone(&self) -> Result<Kind, AllocError>
+        ensures { IfOk result (λ copy. copy ≡ self.now) }
+    {
+        Ok(match self {
+            Kind::Rectangle => Kind::Rectangle,
+            Kind::Diamond => Kind::Diamond,
+            Kind::Ellipse => Kind::Ellipse,
+            Kind::Arrow => Kind::Arrow,
+            Kind::Line => Kind::Line,
+            Kind::Freedraw => Kind::Freedraw,
+            Kind::Text => Kind::Text,
+            Kind::Image => Kind::Image,
+            Kind::Frame => Kind::Frame,
+            Kind::Magicframe => Kind::Magicframe,
+            Kind::Iframe => Kind::Iframe,
+            Kind::Embeddable => Kind::Embeddable,
+            Kind::Other(name) => Kind::Other(name.try_clone()?),
+        })
+    }
+}

@@ -1,0 +1,18 @@
+//! Elements of a board: what a scene holds.
+#![tactic(auto)]
+
+mod compare;
+mod element;
+mod kind;
+mod order;
+mod parts;
+mod raw;
+#[cfg(test)]
+mod tests;
+mod values;
+
+pub use element::Element;
+pub use kind::{Kind, Role};
+pub use order::{beats, same, same_but_stamp};
+pub use parts::{Binding, BoundRef};
+pub use raw::element_raw;

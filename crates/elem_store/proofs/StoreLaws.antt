@@ -1,0 +1,115 @@
+-- What holds of a store of a list of updates.
+use Rattle.std.proofs.Common.{◌≡◌, ℕ, Bool, true, false, cond, ◌&&◌, List, [], ◌∷◌, ◌++◌, Option, Some, None, is_some, Contains, refl, sym, ap, ap₂, ◌∙◌, subst, inl, inr}
+use Rattle.std.specs.List.{list_any}
+use Rattle.std.specs.Option.{option_map_or}
+use Rattle.std.proofs.lemmas.Bool.{cases_Bool, cond-true, cond-false, false_from_ne_true}
+use Rattle.frac_keys.specs.Rising.{are_rising}
+use Rattle.elem.specs.Drawn.{Drawn}
+use Rattle.elem.specs.Order.{beats}
+use Rattle.elem_store.specs.Updates.{is_of, best_updates, stored_of, element_of, is_taken, ids_of, AreStored, HasTaken, IsFreeOfClashes, HaveSameUpdates}
+use Rattle.elem_store.proofs.Ids.{same_id, of_itself}
+use Rattle.elem_store.proofs.Lists.{find-Some, find-None}
+use Rattle.elem_store.proofs.Leader.{next_leader, joined_leader, stored-push, stored-append}
+use Rattle.elem_store.proofs.BestUpdates.{IsBestOf, IsBestOf-stored, IsBestOf-best, stored-best, best-same, is_some-stored, stored-None}
+use Rattle.elem_store.proofs.Rising.{member, same_elements}
+
+-- a list of updates has one store
+pub store-unique : (updates elements others : List Drawn) → AreStored updates elements → AreStored updates others → elements ≡ others
+store-unique updates elements others h k =
+    same_elements elements others h.ordered k.ordered (λ id. h.each id ∙ sym (k.each id))
+
+-- what a store answers of an id after it was given an update of that id
+next : (e : Drawn) (o : Option Drawn) → cond (option_map_or (beats e) o true) (Some e) o ≡ Some (next_leader e o)
+next e None = refl
+next e (Some old) = elim (beats e old) as (λ b. cond b (Some e) (Some old) ≡ Some (cond b e old)) [ true ↦ refl | false ↦ refl ]
+
+-- a store that was given an update is the store of the list with the update at its end
+pub AreStored-push : (updates elements new : List Drawn) (e : Drawn) → AreStored updates elements → HasTaken elements e new → AreStored (updates ++ e ∷ []) new
+AreStored-push updates elements new e h t = record {
+  ordered = t.ordered;
+  each = λ id. t.each id ∙ sym (stored-push updates e id ∙ pushed id);
+}
+  where
+    pushed : (id : List ℕ) → cond (is_of id e) (Some (next_leader e (stored_of updates id))) (stored_of updates id) ≡ cond (is_of id e && is_taken elements e) (Some e) (element_of elements id)
+    pushed id =
+        let given = λ (b : Bool). cond (b && is_taken elements e) (Some e) (element_of elements id) in
+        elim (cases_Bool (is_of id e)) [
+          | inl t ↦ cond-true (is_of id e) (Some (next_leader e (stored_of updates id))) (stored_of updates id) t
+              ∙ ap (λ o. Some (next_leader e o)) (sym (h.each id))
+              ∙ sym (ap given t ∙ subst (λ i. cond (option_map_or (beats e) (element_of elements i) true) (Some e) (element_of elements id) ≡ Some (next_leader e (element_of elements id))) (same_id id e t) (next e (element_of elements id)))
+          | inr f ↦ cond-false (is_of id e) (Some (next_leader e (stored_of updates id))) (stored_of updates id) f
+              ∙ sym (h.each id) ∙ sym (ap given f)
+        ]
+
+-- an element of a store is the stored element of its id
+pub AreStored-stored : (updates elements : List Drawn) (e : Drawn) → AreStored updates elements → Contains elements e → stored_of updates e.id ≡ Some e
+AreStored-stored updates elements e h c = sym (h.each e.id) ∙ member None None elements e h.ordered c
+
+-- so it is one of the best updates of its id
+pub AreStored-best : (updates elements : List Drawn) (e : Drawn) → AreStored updates elements → Contains elements e → Contains (best_updates updates e.id) e
+AreStored-best updates elements e h c = stored-best updates e.id e (AreStored-stored updates elements e h c)
+
+-- a store has an element of an id exactly if an update has it
+pub AreStored-ids : (updates elements : List Drawn) (id : List ℕ) → AreStored updates elements → is_some (element_of elements id) ≡ list_any (is_of id) updates
+AreStored-ids updates elements id h = ap is_some (h.each id) ∙ is_some-stored updates id
+
+-- without a clash all best updates of an id are the same
+pub bests-same : (updates : List Drawn) (id : List ℕ) (e other : Drawn) → IsFreeOfClashes updates → Contains (best_updates updates id) e → Contains (best_updates updates id) other → e ≡ other
+bests-same updates id e other free c d =
+    best-same updates id e other free (IsBestOf-best updates id e c) (IsBestOf-best updates id other d)
+
+-- a best update is one in each list of the same updates
+same-best : (updates others : List Drawn) (id : List ℕ) (e : Drawn) → HaveSameUpdates updates others → IsBestOf others id e → IsBestOf updates id e
+same-best updates others id e same best = record {
+  taken = same.back e best.taken;
+  named = best.named;
+  unbeaten = λ other c of. best.unbeaten other (same.to other c) of;
+}
+
+same-stored : (updates others : List Drawn) (id : List ℕ) (o o' : Option Drawn) → HaveSameUpdates updates others → IsFreeOfClashes updates → stored_of updates id ≡ o → stored_of others id ≡ o' → o ≡ o'
+same-stored updates others id None None same free h k = refl
+same-stored updates others id (Some e) None same free h k =
+    let best = IsBestOf-stored updates id e h in absurd (stored-None others id e k (same.to e best.taken) best.named)
+same-stored updates others id None (Some e) same free h k =
+    let best = IsBestOf-stored others id e k in absurd (stored-None updates id e h (same.back e best.taken) best.named)
+same-stored updates others id (Some e) (Some f) same free h k =
+    ap Some (best-same updates id e f free (IsBestOf-stored updates id e h) (same-best updates others id f same (IsBestOf-stored others id f k)))
+
+-- two lists of the same updates, free of clashes, have one store
+pub stores-converge : (updates others elements news : List Drawn) → HaveSameUpdates updates others → IsFreeOfClashes updates → AreStored updates elements → AreStored others news → elements ≡ news
+stores-converge updates others elements news same free h k =
+    same_elements elements news h.ordered k.ordered (λ id.
+    h.each id ∙ same-stored updates others id (stored_of updates id) (stored_of others id) same free refl refl ∙ sym (k.each id))
+
+-- a list in which the ids rise is its own store
+pub AreStored-itself : (elements : List Drawn) → are_rising (ids_of elements) ≡ true → AreStored elements elements
+AreStored-itself elements h = record { ordered = h; each = λ id. own id (stored_of elements id) refl }
+  where
+    own : (id : List ℕ) (o : Option Drawn) → stored_of elements id ≡ o → element_of elements id ≡ stored_of elements id
+    own id None k = find-None (is_of id) elements (λ e c. false_from_ne_true (is_of id e) (stored-None elements id e k c)) ∙ sym k
+    own id (Some e) k =
+        let best = IsBestOf-stored elements id e k in
+        ap (element_of elements) (same_id id e best.named) ∙ member None None elements e h best.taken ∙ sym k
+
+-- the store of two stores' elements is the store of their updates
+pub AreStored-append : (updates others elements news all : List Drawn) → AreStored updates elements → AreStored others news → AreStored (elements ++ news) all → AreStored (updates ++ others) all
+AreStored-append updates others elements news all h k m = record { ordered = m.ordered; each = each }
+  where
+    own : (updates elements : List Drawn) (id : List ℕ) → AreStored updates elements → stored_of elements id ≡ stored_of updates id
+    own updates elements id h = sym ((AreStored-itself elements h.ordered).each id) ∙ h.each id
+
+    each : (id : List ℕ) → element_of all id ≡ stored_of (updates ++ others) id
+    each id =
+        m.each id ∙ stored-append elements news id ∙ ap₂ joined_leader (own updates elements id h) (own others news id k)
+        ∙ sym (stored-append updates others id)
+
+-- where no two updates of one id differ each update is stored
+pub AreStored-all : (updates elements : List Drawn) (e : Drawn) → AreStored updates elements → ((e other : Drawn) → Contains updates e → Contains updates other → e.id ≡ other.id → e ≡ other) → Contains updates e → Contains elements e
+AreStored-all updates elements e h one c = stored (stored_of updates e.id) refl
+  where
+    stored : (o : Option Drawn) → stored_of updates e.id ≡ o → Contains elements e
+    stored None k = absurd (stored-None updates e.id e k c (of_itself e))
+    stored (Some x) k =
+        let best = IsBestOf-stored updates e.id x k in
+        let same = one e x c best.taken (same_id e.id x best.named) in
+        subst (Contains elements) (sym same) (find-Some (is_of e.id) elements x (h.each e.id ∙ k)).0

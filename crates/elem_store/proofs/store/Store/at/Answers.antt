@@ -1,0 +1,20 @@
+-- The element at the place that was read, if there is one.
+use Rattle.std.proofs.Common.{◌≤◌, length, slice_get, sym, ap, ◌∙◌, arith}
+use Rattle.std.proofs.lemmas.Option.{slice_get_past}
+use Rattle.elem_store.proofs.Placed.{length-at, get-read}
+use Rattle.elem_store.proofs.store.Store.at.Goals as goal
+
+pub returns-in_err-place : goal.returns-in_err-place
+returns-in_err-place c =
+    let s = c.self.inside in
+    let count = sym (length-at s.elements.items s.places.items c.self.invariant.within) ∙ ap length c.self.view_is in
+    let past : length c.args.self.now ≤ c.args.i = omega (arith, count, c.deref.ensures.len, s.places.ok.0, c.in_err-place.ensures.lookup.3) in
+    rw c.from_residual.ensures (sym (slice_get_past c.args.self.now c.args.i past))
+
+pub returns : goal.returns
+returns c =
+    let s = c.self.inside in
+    let read = c.in_ok-place.ensures.lookup in
+    get-read s.elements.items s.places.items c.args.i c.in_ok-place.field-0.now c.index.result.now c.self.invariant.within
+    (rw c.deref.ensures.value at read.3.0) (rw c.deref.ensures.value at read.1) c.index.ensures
+    ∙ ap (λ xs. slice_get xs c.args.i) c.self.view_is

@@ -1,0 +1,65 @@
+-- What is stored of a list of updates. Source: Excalidraw's reconcile; that among equal bests the first counts is this
+-- project's own.
+use Rattle.std.specs.Prelude.{◌≡◌, ℕ, List, Bool, true, not, ◌&&◌, ◌==◌, Option, Some, Contains, find, filter, map, bytes_eq, if◌then◌else◌}
+use Rattle.std.specs.List.{list_any}
+use Rattle.std.specs.Option.{option_map_or}
+use Rattle.frac_keys.specs.Rising.{are_rising}
+use Rattle.elem.specs.Drawn.{Drawn}
+use Rattle.elem.specs.Order.{beats}
+
+-- whether an element is of this id
+abbrev pub is_of : List ℕ → Drawn → Bool
+is_of id e = bytes_eq id e.id
+
+-- no update of the element's id in the list beats it
+abbrev pub is_unbeaten : List Drawn → Drawn → Bool
+is_unbeaten updates e = not (list_any (λ other. is_of e.id other && beats other e) updates)
+
+-- whether an element is of the id and unbeaten
+abbrev pub is_best : List Drawn → List ℕ → Drawn → Bool
+is_best updates id e = is_of id e && is_unbeaten updates e
+
+-- the best updates of an id: those that no update of the list beats
+abbrev pub best_updates : List Drawn → List ℕ → List Drawn
+best_updates updates id = filter (is_best updates id) updates
+
+-- the stored element of an id: the first of its best updates in the list's order
+unfoldable pub stored_of : List Drawn → List ℕ → Option Drawn
+stored_of updates id = find (is_best updates id) updates
+
+-- the element of this id in a list
+abbrev pub element_of : List Drawn → List ℕ → Option Drawn
+element_of elements id = find (is_of id) elements
+
+-- whether a store of these elements takes an update: its id is new, or it beats the stored element
+abbrev pub is_taken : List Drawn → Drawn → Bool
+is_taken elements e = option_map_or (beats e) (element_of elements e.id) true
+
+-- the ids of elements
+abbrev pub ids_of : List Drawn → List (List ℕ)
+ids_of elements = map (λ (e : Drawn). e.id) elements
+
+-- These are the stored elements of the updates, one for each id, in the order of the ids.
+pub record AreStored (updates elements : List Drawn) : Type 0 where
+  pub ordered : are_rising (ids_of elements) ≡ true
+  pub each : (id : List ℕ) → element_of elements id ≡ stored_of updates id
+
+-- These are the elements after a store of the old ones was given an update: where it is taken it is the element of its
+-- id, and the others stay.
+pub record HasTaken (old : List Drawn) (e : Drawn) (new : List Drawn) : Type 0 where
+  pub ordered : are_rising (ids_of new) ≡ true
+  pub each : (id : List ℕ) → element_of new id ≡ (if is_of id e && is_taken old e then Some e else element_of old id)
+
+-- whether the ids, versions and nonces of two updates agree
+abbrev pub have_one_stamp : Drawn → Drawn → Bool
+have_one_stamp e other = bytes_eq e.id other.id && (e.version == other.version && e.nonce == other.nonce)
+
+-- Two updates clash where their id, version and nonce agree and they aren't the same; none do.
+abbrev pub IsFreeOfClashes : List Drawn → Type 0
+IsFreeOfClashes updates =
+    (e other : Drawn) → Contains updates e → Contains updates other → have_one_stamp e other ≡ true → e ≡ other
+
+-- Each update of the one list is in the other one: order and repeats don't count.
+pub record HaveSameUpdates (updates others : List Drawn) : Type 0 where
+  pub to : (e : Drawn) → Contains updates e → Contains others e
+  pub back : (e : Drawn) → Contains others e → Contains updates e

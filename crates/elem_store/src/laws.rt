@@ -1,0 +1,66 @@
+//! Laws on stores, for all lists of updates. They do nothing when they run.
+
+ghost use Rattle.std.specs.Prelude.{◌≡◌, ℕ, List, [], ◌∷◌, ◌++◌, true, is_some, Contains};
+ghost use Rattle.std.specs.List.{list_any};
+ghost use Rattle.frac_keys.specs.Rising.{are_rising};
+ghost use Rattle.elem.specs.Drawn.{Drawn};
+ghost use Rattle.elem_store.specs.Updates.{is_of, best_updates, element_of, ids_of, AreStored, HasTaken, IsFreeOfClashes, HaveSameUpdates};
+
+/// The store of no updates has no element.
+pub fn empty_is_stored()
+    ensures { AreStored [] [] }
+{}
+
+/// A list of updates has one store.
+pub fn store_is_unique()
+    ensures { (updates elements others : List Drawn)
+        → AreStored updates elements → AreStored updates others → elements ≡ others }
+{}
+
+/// A store that was given an update is the store of the list with this update at its end.
+pub fn update_is_stored()
+    ensures { (updates elements new : List Drawn) (e : Drawn)
+        → AreStored updates elements → HasTaken elements e new → AreStored (updates ++ e ∷ []) new }
+{}
+
+/// A stored element is one of the best updates of its id, and an id has one exactly if an update has it.
+pub fn best_is_stored()
+    ensures best { (updates elements : List Drawn) (e : Drawn)
+        → AreStored updates elements → Contains elements e → Contains (best_updates updates e.id) e }
+    ensures each_id { (updates elements : List Drawn) (id : List ℕ)
+        → AreStored updates elements → is_some (element_of elements id) ≡ list_any (is_of id) updates }
+{}
+
+/// Where no updates clash all best updates of an id are the same.
+pub fn best_is_unique()
+    ensures { (updates : List Drawn) (id : List ℕ) (e other : Drawn)
+        → IsFreeOfClashes updates → Contains (best_updates updates id) e
+        → Contains (best_updates updates id) other → e ≡ other }
+{}
+
+/// The order and the repeats of updates don't count where none clash.
+pub fn stores_converge()
+    ensures { (updates others elements news : List Drawn)
+        → HaveSameUpdates updates others → IsFreeOfClashes updates
+        → AreStored updates elements → AreStored others news → elements ≡ news }
+{}
+
+/// Their grouping doesn't count: what is stored of two stores' elements is what is stored of their updates.
+pub fn stores_join()
+    ensures { (updates others elements news all : List Drawn)
+        → AreStored updates elements → AreStored others news
+        → AreStored (elements ++ news) all → AreStored (updates ++ others) all }
+{}
+
+/// Elements whose ids rise are their own store.
+pub fn store_is_stored()
+    ensures { (elements : List Drawn) → are_rising (ids_of elements) ≡ true → AreStored elements elements }
+{}
+
+/// Where no two updates of one id differ, all updates are stored.
+pub fn distinct_are_stored()
+    ensures { (updates elements : List Drawn) (e : Drawn)
+        → AreStored updates elements
+        → ((e other : Drawn) → Contains updates e → Contains updates other → e.id ≡ other.id → e ≡ other)
+        → Contains updates e → Contains elements e }
+{}

@@ -1,0 +1,75 @@
+//! Elements as they came, and their places in the order of their ids.
+
+ghost use Rattle.std.specs.Prelude.{◌≡◌, ◌<◌, ◌≤◌, [], ◌∷◌, ◌++◌, length, insert, slice_get, slice_index_or, slice_set, if◌then◌else◌, IfOk, IfErr, OnOk};
+ghost use Rattle.std.specs.Option.{option_map_or};
+ghost use Rattle.std.specs.Ordering.{nat_cmp};
+ghost use Rattle.std.specs.Cmp.Lexicographic.{slice_cmp};
+ghost use Rattle.elem.specs.Order as order;
+ghost use Rattle.elem_store.specs.Places.{elements_at, AreInOrder, IsAt, IsGapFor};
+
+use elem::{Element, beats};
+use scene_json::Text;
+use std::alloc::AllocError;
+use std::cmp::Ordering;
+
+/// The index of the place at which the element of this id is, or the index that its place would have.
+pub(crate) fn find_place(
+    elements: &Vec<Element>,
+    places: &Vec<usize>,
+    id: &Text,
+) -> Result<usize, usize>
+    requires { AreInOrder elements.now.items places.now.items }
+    ensures found { IfOk result (IsAt (elements_at elements.now.items places.now.items) id.now) }
+    ensures absent { IfErr result (IsGapFor (elements_at elements.now.items places.now.items) id.now) }
+{
+    places.binary_search_by(|place| id_order(elements, *place, id))
+}
+
+/// How the id of the element at a place compares with another id. All places that are searched have an element.
+fn id_order(elements: &Vec<Element>, place: usize, id: &Text) -> Ordering
+    ensures { result ≡ option_map_or (λ e. slice_cmp nat_cmp e.id id.now) (slice_get elements.now.items place) Ordering.Less }
+{
+    match elements.get(place) {
+        Some(e) => e.id.as_bytes().cmp(id.as_bytes()),
+        None => Ordering::Less,
+    }
+}
+
+/// Puts the element at this place if it beats the one there, and tells whether it does.
+pub(crate) fn replace_beaten(elements: &mut Vec<Element>, place: usize, e: Element) -> bool
+    requires { place < length elements.old.items }
+    ensures beaten { result ≡ order.beats e (slice_index_or elements.old.items place e) }
+    ensures items { elements.new.items ≡ (if result then slice_set elements.old.items place e else elements.old.items) }
+{
+    let old = &elements[place];
+    let beaten = beats(&e, old);
+    if beaten {
+        elements[place] = e;
+    }
+    beaten
+}
+
+/// Adds the element, its place at this index, or hands it back for want of memory; nothing is then changed.
+pub(crate) fn add(
+    elements: &mut Vec<Element>,
+    places: &mut Vec<usize>,
+    i: usize,
+    e: Element,
+) -> Result<(), (Element, AllocError)>
+    requires { i ≤ length places.old.items }
+    ensures elements { OnOk result (elements.new.items ≡ elements.old.items ++ e ∷ []) }
+    ensures places { OnOk result (places.new.items ≡ insert places.old.items i (length elements.old.items)) }
+    ensures err { IfErr result (λ back. (elements.new.items ≡ elements.old.items) × (places.new.items ≡ places.old.items) × (back.0 ≡ e)) }
+{
+    if let Err(error) = places.reserve(1) {
+        return Err((e, error));
+    }
+    let place = elements.len();
+    if let Err(failed) = elements.push(e) {
+        return Err((failed.value, AllocError));
+    }
+    match places.insert(i, place) {
+        Ok(()) => Ok(()),
+        Err(_) => unreachable!(),
+    }
+}

@@ -1,0 +1,93 @@
+//! A store.
+
+ghost use Rattle.std.specs.Prelude.{◌≡◌, List, [], ◌∷◌, ◌++◌, true, length, slice_get, option_copied, IsSome, IsOk, IfOk, IfErr, OnOk, Ok, false};
+ghost use Rattle.frac_keys.specs.Rising.{are_rising};
+ghost use Rattle.elem.specs.Drawn.{Drawn};
+ghost use Rattle.elem_store.specs.Updates.{AreStored, HasTaken, element_of, ids_of, is_taken};
+
+use crate::places::{add, find_place, replace_beaten};
+use elem::Element;
+use scene_json::Text;
+use std::alloc::{AllocError, Global};
+use std::marker::Model;
+
+/// The stored elements of a board, one for each id, in the order of the ids.
+///
+/// They are kept as they came, beside their places in the order of their ids: a new element moves places alone.
+#[derive(Drop)]
+pub struct Store {
+    elements: Vec<Element>,
+    places: Vec<usize>,
+}
+
+impl Model for Store {
+    ghost use Rattle.std.specs.Prelude.{List};
+    ghost use Rattle.elem.specs.Drawn.{Drawn};
+    ghost use Rattle.elem_store.specs.Places.{elements_at, AreInOrder};
+
+    ghost Value = { List Drawn };
+
+    ghost view = { λ s. elements_at s.elements.items s.places.items };
+
+    ghost invariant = { λ s. AreInOrder s.elements.items s.places.items };
+}
+
+impl Store {
+    /// With no element.
+    pub fn new(alloc: Global) -> Store
+        ensures { result ≡ [] }
+    {
+        Store {
+            elements: Vec::new(alloc),
+            places: Vec::new(alloc),
+        }
+    }
+
+    /// Stores the element where its id is new or it beats the stored one, and tells whether it did. For want of memory
+    /// it hands the element back, and the store is unchanged. It takes no memory where the id is stored.
+    pub fn take(&mut self, e: Element) -> Result<bool, (Element, AllocError)>
+        // What is stored of a list of updates is then stored of the list with this one at its end.
+        ensures stored { OnOk result ((updates : List Drawn) → AreStored updates self.old → AreStored (updates ++ e ∷ []) self.new) }
+
+        ensures after { OnOk result (HasTaken self.old e self.new) }
+        ensures taken { IfOk result (λ taken. taken ≡ is_taken self.old e) }
+        ensures left { result ≡ Ok false → self.new ≡ self.old }
+
+        ensures err { IfErr result (λ back. (self.new ≡ self.old) × (back.0 ≡ e)) }
+        ensures known { IsSome (element_of self.old e.id) → IsOk result }
+    {
+        match find_place(&self.elements, &self.places, &e.id) {
+            Ok(i) => Ok(replace_beaten(&mut self.elements, self.places[i], e)),
+            Err(i) => {
+                add(&mut self.elements, &mut self.places, i, e)?;
+                Ok(true)
+            }
+        }
+    }
+
+    /// The stored element of this id. It takes no memory.
+    pub fn get(&self, id: &Text) -> Option<&Element>
+        ensures { option_copied result ≡ element_of self.now id.now }
+    {
+        match find_place(&self.elements, &self.places, id) {
+            Ok(i) => self.at(i),
+            Err(_) => None,
+        }
+    }
+
+    /// The stored element at this index, in the order of the ids. It takes no memory.
+    pub fn at(&self, i: usize) -> Option<&Element>
+        ensures { option_copied result ≡ slice_get self.now i }
+    {
+        let place = *self.places.get(i)?;
+        Some(&self.elements[place])
+    }
+
+    /// How many elements are stored.
+    pub fn len(&self) -> usize
+        ensures count { result ≡ length self.now }
+        ensures ordered { are_rising (ids_of self.now) ≡ true }
+    {
+        self.places.len()
+    }
+}

@@ -1,0 +1,241 @@
+-- What is shown: the live elements in scene order, with rising keys; and the view of a view is that view.
+use Rattle.std.proofs.Common.{◌≡◌, ℕ, zero, suc, ◌+◌, ◌<◌, Bool, true, false, ◌&&◌, cond, List, [], ◌∷◌, ◌++◌, length, map, get_or, take, append-nil, Option, Some, None, bytes_eq, refl, sym, ap, ap₂, ◌∙◌, subst, subst₂, arith}
+use Rattle.std.proofs.lemmas.List.{length-map}
+use Rattle.std.specs.Prelude.{filter, slice_get}
+use Rattle.std.specs.List.{zip}
+use Rattle.std.specs.List.{AllByRecursion, IsDistinct, list_all}
+use Rattle.std.specs.List.Sorted.{IsPermutation}
+use Rattle.std.specs.Cmp.Lexicographic.{nat_list_eq_equiv}
+use Rattle.std.proofs.lemmas.Bool.{and_from, and_parts, or_left, cond-true, cond-false, cond_both, false_from_ne_true}
+use Rattle.std.proofs.lemmas.Slice.Eq.{bytes_eq-Decides}
+use Rattle.std.proofs.lemmas.List.Elements.{All-from_recursion, filter_more, filter_passes}
+use Rattle.std.proofs.lemmas.Option.{get_or_from_slice_get, slice_get_within}
+use Rattle.std.proofs.lemmas.List.Kept.{AllPairs-cons}
+use Rattle.std.proofs.lemmas.Map.Keys.{IsDistinct-IsPermutation}
+use Rattle.std.proofs.lemmas.List.Sums.{AllPass-from_list_all, list_all-from_AllPass}
+use Rattle.std.proofs.lemmas.List.Sorted.{IsPermutation-refl, IsPermutation-sym, IsPermutation-map, All-permutation}
+use Rattle.frac_keys.specs.Keys.{bytes_less}
+use Rattle.frac_keys.specs.Rising.{ends_rise, lies_between, rise_between, are_rising}
+use Rattle.frac_keys.proofs.KeysLaws.{AreBetween, lies_between-risen, rise_between-ends}
+use Rattle.index_repair.specs.Repair.{repaired, is_key_or_none}
+use Rattle.index_repair.proofs.RepairLaws.{repaired-law, repaired-rising}
+use Rattle.elem.specs.Drawn.{Drawn}
+use Rattle.elem_store.specs.Updates.{ids_of}
+use Rattle.elem_store.proofs.Rising.{less-other}
+use Rattle.view.specs.Shown.{is_live, live_elements, place_less, comes_before, in_scene_order, AreInSceneOrder, IsSceneOrder, HaveDistinctIds, index_of, keyed, shown, HaveKeysOrNone, HaveRisingKeys, without_index, with_index, IsView}
+use Rattle.view.proofs.SceneOrder.{IsPermutation-in_scene_order, in_scene_order-only, in_scene_order-permuted, in_scene_order-is}
+
+-- ---- ids that rise
+rise_from_below : (low : Option (List ℕ)) (key : List ℕ) (keys : List (List ℕ)) → ends_rise low (Some key) ≡ true → rise_between (Some key) None keys ≡ true → rise_between low None keys ≡ true
+rise_from_below None key [] h l = refl
+rise_from_below (Some low) key [] h l = refl
+rise_from_below low key (next ∷ keys) h l =
+    let p = and_parts (bytes_less key next) (rise_between (Some next) None keys) l in
+    let first = rise_between-ends low (Some next) (key ∷ []) (and_from (ends_rise low (Some key)) (bytes_less key next) h p.0) in
+    and_from (ends_rise low (Some next)) (rise_between (Some next) None keys) first p.1
+
+filter_rises : (low : Option (List ℕ)) (p : Drawn → Bool) (es : List Drawn) → rise_between low None (ids_of es) ≡ true → rise_between low None (ids_of (filter p es)) ≡ true
+filter_rises low p [] h = h
+filter_rises low p (e ∷ es) h =
+    let both = and_parts (ends_rise low (Some e.id)) (rise_between (Some e.id) None (ids_of es)) h in
+    cond_both (p e) (e ∷ filter p es) (filter p es) (λ kept. rise_between low None (ids_of kept) ≡ true)
+    (λ _. and_from (ends_rise low (Some e.id)) (rise_between (Some e.id) None (ids_of (filter p es))) both.0 (filter_rises (Some e.id) p es both.1))
+    (λ _. filter_rises low p es (rise_from_below low e.id (ids_of es) both.0 both.1))
+
+pub live_elements-rise : (stored : List Drawn) → are_rising (ids_of stored) ≡ true → are_rising (ids_of (live_elements stored)) ≡ true
+live_elements-rise stored h = filter_rises None is_live stored h
+
+apart_from_below : (key : List ℕ) (keys : List (List ℕ)) → list_all (lies_between (Some key) None) keys ≡ true → AllByRecursion (λ other. bytes_eq key other ≡ false) keys
+apart_from_below key [] h = tt
+apart_from_below key (other ∷ keys) h =
+    let p = and_parts (lies_between (Some key) None other) (list_all (lies_between (Some key) None) keys) h in
+    let less = (and_parts (bytes_less key other) true p.0).0 in
+    (false_from_ne_true (bytes_eq key other) (λ same. less-other key other less ((bytes_eq-Decides key other).0 same)), apart_from_below key keys p.1)
+
+distinct_from_rising : (low : Option (List ℕ)) (keys : List (List ℕ)) → rise_between low None keys ≡ true → IsDistinct bytes_eq keys
+unfolding IsDistinct
+distinct_from_rising low [] h = tt
+distinct_from_rising low (key ∷ keys) h =
+    let p = and_parts (ends_rise low (Some key)) (rise_between (Some key) None keys) h in
+    (apart_from_below key keys (lies_between-risen (Some key) None keys p.1), distinct_from_rising (Some key) keys p.1)
+
+pub HaveDistinctIds-rising : (es : List Drawn) → are_rising (ids_of es) ≡ true → HaveDistinctIds es
+HaveDistinctIds-rising es h = distinct_from_rising None (ids_of es) h
+
+-- ---- elements with new keys
+ids_of-keyed : (es : List Drawn) (keys : List (List ℕ)) → length keys ≡ length es → ids_of (keyed es keys) ≡ ids_of es
+ids_of-keyed [] keys h = refl
+ids_of-keyed (e ∷ es) [] h = absurd (omega arith)
+ids_of-keyed (e ∷ es) (key ∷ keys) h = ap (λ ids. e.id ∷ ids) (ids_of-keyed es keys (omega arith))
+
+indices-keyed : (es : List Drawn) (keys : List (List ℕ)) → length keys ≡ length es → map index_of (keyed es keys) ≡ map Some keys
+indices-keyed [] [] h = refl
+indices-keyed [] (key ∷ keys) h = absurd (omega arith)
+indices-keyed (e ∷ es) [] h = absurd (omega arith)
+indices-keyed (e ∷ es) (key ∷ keys) h = ap (λ indices. Some key ∷ indices) (indices-keyed es keys (omega arith))
+
+others-keyed : (es : List Drawn) (keys : List (List ℕ)) → length keys ≡ length es → map without_index (keyed es keys) ≡ map without_index es
+others-keyed [] keys h = refl
+others-keyed (e ∷ es) [] h = absurd (omega arith)
+others-keyed (e ∷ es) (key ∷ keys) h = ap (λ others. without_index e ∷ others) (others-keyed es keys (omega arith))
+
+live-keyed : (es : List Drawn) (keys : List (List ℕ)) → list_all is_live es ≡ true → list_all is_live (keyed es keys) ≡ true
+live-keyed [] keys h = refl
+live-keyed (e ∷ es) [] h = refl
+live-keyed (e ∷ es) (key ∷ keys) h =
+    let p = and_parts (is_live e) (list_all is_live es) h in
+    and_from (is_live e) (list_all is_live (keyed es keys)) p.0 (live-keyed es keys p.1)
+
+-- the keys that elements have already change nothing
+with_own_key : (e : Drawn) (key : List ℕ) → e.index ≡ Some key → record e { index = Some key } ≡ e
+with_own_key e key h = ap (λ index. record e { index = index }) (sym h)
+
+keyed-own : (es : List Drawn) (keys : List (List ℕ)) → map index_of es ≡ map Some keys → keyed es keys ≡ es
+keyed-own [] keys h = refl
+keyed-own (e ∷ es) [] h = cc
+keyed-own (e ∷ es) (key ∷ keys) h = ap₂ (λ f fs. f ∷ fs) (with_own_key e key (cc)) (keyed-own es keys (cc))
+
+-- ---- elements whose keys rise are in scene order
+list_all-permuted : {X : Type 0} (p : X → Bool) (xs ys : List X) → IsPermutation xs ys → list_all p xs ≡ true → list_all p ys ≡ true
+list_all-permuted p xs ys moved h = list_all-from_AllPass p ys (All-permutation (λ x. p x ≡ true) xs ys moved (AllPass-from_list_all p xs h))
+
+before_by_keys : (e f : Drawn) (key other : List ℕ) → e.index ≡ Some key → f.index ≡ Some other → bytes_less key other ≡ true → comes_before e f ≡ true
+before_by_keys e f key other first second less =
+    subst₂ (λ a b. place_less a e.id b f.id ≡ true) (sym first) (sym second) (or_left (bytes_less key other) (bytes_eq key other && bytes_less e.id f.id) less)
+
+all_before : (e : Drawn) (key : List ℕ) (es : List Drawn) (keys : List (List ℕ)) → e.index ≡ Some key → map index_of es ≡ map Some keys
+    → list_all (lies_between (Some key) None) keys ≡ true → AllByRecursion (λ f. comes_before e f ≡ true) es
+all_before e key [] keys first is above = tt
+all_before e key (f ∷ fs) [] first is above = cc
+all_before e key (f ∷ fs) (other ∷ keys) first is above =
+    let p = and_parts (lies_between (Some key) None other) (list_all (lies_between (Some key) None) keys) above in
+    (before_by_keys e f key other first (cc) (and_parts (bytes_less key other) true p.0).0, all_before e key fs keys first (cc) p.1)
+
+order_from_keys : (low : Option (List ℕ)) (es : List Drawn) (keys : List (List ℕ)) → map index_of es ≡ map Some keys → rise_between low None keys ≡ true → AreInSceneOrder es
+order_from_keys low [] keys is rise = λ i j d l m. absurd (omega arith)
+order_from_keys low (e ∷ es) [] is rise = cc
+order_from_keys low (e ∷ es) (key ∷ keys) is rise =
+    let p = and_parts _ (rise_between (Some key) None keys) rise in
+    let P : Drawn → Type 0 = λ f. comes_before e f ≡ true in
+    let above = all_before e key es keys (cc) (cc) (lies_between-risen (Some key) None keys p.1) in
+    AllPairs-cons (λ e f. comes_before e f ≡ true) e es (All-from_recursion P es above) (order_from_keys (Some key) es keys (cc) p.1)
+
+pub AreInSceneOrder-from_keys : (es : List Drawn) → HaveRisingKeys es → AreInSceneOrder es
+AreInSceneOrder-from_keys es h = order_from_keys None es h.keys h.each h.rise
+
+-- ---- what is shown of live elements whose indices are keys or none
+keys_of_live : (live : List Drawn) → HaveKeysOrNone live
+    → AreBetween None None (length (map index_of (in_scene_order live))) (repaired (map index_of (in_scene_order live)))
+keys_of_live live h =
+    repaired-law (map index_of (in_scene_order live))
+    (list_all-permuted is_key_or_none (map index_of live) (map index_of (in_scene_order live)) (IsPermutation-map index_of live (in_scene_order live) (IsPermutation-in_scene_order live)) h)
+
+pub record IsShown (live elements : List Drawn) : Type 0 where
+  pub keys : HaveRisingKeys elements
+  pub ids : IsPermutation (ids_of live) (ids_of elements)
+  pub others : IsPermutation (map without_index live) (map without_index elements)
+  pub stay_live : list_all is_live live ≡ true → list_all is_live elements ≡ true
+
+pub shown-is : (live : List Drawn) → HaveKeysOrNone live → IsShown live (shown live)
+unfolding shown
+shown-is live h =
+    let ordered = in_scene_order live in
+    let keys = repaired (map index_of ordered) in
+    let moved = IsPermutation-in_scene_order live in
+    let are = keys_of_live live h in
+    let count : length keys ≡ length ordered = are.count ∙ length-map ordered index_of in
+    record {
+      keys = record { keys = keys; each = indices-keyed ordered keys count; rise = are.rise };
+      ids = subst (IsPermutation (ids_of live)) (sym (ids_of-keyed ordered keys count)) (IsPermutation-map (λ (e : Drawn). e.id) live ordered moved);
+      others = subst (IsPermutation (map without_index live)) (sym (others-keyed ordered keys count)) (IsPermutation-map without_index live ordered moved);
+      stay_live = λ all. live-keyed ordered keys (list_all-permuted is_live live ordered moved all);
+    }
+
+-- ---- the order of the elements plays no part
+pub shown-permuted : (live others : List Drawn) → HaveDistinctIds live → IsPermutation live others → shown others ≡ shown live
+unfolding shown
+shown-permuted live others apart moved = ap (λ ordered. keyed ordered (repaired (map index_of ordered))) (in_scene_order-permuted live others apart moved)
+
+-- ---- the view of a view is that view
+shown-rising : (es : List Drawn) → HaveDistinctIds es → HaveRisingKeys es → shown es ≡ es
+unfolding shown
+shown-rising es apart h =
+    let sorted : in_scene_order es ≡ es = sym (in_scene_order-only es es apart (IsPermutation-refl es) (AreInSceneOrder-from_keys es h)) in
+    let keys : repaired (map index_of es) ≡ h.keys = ap repaired h.each ∙ repaired-rising h.keys h.rise in
+    ap (λ ordered. keyed ordered (repaired (map index_of ordered))) sorted ∙ (ap (keyed es) keys ∙ keyed-own es h.keys h.each)
+
+all_pass : {X : Type 0} (p : X → Bool) (xs : List X) → list_all p xs ≡ true → filter p xs ≡ xs
+all_pass p [] h = refl
+all_pass p (x ∷ xs) h =
+    let both = and_parts (p x) (list_all p xs) h in
+    cond-true (p x) (x ∷ filter p xs) (filter p xs) both.0 ∙ ap (λ ys. x ∷ ys) (all_pass p xs both.1)
+
+pub shown-again : (live others : List Drawn) → HaveDistinctIds live → HaveKeysOrNone live → list_all is_live live ≡ true → IsPermutation (shown live) others
+    → shown (live_elements others) ≡ shown live
+shown-again live others apart h all moved =
+    let is = shown-is live h in
+    let distinct : HaveDistinctIds (shown live) = IsDistinct-IsPermutation bytes_eq nat_list_eq_equiv.symm (ids_of live) (ids_of (shown live)) is.ids apart in
+    let passed : live_elements others ≡ others = all_pass is_live others (list_all-permuted is_live (shown live) others moved (is.stay_live all)) in
+    ap shown passed ∙ (shown-permuted (shown live) others distinct moved ∙ shown-rising (shown live) distinct is.keys)
+
+-- ---- for the code
+pub record IsViewOf (live elements : List Drawn) : Type 0 where
+  pub keys : HaveRisingKeys elements
+  pub order : IsSceneOrder live (in_scene_order live)
+  pub ids : IsPermutation (ids_of live) (ids_of elements)
+  pub others : IsPermutation (map without_index live) (map without_index elements)
+  pub again : (stored : List Drawn) → IsPermutation elements stored → shown (live_elements stored) ≡ elements
+
+pub IsViewOf-from : (live elements : List Drawn) → IsView live elements → IsViewOf live elements
+IsViewOf-from live elements view =
+    let is = shown-is live view.keys in
+    let apart = HaveDistinctIds-rising live view.ordered in
+    subst (IsViewOf live) (sym view.exact) (record {
+      keys = is.keys;
+      order = in_scene_order-is live apart;
+      ids = is.ids;
+      others = is.others;
+      again = λ stored moved. shown-again live stored apart view.keys view.all_live moved;
+    })
+
+-- live elements, one more place of a list each time
+module _ (stored : List Drawn) (i : ℕ) (e : Drawn) (at' : Some e ≡ slice_get stored i) where
+  one_more : live_elements (take (i + 1) stored) ≡ live_elements (take i stored) ++ cond (is_live e) (e ∷ []) []
+  one_more =
+      let there : get_or stored i e ≡ e = get_or_from_slice_get stored i e e (sym at') in
+      filter_more is_live stored i e (slice_get_within stored i e (sym at')) ∙ ap (λ (f : Drawn). live_elements (take i stored) ++ cond (is_live f) (f ∷ []) []) there
+
+  pub live_one : (live new : List Drawn) (copy : Drawn) → is_live e ≡ true → live ≡ live_elements (take i stored) → copy ≡ e → new ≡ live ++ copy ∷ [] → new ≡ live_elements (take (i + 1) stored)
+  live_one live new copy h so_far same pushed =
+      pushed ∙ (ap₂ (λ ls (l : Drawn). ls ++ l ∷ []) so_far same ∙ (ap (λ more. live_elements (take i stored) ++ more) (sym (cond-true (is_live e) (e ∷ []) [] h)) ∙ sym one_more))
+
+  pub deleted_one : (live : List Drawn) → is_live e ≡ false → live ≡ live_elements (take i stored) → live ≡ live_elements (take (i + 1) stored)
+  deleted_one live h so_far =
+      so_far ∙ (sym (append-nil (live_elements (take i stored))) ∙ (ap (λ more. live_elements (take i stored) ++ more) (sym (cond-false (is_live e) (e ∷ []) [] h)) ∙ sym one_more))
+
+pub within_stored : (stored : List Drawn) (i : ℕ) → i < length stored → None ≡ slice_get stored i → ⊥
+within_stored [] i l h = absurd (omega arith)
+within_stored (e ∷ stored) zero l h = cc
+within_stored (e ∷ stored) (suc i) l h = within_stored stored i (omega arith) h
+
+pub live_elements-live : (stored : List Drawn) → list_all is_live (live_elements stored) ≡ true
+live_elements-live stored = list_all-from_AllPass is_live (live_elements stored) (filter_passes is_live stored)
+
+-- the steps by which the shown elements are made
+keyed-zip : (es : List Drawn) (keys : List (List ℕ)) → map (λ (p : Drawn × List ℕ). with_index p.0 p.1) (zip es keys) ≡ keyed es keys
+keyed-zip [] [] = refl
+keyed-zip [] (key ∷ keys) = refl
+keyed-zip (e ∷ es) [] = refl
+keyed-zip (e ∷ es) (key ∷ keys) = ap (λ fs. with_index e key ∷ fs) (keyed-zip es keys)
+
+pub shown-made : (live ordered new : List Drawn) (indices : List (Option (List ℕ))) (keys : List (List ℕ))
+    → ordered ≡ in_scene_order live → indices ≡ map index_of ordered → keys ≡ repaired indices → new ≡ map (λ (p : Drawn × List ℕ). with_index p.0 p.1) (zip ordered keys) → new ≡ shown live
+unfolding shown
+shown-made live ordered new indices keys sorted read repair made =
+    made ∙ (keyed-zip ordered keys ∙ (ap (keyed ordered) (repair ∙ ap repaired read) ∙ ap (λ es. keyed es (repaired (map index_of es))) sorted))
+
+pub keys-made : (live ordered : List Drawn) (indices : List (Option (List ℕ))) → ordered ≡ in_scene_order live → indices ≡ map index_of ordered → list_all is_key_or_none indices ≡ true → HaveKeysOrNone live
+keys-made live ordered indices sorted read h =
+    let moved = IsPermutation-map index_of live (in_scene_order live) (IsPermutation-in_scene_order live) in
+    list_all-permuted is_key_or_none (map index_of (in_scene_order live)) (map index_of live) (IsPermutation-sym _ _ moved)
+    (subst (λ keys. list_all is_key_or_none keys ≡ true) (read ∙ ap (map index_of) sorted) h)

@@ -1,0 +1,23 @@
+use Rattle.std.proofs.Common.{◌≡◌, sym, ◌∙◌, arith}
+use Rattle.std.proofs.lemmas.Grind.{common_steps}
+use Rattle.view.specs.Shown.{live_elements}
+use Rattle.view.proofs.ShownLaws.{live_one, deleted_one, live_elements-rise, within_stored}
+use Rattle.view.proofs.view.live_of.Goals as goal
+use Rattle.view.proofs.view.live_of.Goals.{in-Some+then-is_live+in_ok-try_clone+in_ok-push, in-Some+else-is_live, in_default}
+
+pub loop-i-preserved : goal.loop-i-preserved
+loop-i-preserved c =
+    elim c.match-at.branch [
+      | in-Some+then-is_live+in_ok-try_clone+in_ok-push w ↦ rw w.live-is
+          (live_one c.args.store.now c.loop-i.i w.in-Some.e.now w.in-Some.ensures c.loop-i.live.items w.push.new.self.items w.in_ok-try_clone.field-0
+          (sym w.is_live.ensures ∙ w.if-is_live.true) c.loop-i.invariant w.in_ok-try_clone.ensures w.in_ok-push.ensures.items)
+      | in-Some+else-is_live w ↦ rw w.live-is
+          (deleted_one c.args.store.now c.loop-i.i w.in-Some.e.now w.in-Some.ensures c.loop-i.live.items
+          (sym w.is_live.ensures ∙ w.if-is_live.false) c.loop-i.invariant)
+      | in_default w ↦ absurd (within_stored c.args.store.now c.loop-i.i (omega (arith, c.len-i-end.ensures.count)) w.in_default.ensures)
+    ]
+
+pub returns-clause-ordered : goal.returns-clause-ordered
+returns-clause-ordered c =
+    let exact : c.from_vec.result ≡ live_elements c.args.store.now = grind (arith, common_steps) in
+    rw exact (live_elements-rise c.args.store.now c.len-i-end.ensures.ordered)

@@ -1,0 +1,92 @@
+-- What a board shows of its stored elements. The order of ids and the repair are this project's own.
+--
+-- Here an element is shown as it is stored, but for its key. That is all on plain elements; the rules on texts in
+-- containers, bound arrows, frames and groups join `shown` later, as further steps over the whole list.
+use Rattle.std.specs.Prelude.{◌≡◌, ℕ, List, [], ◌∷◌, Bool, true, false, not, ◌&&◌, ◌||◌, Option, Some, None, filter, map, bytes_eq, if◌then◌else◌, AllPairs, IsPermutation}
+use Rattle.std.specs.List.{list_all, IsDistinct}
+use Rattle.frac_keys.specs.Keys.{bytes_less}
+use Rattle.frac_keys.specs.Rising.{are_rising}
+use Rattle.index_repair.specs.Repair.{repaired, is_key_or_none}
+use Rattle.elem.specs.Drawn.{Drawn}
+use Rattle.elem_store.specs.Updates.{ids_of}
+
+-- the live elements: those that aren't deleted
+abbrev pub is_live : Drawn → Bool
+is_live e = not e.deleted
+
+abbrev pub live_elements : List Drawn → List Drawn
+live_elements elements = filter is_live elements
+
+-- whether an index and an id come before another index and id: by index, none last, and then by id
+abbrev pub place_less : Option (List ℕ) → List ℕ → Option (List ℕ) → List ℕ → Bool
+place_less None id None other = bytes_less id other
+place_less None id (Some other_index) other = false
+place_less (Some index) id None other = true
+place_less (Some index) id (Some other_index) other =
+    bytes_less index other_index || (bytes_eq index other_index && bytes_less id other)
+
+-- whether an element comes before another one
+abbrev pub comes_before : Drawn → Drawn → Bool
+comes_before e other = place_less e.index e.id other.index other.id
+
+-- elements in scene order and one more, which goes before the first that doesn't come before it
+abbrev pub with_element : Drawn → List Drawn → List Drawn
+with_element e [] = e ∷ []
+with_element e (other ∷ others) = if comes_before other e then other ∷ with_element e others else e ∷ other ∷ others
+
+-- the elements in scene order
+abbrev pub in_scene_order : List Drawn → List Drawn
+in_scene_order [] = []
+in_scene_order (e ∷ elements) = with_element e (in_scene_order elements)
+
+-- each element comes before those behind it
+abbrev pub AreInSceneOrder : List Drawn → Type 0
+AreInSceneOrder elements = AllPairs (λ e other. comes_before e other ≡ true) elements
+
+-- They are the elements in scene order: the one permutation in which each comes before those behind it.
+pub record IsSceneOrder (elements ordered : List Drawn) : Type 0 where
+  pub moved : IsPermutation elements ordered
+  pub in_order : AreInSceneOrder ordered
+  pub only : (others : List Drawn) → IsPermutation elements others → AreInSceneOrder others → others ≡ ordered
+
+-- no two elements have one id
+abbrev pub HaveDistinctIds : List Drawn → Type 0
+HaveDistinctIds elements = IsDistinct bytes_eq (ids_of elements)
+
+-- the index of an element, and the element with a key as its index
+abbrev pub index_of : Drawn → Option (List ℕ)
+index_of e = e.index
+
+abbrev pub with_index : Drawn → List ℕ → Drawn
+with_index e key = record e { index = Some key }
+
+-- each element with its key
+abbrev pub keyed : List Drawn → List (List ℕ) → List Drawn
+keyed [] keys = []
+keyed (e ∷ elements) [] = []
+keyed (e ∷ elements) (key ∷ keys) = with_index e key ∷ keyed elements keys
+
+-- the live elements in scene order, with repaired keys
+unfoldable pub shown : List Drawn → List Drawn
+shown live = let ordered = in_scene_order live in keyed ordered (repaired (map index_of ordered))
+
+-- each index is a key, if it is there
+abbrev pub HaveKeysOrNone : List Drawn → Type 0
+HaveKeysOrNone elements = list_all is_key_or_none (map index_of elements) ≡ true
+
+-- Each element has a key, and each key is less than the next.
+pub record HaveRisingKeys (elements : List Drawn) : Type 0 where
+  pub keys : List (List ℕ)
+  pub each : map index_of elements ≡ map Some keys
+  pub rise : are_rising keys ≡ true
+
+-- the element without its key
+abbrev pub without_index : Drawn → Drawn
+without_index e = record e { index = None }
+
+-- These elements are what is shown of the live ones, which are in the order of their ids.
+pub record IsView (live elements : List Drawn) : Type 0 where
+  pub exact : elements ≡ shown live
+  pub ordered : are_rising (ids_of live) ≡ true
+  pub all_live : list_all is_live live ≡ true
+  pub keys : HaveKeysOrNone live

@@ -1,0 +1,137 @@
+//! The view of a board.
+
+ghost use Rattle.std.specs.Prelude.{◌≡◌, List as Items, true, length, map, Some, IfOk, IsPermutation, bytes_eq, IsTrue};
+ghost use Rattle.std.specs.List.{zip};
+ghost use Rattle.frac_keys.specs.Rising.{are_rising};
+ghost use Rattle.elem.specs.Drawn.{Drawn};
+ghost use Rattle.elem_store.specs.Updates.{ids_of};
+ghost use Rattle.view.specs.Shown.{is_live, live_elements, in_scene_order, index_of, shown, with_index, HaveDistinctIds, HaveKeysOrNone, HaveRisingKeys, IsSceneOrder, without_index};
+
+use crate::order;
+use board_io::List;
+use elem::Element;
+use elem_store::Store;
+use frac_keys::Key;
+use index_repair::repair;
+use std::alloc::{AllocError, Global};
+use std::marker::Model;
+
+/// What a board shows, with the live elements that it was made of, as stored, in the order of their ids.
+#[derive(Drop)]
+pub struct View {
+    live: List<Element>,
+    shown: List<Element>,
+}
+
+impl Model for View {
+    ghost use Rattle.std.specs.Prelude.{List as Items};
+    ghost use Rattle.elem.specs.Drawn.{Drawn};
+    ghost use Rattle.view.specs.Shown.{IsView};
+
+    ghost Value = { Items Drawn };
+
+    ghost view = { λ v. v.live };
+
+    ghost invariant = { λ v. IsView v.live v.shown };
+}
+
+/// The view of a store: of all its live elements. Fails only for want of memory.
+pub fn view_of(alloc: Global, store: &Store) -> Result<View, AllocError>
+    ensures { IfOk result (λ view. view ≡ live_elements store.now) }
+{
+    let live = live_of(alloc, store)?;
+    let shown = shown_of(alloc, &live)?;
+    Ok(View { live, shown })
+}
+
+impl View {
+    /// What is shown: the live elements in scene order, with repaired keys. It takes no memory.
+    pub fn elements(&self) -> &[Element]
+        ensures exact { result.now ≡ shown self.now }
+        ensures keys { HaveRisingKeys result.now }
+        ensures order { IsSceneOrder self.now (in_scene_order self.now) }
+        ensures ids { IsPermutation (ids_of self.now) (ids_of result.now) }
+        ensures others { IsPermutation (map without_index self.now) (map without_index result.now) }
+
+        // The view of these elements, in any order, is this view.
+        ensures again { (stored : Items Drawn) → IsPermutation result.now stored → shown (live_elements stored) ≡ result.now }
+    {
+        self.shown.as_slice()
+    }
+}
+
+/// The live elements of a store, in the order of their ids.
+fn live_of(alloc: Global, store: &Store) -> Result<List<Element>, AllocError>
+    ensures exact { IfOk result (λ live. live ≡ live_elements store.now) }
+    ensures ordered { IfOk result (λ live. are_rising (ids_of live) ≡ true) }
+{
+    let mut live = Vec::new(alloc);
+    for i in 0..store.len() {
+        if let Some(e) = store.at(i) {
+            if is_live(e) {
+                live.push(e.try_clone()?)?;
+            }
+        }
+    }
+    Ok(List::from_vec(live))
+}
+
+/// Whether an element isn't deleted.
+fn is_live(e: &Element) -> bool
+    ensures { result ≡ is_live e.now }
+{
+    !e.deleted
+}
+
+/// The elements in scene order, with repaired keys.
+fn shown_of(alloc: Global, live: &List<Element>) -> Result<List<Element>, AllocError>
+    requires { HaveDistinctIds live.now }
+    ensures exact { IfOk result (λ new. new ≡ shown live.now) }
+    ensures keys { IfOk result (λ _. HaveKeysOrNone live.now) }
+{
+    let mut ordered = live.try_clone_with(Element::try_clone)?.into_vec();
+    order::sort(&mut ordered)?;
+    let keys = repair(alloc, &indices_of(alloc, &ordered)?)?;
+    Ok(List::from_vec(with_keys(alloc, ordered, keys.into_vec())?))
+}
+
+/// The indices of the elements, copied.
+fn indices_of(alloc: Global, elements: &Vec<Element>) -> Result<List<Option<Key>>, AllocError>
+    ensures { IfOk result (λ indices. indices ≡ map index_of elements.now.items) }
+{
+    let mut indices = Vec::with_capacity(alloc, elements.len())?;
+    for e in elements {
+        indices.push(index_of(e)?)?;
+    }
+    Ok(List::from_vec(indices))
+}
+
+/// The index of an element, copied.
+fn index_of(e: &Element) -> Result<Option<Key>, AllocError>
+    ensures { IfOk result (λ index. index ≡ index_of e.now) }
+{
+    e.index.as_ref().map(Key::try_clone).transpose()
+}
+
+/// Each element with its key.
+fn with_keys(
+    alloc: Global,
+    elements: Vec<Element>,
+    keys: Vec<Key>,
+) -> Result<Vec<Element>, AllocError>
+    ensures { IfOk result (λ new. new.items ≡ map (λ p. with_index p.0 p.1) (zip elements.items keys.items)) }
+{
+    elements
+        .into_iter()
+        .zip(keys)
+        .map(|(e, key)| with_index(e, key))
+        .collect(alloc)
+}
+
+/// The element with this index.
+fn with_index(mut e: Element, key: Key) -> Element
+    ensures { result ≡ with_index e key }
+{
+    e.index = Some(key);
+    e
+}
