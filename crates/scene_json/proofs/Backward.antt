@@ -3,6 +3,7 @@ use Rattle.std.proofs.Common.{◌≡◌, ◌≢◌, ◌⊎◌, ◌==◌, ◌&&�
 use Rattle.std.specs.Prelude.{flat_map}
 use Rattle.std.specs.List.{list_all}
 use lib.Utf8.{low_scalar}
+use Rattle.std.proofs.lemmas.Str.{encode_ascii}
 use Rattle.std.proofs.lemmas.Bool.{and_parts, and_from, ltb-true, ltb-false, eqb-true, eqb-false, not-true, false≢true}
 use Rattle.scene_json.specs.Characters.{is_space, is_hex}
 use Rattle.scene_json.specs.Tree.{Piece, bare, letter, unit, IsPiece, piece_spelling, letter_meaning, opening, closing, scalar, text, empty, filled, values_spelling, IsWord}
@@ -24,8 +25,9 @@ use Rattle.scene_json.specs.declared.machine.Move.{Move}
 use Rattle.scene_json.specs.declared.machine.Move.TheVariants.{To, Open, Close, Refuse}
 use Rattle.scene_json.specs.Machine.{state, refused, top, applied, step, container_of, is_closing, after_comma, after_move, part_begun, part_after, is_complete, number_on, number_move_on, value_begun, name_begun, first_move, after_string, plain_move, hex_move, sequence_move, string_move, word_move, letters_after, first_letter, word_on, tail_led, tail_fits, tail_after, sequence_on, led_on, escape_move}
 use Rattle.scene_json.proofs.NumberRuns.{ends, on_part, chosen, run_number, number_run}
-use Rattle.scene_json.proofs.Sequences.{Completes, encode_one, led_char}
-use Rattle.scene_json.proofs.Rests.{Quiet, Spaced, here, space, letters_of, Pieces, Front, IsEscape, AreHex, InString, Rest, Starts, AfterColon, AfterName, AfterString, Named, First, Opened, Finishes}
+use Rattle.scene_json.proofs.Sequences.{Completes, led_char}
+use Rattle.scene_json.proofs.Reading.{Front}
+use Rattle.scene_json.proofs.Rests.{Quiet, Spaced, here, space, letters_of, Pieces, IsEscape, AreHex, InString, Rest, Starts, AfterColon, AfterName, AfterString, Named, First, Opened, Finishes}
 use Rattle.scene_json.proofs.Unrolled.{quiet_follows, spaced_to, rolled}
 use Rattle.scene_json.proofs.Machines.{Reaches}
 
@@ -105,12 +107,12 @@ module _ (limit : ℕ) (left : List ℕ) where
     | inl close ↦
         let b = spaced_to close in
         record {
-          tree = empty (container_of bracket) b.blank;
+          tree = empty (container_of bracket) b.front;
           rest = b.follows.0;
           good = b.is;
           shallow = omega arith;
-          spells = ap (λ x. opening (container_of bracket) ∷ x) (b.spells ∙ ap (λ x. b.blank ++ x) b.follows.1 ∙ sym (append_assoc b.blank (closing (container_of bracket) ∷ []) b.follows.0));
-          ends = no_number (opening (container_of bracket)) (b.blank ++ closing (container_of bracket) ∷ []) b.follows.0 (no_opening bracket);
+          spells = ap (λ x. opening (container_of bracket) ∷ x) (b.spells ∙ ap (λ x. b.front ++ x) b.follows.1 ∙ sym (append_assoc b.front (closing (container_of bracket) ∷ []) b.follows.0));
+          ends = no_number (opening (container_of bracket)) (b.front ++ closing (container_of bracket) ∷ []) b.follows.0 (no_opening bracket);
           follows = b.follows.2;
         }
     | inr first ↦
@@ -230,7 +232,7 @@ module _ (limit : ℕ) (left : List ℕ) where
 
   bare_back : (r : Role) (st : List Bracket) (b : ℕ) (w : List ℕ) → 32 ≤ b → b < 128 → b ≢ 34 → b ≢ 92 → Pieces (AfterString limit left r st) w → Pieces (AfterString limit left r st) (b ∷ w)
   bare_back r st b w low high quote backslash p =
-      with_piece r st (bare b) (b ∷ w) w (low_scalar b (omega arith), low, quote, backslash) (ap (λ x. x ++ w) (sym (encode_one b high))) p
+      with_piece r st (bare b) (b ∷ w) w (low_scalar b (omega arith), low, quote, backslash) (ap (λ x. x ++ w) (sym (encode_ascii b high))) p
 
   led_back : (r : Role) (st : List Bracket) (b : ℕ) (w : List ℕ) (o : Option Tail) → tail_led b ≡ o → Moves st b w (led_on r o) → Pieces (AfterString limit left r st) (b ∷ w)
   led_back r st b w None e h = absurd h
@@ -241,11 +243,7 @@ module _ (limit : ℕ) (left : List ℕ) where
 
   four_digits : (h : List ℕ) → AreHex 4 h → (a b c d : ℕ) × (h ≡ a ∷ b ∷ c ∷ d ∷ []) × (list_all is_hex (a ∷ b ∷ c ∷ d ∷ []) ≡ true)
   four_digits (a ∷ b ∷ c ∷ d ∷ []) h = (a, b, c, d, refl, h.1)
-  four_digits (a ∷ b ∷ c ∷ d ∷ x ∷ s) h = absurd (omega (arith, h.0))
-  four_digits (a ∷ b ∷ c ∷ []) h = absurd (omega (arith, h.0))
-  four_digits (a ∷ b ∷ []) h = absurd (omega (arith, h.0))
-  four_digits (a ∷ []) h = absurd (omega (arith, h.0))
-  four_digits [] h = absurd (omega (arith, h.0))
+  four_digits s h = absurd (omega (arith, h.0))
 
   escaped_back : (r : Role) (st : List Bracket) (w front rest : List ℕ) → IsEscape front → w ≡ front ++ rest → Pieces (AfterString limit left r st) rest → Pieces (AfterString limit left r st) (92 ∷ w)
   escaped_back r st w front rest (inl (b, is, meaning)) e p =

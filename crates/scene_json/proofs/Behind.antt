@@ -3,13 +3,13 @@ use Rattle.std.proofs.Common.{◌≡◌, ℕ, suc, ◌≤◌, List, [], ◌∷�
 use Rattle.std.specs.List.{list_all, AllByRecursion}
 use Rattle.std.specs.Char.{encode_utf8}
 use Rattle.std.proofs.lemmas.List.{append_cancel_right}
-use Rattle.std.proofs.lemmas.Str.{encode_ascii}
-use Rattle.std.proofs.lemmas.Bool.{cases_Bool, cases_lt, and_parts, cond_both, ne_eqb}
+use Rattle.std.proofs.lemmas.Bool.{cases_Bool, and_parts, cond_both}
 use Rattle.std.proofs.lemmas.Bool.Decides.{nat_tests}
-use Rattle.scene_json.specs.Characters.{is_hex}
+use Rattle.scene_json.specs.Characters.{is_hex, is_plain}
 use Rattle.scene_json.specs.Tree.{Piece, bare, letter, unit, IsPiece, piece_spelling}
 use Rattle.scene_json.specs.Passes.{behind_string}
-use Rattle.scene_json.proofs.Strings.{high_bytes}
+use Rattle.scene_json.proofs.Literals.{list_all-each}
+use Rattle.scene_json.proofs.Strings.{plain-bare}
 
 -- outside strings, or in one and perhaps behind a backslash
 pub data Place : Type 0 where
@@ -35,50 +35,30 @@ length-behind_string escaped (b ∷ bs) =
     cond_both (b == 34 && not escaped) _ _ (λ (x : List ℕ). length x ≤ suc (length bs)) (λ _. omega arith)
     (λ _. omega (arith, length-behind_string (b == 92 && not escaped) bs))
 
--- a byte that neither ends a string nor escapes what follows
-abbrev pub is_ordinary : ℕ → Bool
-is_ordinary b = not (b == 34) && not (b == 92)
+plain-quote : (b : ℕ) → is_plain b ≡ true → eqb b 34 ≡ false
+plain-quote b h = grind (arith, nat_tests)
 
-ordinary-quote : (b : ℕ) → is_ordinary b ≡ true → eqb b 34 ≡ false
-ordinary-quote b h = grind (arith, nat_tests)
+plain-slash : (b : ℕ) → is_plain b ≡ true → eqb b 92 ≡ false
+plain-slash b h = grind (arith, nat_tests)
 
-ordinary-slash : (b : ℕ) → is_ordinary b ≡ true → eqb b 92 ≡ false
-ordinary-slash b h = grind (arith, nat_tests)
+hex-plain : (b : ℕ) → is_hex b ≡ true → is_plain b ≡ true
+hex-plain b h = grind (arith, nat_tests)
 
--- a pass inside a string goes over them
-ordinary-behind : (xs bs : List ℕ) → AllByRecursion (λ b. is_ordinary b ≡ true) xs → behind_string false (xs ++ bs) ≡ behind_string false bs
-ordinary-behind [] bs h = refl
-ordinary-behind (x ∷ xs) bs h = rw (ordinary-quote x h.0, ordinary-slash x h.0) (ordinary-behind xs bs h.1)
-
-high-ordinary : (b : ℕ) → 128 ≤ b → is_ordinary b ≡ true
-high-ordinary b h = grind (arith, nat_tests)
-
-hex-ordinary : (b : ℕ) → is_hex b ≡ true → is_ordinary b ≡ true
-hex-ordinary b h = grind (arith, nat_tests)
-
-highs-ordinary : (bs : List ℕ) → AllByRecursion (λ b. 128 ≤ b) bs → AllByRecursion (λ b. is_ordinary b ≡ true) bs
-highs-ordinary [] h = tt
-highs-ordinary (b ∷ bs) h = (high-ordinary b h.0, highs-ordinary bs h.1)
-
-bare-ordinary : (c : ℕ) → (c ≡ 34 → ⊥) → (c ≡ 92 → ⊥) → AllByRecursion (λ b. is_ordinary b ≡ true) (encode_utf8 c)
-bare-ordinary c quote slash = elim (cases_lt c 128) [
-  | inl low ↦ rw (encode_ascii c low) (rw (ne_eqb c 34 quote, ne_eqb c 92 slash) refl, tt)
-  | inr high ↦ highs-ordinary (encode_utf8 c) (high_bytes c high)
-]
+-- a pass inside a string goes over plain bytes
+plain-behind : (xs bs : List ℕ) → list_all is_plain xs ≡ true → behind_string false (xs ++ bs) ≡ behind_string false bs
+plain-behind [] bs h = refl
+plain-behind (x ∷ xs) bs h =
+    let both = and_parts (is_plain x) (list_all is_plain xs) h in
+    rw (plain-quote x both.0, plain-slash x both.0) (plain-behind xs bs both.1)
 
 and-false : (b : Bool) → (b && false) ≡ false
 and-false true = refl
 and-false false = refl
 
 piece-behind : (p : Piece) (bs : List ℕ) → IsPiece p → behind_string false (piece_spelling p ++ bs) ≡ behind_string false bs
-piece-behind (bare c) bs h = ordinary-behind (encode_utf8 c) bs (bare-ordinary c h.2 h.3)
+piece-behind (bare c) bs h = plain-behind (encode_utf8 c) bs (plain-bare c h.2 h.3)
 piece-behind (letter b) bs h = rw (and-false (eqb b 34), and-false (eqb b 92)) refl
-piece-behind (unit a b c d) bs h =
-    let first = and_parts (is_hex a) (list_all is_hex (b ∷ c ∷ d ∷ [])) h in
-    let second = and_parts (is_hex b) (list_all is_hex (c ∷ d ∷ [])) first.1 in
-    let third = and_parts (is_hex c) (list_all is_hex (d ∷ [])) second.1 in
-    let fourth = and_parts (is_hex d) true third.1 in
-    ordinary-behind (a ∷ b ∷ c ∷ d ∷ []) bs (hex-ordinary a first.0, (hex-ordinary b second.0, (hex-ordinary c third.0, (hex-ordinary d fourth.0, tt))))
+piece-behind (unit a b c d) bs h = plain-behind (a ∷ b ∷ c ∷ d ∷ []) bs (list_all-each is_hex is_plain hex-plain (a ∷ b ∷ c ∷ d ∷ []) h)
 
 -- behind a string of good pieces stands what follows it
 pub pieces-behind : (ps : List Piece) (bs : List ℕ) → AllByRecursion IsPiece ps → behind_string false (flat_map piece_spelling ps ++ 34 ∷ bs) ≡ bs

@@ -3,9 +3,9 @@ use Rattle.std.proofs.Common.{◌≡◌, ℕ, zero, suc, List, [], ◌∷◌, �
 use Rattle.std.specs.List.{list_all}
 use Rattle.std.proofs.lemmas.List.{length-replicate}
 use Rattle.scene_json.specs.Characters.{is_hex}
-use Rattle.scene_json.specs.Tree.{closing, scalar, IsNumber}
+use Rattle.scene_json.specs.Tree.{closing, scalar}
 use Rattle.scene_json.specs.declared.number.Part.{Part}
-use Rattle.scene_json.specs.declared.number.Part.TheVariants.{Minus, Zero, Whole, Dot, Fraction, Letter, Sign, Exponent}
+use Rattle.scene_json.specs.declared.number.Part.TheVariants.{Zero, Whole, Fraction, Exponent}
 use Rattle.scene_json.specs.declared.sequence.Tail.{Tail}
 use Rattle.scene_json.specs.declared.sequence.Tail.TheVariants.{One, Two, Three, Long3, Low3, Long4, Low4}
 use Rattle.scene_json.specs.declared.brackets.Bracket.{Bracket}
@@ -17,9 +17,11 @@ use Rattle.scene_json.specs.declared.machine.Mode.{Mode}
 use Rattle.scene_json.specs.declared.machine.Mode.TheVariants.{Fresh, Name, Colon, After, Quoted, Number, Word}
 use Rattle.scene_json.specs.declared.machine.Mode.TheVariants as mode
 use Rattle.scene_json.specs.Machine.{container_of}
+use Rattle.scene_json.proofs.Numbers.{whole_number}
 use Rattle.scene_json.proofs.NumberRuns.{ends}
 use Rattle.scene_json.proofs.Sequences.{Completes}
-use Rattle.scene_json.proofs.Rests.{Quiet, here, letters_of, Pieces, Front, IsEscape, AreHex, InString, Rest, AfterColon, AfterName, AfterString, Finishes}
+use Rattle.scene_json.proofs.Reading.{Front}
+use Rattle.scene_json.proofs.Rests.{Quiet, here, letters_of, Pieces, IsEscape, AreHex, InString, Rest, AfterColon, AfterName, AfterString, Finishes}
 use Rattle.scene_json.proofs.Unrolled.{quiet_follows, rest_quiet}
 
 zeros_hex : (n : ℕ) → list_all is_hex (replicate n 48) ≡ true
@@ -36,17 +38,11 @@ tail_closed Long4 = (144 ∷ 128 ∷ 128 ∷ [], (refl, (refl, (refl, refl))))
 tail_closed Low4 = (128 ∷ 128 ∷ 128 ∷ [], (refl, (refl, (refl, refl))))
 
 number_closed : (part : Part) → (s : List ℕ) × (ends s part ≡ true)
-number_closed Minus = (48 ∷ [], refl)
 number_closed Zero = ([], refl)
 number_closed Whole = ([], refl)
-number_closed Dot = (48 ∷ [], refl)
 number_closed Fraction = ([], refl)
-number_closed Letter = (48 ∷ [], refl)
-number_closed Sign = (48 ∷ [], refl)
 number_closed Exponent = ([], refl)
-
-nought : IsNumber (48 ∷ [])
-nought = record { sign = []; whole = 48 ∷ []; fraction = []; exponent = []; spells = refl; signed = inl refl; counted = inl refl; parted = inl refl; scaled = inl refl }
+number_closed part = (48 ∷ [], refl)
 
 module _ (limit : ℕ) where
   rest_closed : (st : List Bracket) → (w : List ℕ) × Rest limit [] st w
@@ -65,7 +61,7 @@ module _ (limit : ℕ) where
         here (record {
           tree = scalar (48 ∷ []);
           rest = r.0;
-          good = inl nought;
+          good = inl (whole_number (48 ∷ []) (inl refl));
           shallow = omega arith;
           spells = refl;
           ends = quiet_follows (48 ∷ []) r.0 (rest_is_quiet st r.0 r.1);

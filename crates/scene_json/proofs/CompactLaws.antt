@@ -9,13 +9,17 @@ pub use Rattle.scene_json.specs.Parts.{AreMembers}
 use Rattle.scene_json.proofs.Strings.{utf8-Quotes, content-utf8}
 use Rattle.scene_json.proofs.Collapsed.{collapsed-same, collapsed-distinct, collapsed-names, collapsed-values}
 
+-- a tree is a value
+pub tree-Value : (limit : ℕ) (t : Tree) → IsGood t → depth t ≤ limit → Value limit (spelling t) (compact t)
+tree-Value limit t good shallow = record { tree = t; good = good; shallow = shallow; spells = refl; means = refl }
+
 -- the quote of a text, and a number or a word
 pub quote-compact : (limit : ℕ) (s : List ℕ) → IsUtf8 s → IsCompact limit (quote s)
 quote-compact limit s h = let q = utf8-Quotes s h in
     record { tree = text q.pieces; good = q.good; shallow = omega arith; spells = q.spells; means = ap quote q.means }
 
 pub literal-compact : (limit : ℕ) (s : List ℕ) → IsNumber s ⊎ IsWord s → IsCompact limit s
-literal-compact limit s h = record { tree = scalar s; good = h; shallow = omega arith; spells = refl; means = refl }
+literal-compact limit s h = tree-Value limit (scalar s) h (omega arith)
 
 -- a deeper limit
 pub Value-deeper : {limit more : ℕ} {bytes s : List ℕ} → limit ≤ more → Value limit bytes s → Value more bytes s
@@ -47,7 +51,7 @@ items limit t (u ∷ us) h = let others = items limit u us h.1 in record {
 
 pub array-compact : (limit : ℕ) (ts : List (List ℕ)) → AllByRecursion (IsCompact limit) ts → IsCompact (limit + 1) (array_text ts)
 unfolding array_text
-array-compact limit [] h = record { tree = empty array []; good = refl; shallow = omega arith; spells = refl; means = refl }
+array-compact limit [] h = tree-Value (limit + 1) (empty array []) refl (omega arith)
 array-compact limit (t ∷ ts) h = let all = items limit t ts h in record {
   tree = filled array all.values;
   good = all.good;
@@ -89,7 +93,7 @@ fields limit m (n ∷ ns) name value =
 
 pub object-compact : (limit : ℕ) (ms : List Member) → AreMembers limit ms → IsCompact (limit + 1) (object_text ms)
 unfolding object_text
-object-compact limit [] h = record { tree = empty object []; good = refl; shallow = omega arith; spells = refl; means = refl }
+object-compact limit [] h = tree-Value (limit + 1) (empty object []) refl (omega arith)
 object-compact limit (m ∷ ms) h = let all = fields limit m ms h.named h.valued in record {
   tree = filled object all.values;
   good = all.good;
@@ -121,10 +125,7 @@ mutual
   pub compact-compact : (t : Tree) (limit : ℕ) → IsGood t → depth t ≤ limit → IsCompact limit (compact t)
   compact-compact (scalar literal) limit good shallow = literal-compact limit literal good
   compact-compact (text pieces) limit good shallow = quote-compact limit (content pieces) (content-utf8 pieces good)
-  compact-compact (empty array blank) limit good shallow =
-      record { tree = empty array []; good = refl; shallow = shallow; spells = refl; means = refl }
-  compact-compact (empty object blank) limit good shallow =
-      record { tree = empty object []; good = refl; shallow = shallow; spells = refl; means = refl }
+  compact-compact (empty c blank) limit good shallow = tree-Value limit (empty c []) refl shallow
   compact-compact (filled array values) limit good shallow =
       Value-deeper (omega (arith, shallow)) (array-compact (limit - 1) _ (values-of (IsCompact (limit - 1)) (members values) (members-compact array values (limit - 1) good (omega (arith, shallow)))))
   compact-compact (filled object values) limit good shallow =

@@ -17,6 +17,13 @@ drop-after xs at {b} {rest} e = sym (drop-drop 1 at xs) ∙ ap (drop 1) e
 pub inside-after : (xs : List ℕ) (at : ℕ) {b : ℕ} {rest : List ℕ} → drop at xs ≡ b ∷ rest → at < length xs
 inside-after xs at {b} {rest} e = let size : length xs - at ≡ suc (length rest) = sym (length-drop at xs) ∙ ap length e in omega arith
 
+-- the byte at an offset is the first of what follows it
+pub front : (bytes : List ℕ) (at : ℕ) {b : ℕ} → get_or bytes at 0 ≡ b → get_or (drop at bytes) 0 0 ≡ b
+front bytes at e = get_or-drop at bytes 0 0 ∙ ap (λ k. get_or bytes k 0) (add-zero at) ∙ e
+
+pub behind : (bytes : List ℕ) (at : ℕ) {b : ℕ} → get_or (drop at bytes) 0 0 ≡ b → get_or bytes at 0 ≡ b
+behind bytes at e = sym (front bytes at refl) ∙ e
+
 -- where a string closes, nothing of its text is left
 close : (xs after : List ℕ) (ps : List Piece) → AllByRecursion IsPiece ps → xs ≡ flat_map piece_spelling ps ++ 34 ∷ after → get_or xs 0 0 ≡ 34 →
     (content ps ≡ []) × (drop 1 xs ≡ after)
@@ -80,8 +87,7 @@ pub reading-closes : {bytes out : List ℕ} {at end : ℕ} → Reading bytes at 
     (out ≡ text) × (drop (end + 1) bytes ≡ after)
 reading-closes {bytes} {out} {at} {end} r first text after q =
     let mine = r.split text after q in
-    let zero : get_or (drop end bytes) 0 0 ≡ 34 = get_or-drop end bytes 0 0 ∙ rw add-zero first in
-    let both = unread-close mine.1 zero in
+    let both = unread-close mine.1 (front bytes end first) in
     (sym (append-nil out) ∙ ap (λ s. out ++ s) (sym both.0) ∙ mine.2, sym (drop-drop 1 end bytes) ∙ both.1)
 
 pub quoted-utf8 : {bytes text rest : List ℕ} → Quoted bytes text rest → IsUtf8 text

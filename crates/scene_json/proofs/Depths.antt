@@ -8,6 +8,7 @@ use Rattle.scene_json.specs.Tree.{Piece, IsPiece, piece_spelling, string_spellin
 use Rattle.scene_json.specs.Passes.{behind_string, is_opening, is_closing}
 use Rattle.scene_json.proofs.Behind.{Place, outside, inside, pieces-behind}
 use Rattle.scene_json.proofs.Literals.{is_plain, list_all-each, literal-plain}
+use Rattle.scene_json.proofs.Reading.{regroup-last, regroup-next}
 
 abbrev pub level_after : ℕ → ℕ → ℕ
 level_after b level = if is_opening b then level + 1 else (if is_closing b then level - 1 else level)
@@ -79,8 +80,7 @@ label-steps array (unnamed before) level most bs good h = blank-steps before lev
 label-steps array (named before name between after) level most bs good h = absurd good
 label-steps object (unnamed before) level most bs good h = absurd good
 label-steps object (named before name between after) level most bs good h =
-    let e : (before ++ (string_spelling name ++ (between ++ 58 ∷ after))) ++ bs ≡ before ++ (string_spelling name ++ (between ++ 58 ∷ (after ++ bs))) = simp append_assoc in
-    ap (deepest outside level most) e
+    ap (deepest outside level most) (regroup-next before (string_spelling name) between 58 after bs)
     ∙ blank-steps before level most _ good.0 h
     ∙ string-steps name level most _ good.1 h
     ∙ blank-steps between level most _ good.2 h
@@ -115,14 +115,12 @@ mutual
 
   pub values-steps : (c : Container) (vs : Values) (level most more : ℕ) (bs : List ℕ) → AreGood c vs → level ≤ most → more ≡ max most (level + values_depth vs) → deepest outside level most (values_spelling vs ++ bs) ≡ deepest outside level more bs
   values-steps c (last label value blank) level most more bs good h e =
-      let e' : (label_spelling label ++ (spelling value ++ blank)) ++ bs ≡ label_spelling label ++ (spelling value ++ (blank ++ bs)) = simp append_assoc in
-      ap (deepest outside level most) e'
+      ap (deepest outside level most) (regroup-last (label_spelling label) (spelling value) blank bs)
       ∙ label-steps c label level most _ good.0 h
       ∙ tree-steps value level most more _ good.1 h e
       ∙ blank-steps blank level more bs good.2 (omega arith)
   values-steps c (next label value blank values) level most more bs good h e =
-      let e' : (label_spelling label ++ (spelling value ++ (blank ++ 44 ∷ values_spelling values))) ++ bs ≡ label_spelling label ++ (spelling value ++ (blank ++ 44 ∷ (values_spelling values ++ bs))) = simp append_assoc in
-      ap (deepest outside level most) e'
+      ap (deepest outside level most) (regroup-next (label_spelling label) (spelling value) blank 44 (values_spelling values) bs)
       ∙ label-steps c label level most _ good.0 h
       ∙ tree-steps value level most (max most (level + depth value)) _ good.1 h refl
       ∙ blank-steps blank level (max most (level + depth value)) _ good.2 (omega arith)

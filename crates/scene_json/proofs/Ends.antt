@@ -1,22 +1,23 @@
--- Where the machine ends, a value stands, and no other; where it is refused, none stands.
-use Rattle.std.proofs.Common.{◌≡◌, ℕ, zero, suc, ◌<◌, ◌≤◌, List, [], ◌∷◌, ◌++◌, length, take, drop, true, Some, refl, sym, ap, subst, ◌∙◌, inl, inr, arith, append_assoc, append-nil, take-append-drop}
+-- Where the machine ends, a value stands; where it is refused, none stands.
+use Rattle.std.proofs.Common.{◌≡◌, ℕ, zero, suc, ◌≤◌, List, [], ◌∷◌, ◌++◌, length, take, drop, true, Some, refl, sym, ap, subst, ◌∙◌, inl, inr, append_assoc, append-nil, take-append-drop}
 use Rattle.std.specs.Prelude.{flat_map, slice_get}
 use Rattle.std.proofs.lemmas.Bool.{false≢true}
 use Rattle.std.proofs.lemmas.List.{append_cancel_right, take_all, drop_all}
-use Rattle.scene_json.specs.Tree.{piece_spelling, Tree, scalar, text, empty, filled, spelling, IsGood}
+use Rattle.scene_json.specs.Tree.{piece_spelling, Tree, scalar, spelling, IsGood}
 use Rattle.scene_json.specs.Value.{Stands, IsFaulty}
 use Rattle.scene_json.specs.declared.number.Part.{Part}
-use Rattle.scene_json.specs.declared.number.Part.TheVariants.{Minus, Zero, Whole, Dot, Fraction, Letter, Sign, Exponent}
+use Rattle.scene_json.specs.declared.number.Part.TheVariants.{Zero, Whole, Fraction, Exponent}
 use Rattle.scene_json.specs.declared.brackets.Bracket.{Bracket}
 use Rattle.scene_json.specs.declared.brackets.Bracket.TheVariants.{Square, Curly}
 use Rattle.scene_json.specs.declared.machine.Place.{Place}
 use Rattle.scene_json.specs.declared.machine.Place.TheVariants.{Plain, Escape, Hex, Sequence}
 use Rattle.scene_json.specs.declared.machine.Letters.{Letters}
-use Rattle.scene_json.specs.declared.machine.Letters.TheVariants.{Ull, Ll, L, Rue, Ue, Alse, Lse, Se, E}
+use Rattle.scene_json.specs.declared.machine.Letters.TheVariants.{Ull}
 use Rattle.scene_json.specs.declared.machine.Mode.{Mode}
 use Rattle.scene_json.specs.declared.machine.Mode.TheVariants.{Fresh, Name, Colon, After, Quoted, Number, Word}
 use Rattle.scene_json.specs.declared.machine.Mode.TheVariants as mode
-use Rattle.scene_json.specs.Machine.{Outcome, state, ended, refused, step}
+use Rattle.scene_json.specs.Machine.{state, ended, refused, step}
+use Rattle.scene_json.proofs.Reading.{append-none}
 use Rattle.scene_json.proofs.NumberRuns.{ends, number_run}
 use Rattle.scene_json.proofs.Machines.{run, start, Reaches}
 use Rattle.scene_json.proofs.Rests.{here, letters_of, Pieces, Rest, Starts, AfterColon, AfterString, Named, Opened, Finishes, InString}
@@ -35,38 +36,21 @@ drop_one [] n b e = cc
 drop_one (x ∷ xs) zero b e = let same : x ≡ b = cc in ap (λ y. y ∷ xs) same
 drop_one (x ∷ xs) (suc n) b e = drop_one xs n b e
 
-pub get_below : (xs : List ℕ) (n b : ℕ) → slice_get xs n ≡ Some b → n < length xs
-get_below [] n b e = cc
-get_below (x ∷ xs) zero b e = omega arith
-get_below (x ∷ xs) (suc n) b e = omega (arith, get_below xs n b e)
-
-pub get_some : (xs : List ℕ) (n : ℕ) → n < length xs → (b : ℕ) × (slice_get xs n ≡ Some b)
-get_some [] n h = absurd (omega arith)
-get_some (x ∷ xs) zero h = (x, refl)
-get_some (x ∷ xs) (suc n) h = get_some xs n (omega arith)
-
-none_append : (xs ys : List ℕ) (y : ℕ) → [] ≡ xs ++ y ∷ ys → ⊥
-none_append [] ys y e = cc
-none_append (x ∷ xs) ys y e = cc
-
 -- ---- where nothing must come any more, white space ends the value
 some_tree : (tree : Tree) → IsGood tree → (rest : List ℕ) → [] ≡ spelling tree ++ rest → ⊥
 some_tree (scalar []) (inl number) rest e = number_run [] number
 some_tree (scalar []) (inr (inl word)) rest e = cc
 some_tree (scalar []) (inr (inr (inl word))) rest e = cc
 some_tree (scalar []) (inr (inr (inr word))) rest e = cc
-some_tree (scalar (b ∷ s)) good rest e = cc
-some_tree (text pieces) good rest e = cc
-some_tree (empty c blank) good rest e = cc
-some_tree (filled c values) good rest e = cc
+some_tree tree good rest e = cc
+
+-- what is said of a state that completes a value with nothing more
+abbrev IsOver : Mode → List Bracket → Type 0
+IsOver m st = step 128 m st 32 ≡ ended 32
 
 module _ (left : List ℕ) where
-  -- what is said of a state that completes a value with nothing more
-  abbrev IsOver : Mode → List Bracket → Type 0
-  IsOver m st = (step 128 m st 32 ≡ ended 32) × (left ≡ [])
-
   rest_over : (st : List Bracket) → Rest 128 left st [] → IsOver After st
-  rest_over [] e = (refl, sym e)
+  rest_over [] e = refl
   rest_over (bracket ∷ st) (here (inl (rest, e, r))) = absurd (cc)
   rest_over (bracket ∷ st) (here (inr (rest, e, r))) = absurd (cc)
 
@@ -80,13 +64,13 @@ module _ (left : List ℕ) where
   no_named st (rest, e, p) = cc
 
   fresh_over : (st : List Bracket) → Opened 128 left st [] → IsOver Fresh st
-  fresh_over [] e = (refl, sym e)
+  fresh_over [] e = refl
   fresh_over (bracket ∷ st) (here (inl (rest, e, r))) = absurd (cc)
   fresh_over (Square ∷ st) (here (inr first)) = absurd (no_starts (Square ∷ st) first)
   fresh_over (Curly ∷ st) (here (inr first)) = absurd (no_named (Curly ∷ st) first)
 
   no_pieces : (P : List ℕ → Type 0) → Pieces P [] → ⊥
-  no_pieces P p = none_append (flat_map piece_spelling p.pieces) p.rest 34 p.spells
+  no_pieces P p = let e = append-none (flat_map piece_spelling p.pieces) (34 ∷ p.rest) (sym p.spells) in cc
 
   no_front : (P : List ℕ → Type 0) (front rest : List ℕ) → [] ≡ front ++ rest → Pieces P rest → ⊥
   no_front P [] rest e p = no_pieces P (subst (Pieces P) (sym e) p)
@@ -99,17 +83,14 @@ module _ (left : List ℕ) where
   no_string (Sequence n tail) P f = no_front P f.front f.rest f.spells f.follows
 
   complete_over : (part : Part) → ends [] part ≡ true → step 128 (Number part) [] 32 ≡ ended 32
-  complete_over Minus e = absurd (false≢true e)
   complete_over Zero e = refl
   complete_over Whole e = refl
-  complete_over Dot e = absurd (false≢true e)
   complete_over Fraction e = refl
-  complete_over Letter e = absurd (false≢true e)
-  complete_over Sign e = absurd (false≢true e)
   complete_over Exponent e = refl
+  complete_over part e = absurd (false≢true e)
 
   number_over : (part : Part) (st : List Bracket) (front rest : List ℕ) → ends front part ≡ true → [] ≡ front ++ rest → Rest 128 left st rest → IsOver (Number part) st
-  number_over part [] [] rest is e r = let over = rest_over [] (subst (Rest 128 left []) (sym e) r) in (complete_over part is, over.1)
+  number_over part [] [] rest is e r = complete_over part is
   number_over part (bracket ∷ st) [] rest is e r = absurd (none_rest (subst (Rest 128 left (bracket ∷ st)) (sym e) r))
     where
       none_rest : Rest 128 left (bracket ∷ st) [] → ⊥
@@ -119,14 +100,7 @@ module _ (left : List ℕ) where
 
   no_word : (letters : Letters) (rest : List ℕ) → [] ≡ letters_of letters ++ rest → ⊥
   no_word Ull rest e = cc
-  no_word Ll rest e = cc
-  no_word L rest e = cc
-  no_word Rue rest e = cc
-  no_word Ue rest e = cc
-  no_word Alse rest e = cc
-  no_word Lse rest e = cc
-  no_word Se rest e = cc
-  no_word E rest e = cc
+  no_word letters rest e = cc
 
   over : (m : Mode) (st : List Bracket) → Finishes 128 left m st [] → IsOver m st
   over mode.Value st f = absurd (no_value st f)
@@ -137,16 +111,6 @@ module _ (left : List ℕ) where
   over (Quoted r place) st f = absurd (no_string place (AfterString 128 left r st) f)
   over (Number part) st f = number_over part st f.front f.rest f.is f.spells f.follows.1
   over (Word letters) st f = absurd (no_word letters f.rest (f.spells ∙ ap (λ x. x ++ f.rest) f.is))
-
--- ---- what follows the value is one text
-one_left : (left right xs : List ℕ) (o : Outcome) → Reaches 128 left o xs → Reaches 128 right o xs → left ≡ right
-one_left left right xs refused p q = absurd p
-one_left left right xs (ended b) p q = sym p ∙ q
-one_left left right [] (state m st) p q = (over left m st p).1 ∙ sym (over right m st q).1
-one_left left right (x ∷ xs) (state m st) p q = one_left left right xs (step 128 m st x) (onward 128 left m st x xs p) (onward 128 right m st x xs q)
-
-pub stands_one_rest : (bytes one other rest more : List ℕ) → Stands bytes one rest → Stands bytes other more → rest ≡ more
-stands_one_rest bytes one other rest more s t = one_left rest more bytes start (stands_start bytes one rest s) (stands_start bytes other more t)
 
 -- ---- the machine stands so behind the first n bytes
 module _ (bytes : List ℕ) (n : ℕ) (m : Mode) (st : List Bracket) (is : run 128 start (take n bytes) ≡ state m st) where
@@ -163,13 +127,6 @@ module _ (bytes : List ℕ) (n : ℕ) (m : Mode) (st : List Bracket) (is : run 1
       start_stands bytes (drop n bytes) (subst (Reaches 128 (drop n bytes) start) (take-append-drop n bytes)
       (runs_backward 128 (drop n bytes) (take n bytes) (drop n bytes) start m st (subst (Finishes 128 (drop n bytes) m st) (sym here_b) f) is))
 
-  pub ended_only : (b : ℕ) → slice_get bytes n ≡ Some b → step 128 m st b ≡ ended b → (found rest : List ℕ) → Stands bytes found rest → rest ≡ drop n bytes
-  ended_only b got e found rest s =
-      let here_b : drop n bytes ≡ b ∷ drop (suc n) bytes = drop_one bytes n b got in
-      let f = subst (Finishes 128 rest m st) here_b (finishes found rest s) in
-      let r : b ∷ drop (suc n) bytes ≡ rest = subst (λ o. Reaches 128 rest o (drop (suc n) bytes)) e (onward 128 rest m st b (drop (suc n) bytes) f) in
-      sym r ∙ sym here_b
-
   pub refused_faulty : (b : ℕ) → slice_get bytes n ≡ Some b → step 128 m st b ≡ refused → IsFaulty bytes
   refused_faulty b got e found rest s =
       let f = subst (Finishes 128 rest m st) (drop_one bytes n b got) (finishes found rest s) in
@@ -180,7 +137,7 @@ module _ (bytes : List ℕ) (n : ℕ) (m : Mode) (st : List Bracket) (is : run 1
     whole : run 128 start bytes ≡ state m st
     whole = subst (λ x. run 128 start x ≡ state m st) (take_all n bytes all) is
 
-    finished : (found rest : List ℕ) → Stands bytes found rest → IsOver rest m st
+    finished : (found rest : List ℕ) → Stands bytes found rest → IsOver m st
     finished found rest s = over rest m st (subst (Finishes 128 rest m st) (drop_all n bytes all) (finishes found rest s))
 
     pub done_stands : step 128 m st 32 ≡ ended 32 → (text : List ℕ) × Stands bytes text []
@@ -199,8 +156,5 @@ module _ (bytes : List ℕ) (n : ℕ) (m : Mode) (st : List Bracket) (is : run 1
           },
         )
 
-    pub done_only : (found rest : List ℕ) → Stands bytes found rest → rest ≡ []
-    done_only found rest s = (finished found rest s).1
-
     pub undone_faulty : (step 128 m st 32 ≡ ended 32 → ⊥) → IsFaulty bytes
-    undone_faulty undone found rest s = undone (finished found rest s).0
+    undone_faulty undone found rest s = undone (finished found rest s)

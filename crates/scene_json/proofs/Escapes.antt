@@ -1,15 +1,16 @@
 -- What stands in a string at a `\`, and the text that it stands for.
-use Rattle.std.proofs.Common.{◌≡◌, ◌≢◌, ◌<◌, ◌≤◌, ℕ, suc, ◌+◌, List, [], ◌∷◌, ◌++◌, Bool, true, false, ◌&&◌, refl, sym, ap, ap₂, ◌∙◌, subst, arith, map, flat_map, length, get_or, take, drop, append_assoc, encode_utf8_all, ◌⊎◌, inl, inr, lit<, zero-add, suc-add, add_assoc, ◌-◌, ◌*◌}
-use Rattle.std.proofs.lemmas.Bool.{cases_Bool, cases_lt, and_parts, and_from, eqb-false, both_ways}
+use Rattle.std.proofs.Common.{◌≡◌, ◌≢◌, ◌<◌, ◌≤◌, ℕ, suc, ◌+◌, List, [], ◌∷◌, ◌++◌, Bool, true, false, ◌&&◌, refl, sym, ap, ap₂, ◌∙◌, subst, arith, map, flat_map, length, get_or, take, drop, append_assoc, encode_utf8_all, ◌⊎◌, ⊎_elim, inl, inr, lit<, zero-add, suc-add, add_assoc, ◌-◌, ◌*◌}
+use Rattle.std.proofs.lemmas.Bool.{cases_Bool, and_parts, and_from, eqb-false, both_ways}
 use Rattle.std.proofs.lemmas.Bool.Decides.{nat_tests}
 use Rattle.std.proofs.lemmas.Str.{encode_ascii}
 use Rattle.std.specs.Char.{IsScalar, encode_utf8}
+use lib.Utf8.{low_scalar}
 use Rattle.std.specs.List.{AllByRecursion, list_all, prefix_len}
 use Rattle.scene_json.specs.Characters.{is_hex, is_plain}
 use Rattle.scene_json.specs.Tree.{Piece, bare, letter, unit, IsPiece, letter_meaning, piece_spelling}
 use Rattle.scene_json.specs.Compact.{piece_value, is_high, is_low, joined, lone, characters, content}
 use Rattle.scene_json.specs.Walk.{Unread, Takes, StartsWithUnit}
-use Rattle.scene_json.proofs.Strings.{first_code, heads-differ, high_bytes, lone-same, joined-scalar}
+use Rattle.scene_json.proofs.Strings.{first_code, heads-differ, lone-same, joined-scalar, plain-bare}
 
 -- one character that is no high surrogate stands alone
 characters-first : (u : ℕ) (us : List ℕ) → is_high u ≡ false → characters (u ∷ us) ≡ lone u ∷ characters us
@@ -30,12 +31,12 @@ content-bare c ps h = ap encode_utf8_all (characters-first c (map piece_value ps
 meaning-low : (b : ℕ) → letter_meaning b < 128
 meaning-low b = grind (arith, nat_tests)
 
-low-scalar : (c : ℕ) → c < 128 → IsScalar c
-low-scalar c h = grind (arith, nat_tests)
+meaning-scalar : (b : ℕ) → IsScalar (letter_meaning b)
+meaning-scalar b = low_scalar (letter_meaning b) (omega (arith, meaning-low b))
 
 content-letter : (b : ℕ) (ps : List Piece) → content (letter b ∷ ps) ≡ encode_utf8 (letter_meaning b) ++ content ps
 unfolding content
-content-letter b ps = let ok = low-scalar (letter_meaning b) (meaning-low b) in
+content-letter b ps = let ok = meaning-scalar b in
     ap encode_utf8_all (characters-first (letter_meaning b) (map piece_value ps) (scalar-not-high (letter_meaning b) ok))
     ∙ ap (λ u. encode_utf8 u ++ encode_utf8_all (characters (map piece_value ps))) (lone-same (letter_meaning b) ok)
 
@@ -77,18 +78,13 @@ escape-ahead {xs} {text} {after} u first = let P : List ℕ → Type 0 = λ t. L
     subst P u.means (ahead xs after u.pieces u.good u.parts first)
 
 pub unit-ahead : {xs text after : List ℕ} → Unread xs text after → get_or xs 0 0 ≡ 92 → get_or xs 1 0 ≡ 117 → UnitAhead xs text after
-unit-ahead {xs} {text} {after} u first second = go (escape-ahead u first)
-  where
-    go : LetterAhead xs text after ⊎ UnitAhead xs text after → UnitAhead xs text after
-    go (inl h) = absurd (h.means_some (let same : h.byte ≡ 117 = sym (ap (λ s. get_or s 1 0) h.parts) ∙ second in rw same refl))
-    go (inr h) = h
+unit-ahead u first second = ⊎_elim
+    (λ h. absurd (h.means_some (let same : h.byte ≡ 117 = sym (ap (λ s. get_or s 1 0) h.parts) ∙ second in rw same refl)))
+    (λ h. h)
+    (escape-ahead u first)
 
 pub letter-ahead : {xs text after : List ℕ} → Unread xs text after → get_or xs 0 0 ≡ 92 → (get_or xs 1 0 ≡ 117 → ⊥) → LetterAhead xs text after
-letter-ahead {xs} {text} {after} u first second = go (escape-ahead u first)
-  where
-    go : LetterAhead xs text after ⊎ UnitAhead xs text after → LetterAhead xs text after
-    go (inl h) = h
-    go (inr h) = absurd (second (ap (λ s. get_or s 1 0) h.parts))
+letter-ahead u first second = ⊎_elim (λ h. h) (λ h. absurd (second (ap (λ s. get_or s 1 0) h.parts))) (escape-ahead u first)
 
 unread : (ps : List Piece) {xs after : List ℕ} → AllByRecursion IsPiece ps → xs ≡ flat_map piece_spelling ps ++ 34 ∷ after → Unread xs (content ps) after
 unread ps {xs} {after} good e = record { pieces = ps; good = good; parts = e; means = refl }
@@ -108,7 +104,7 @@ letter-takes xs b old new first second other e text after u =
 -- a unit that is no high surrogate before a low one stands alone
 low-unit : (p : Piece) → IsPiece p → is_low (piece_value p) ≡ true → (rest : List ℕ) → StartsWithUnit (piece_spelling p ++ rest) (piece_value p)
 low-unit (bare c) good h rest = absurd (both_ways (is_low c) (scalar-not-low c good.0) h)
-low-unit (letter b) good h rest = absurd (both_ways (is_low (letter_meaning b)) (scalar-not-low (letter_meaning b) (low-scalar _ (meaning-low b))) h)
+low-unit (letter b) good h rest = absurd (both_ways (is_low (letter_meaning b)) (scalar-not-low (letter_meaning b) (meaning-scalar b)) h)
 low-unit (unit a b c d) good h rest = record { a = a; b = b; c = c; d = d; tail = rest; parts = refl; is = refl }
 
 alone : (u : ℕ) (ps : List Piece) (after : List ℕ) → AllByRecursion IsPiece ps →
@@ -197,16 +193,6 @@ pair-takes xs first second old new zeroth one is high low starts e text after u 
 pub prefix-run : (p : ℕ → Bool) (xs ys : List ℕ) → list_all p xs ≡ true → prefix_len p (xs ++ ys) ≡ length xs + prefix_len p ys
 prefix-run p [] ys h = sym (zero-add (prefix_len p ys))
 prefix-run p (x ∷ xs) ys h = let both = and_parts (p x) (list_all p xs) h in rw (both.0, prefix-run p xs ys both.1) (omega arith)
-
-plain-high : (bs : List ℕ) → AllByRecursion (λ b. 128 ≤ b) bs → list_all is_plain bs ≡ true
-plain-high [] h = refl
-plain-high (b ∷ bs) h = and_from (is_plain b) (list_all is_plain bs) (grind (arith, nat_tests)) (plain-high bs h.1)
-
-plain-bare : (c : ℕ) → c ≢ 34 → c ≢ 92 → list_all is_plain (encode_utf8 c) ≡ true
-plain-bare c a b = elim (cases_lt c 128) [
-  | inl l ↦ rw (encode_ascii c l) (and_from (is_plain c) true (grind (arith, nat_tests)) refl)
-  | inr l ↦ plain-high (encode_utf8 c) (high_bytes c l)
-]
 
 -- what is left of a string behind the run of plain bytes at its front
 pub record Run (xs text after : List ℕ) (n : ℕ) : Type 0 where

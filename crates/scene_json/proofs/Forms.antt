@@ -1,8 +1,7 @@
 -- What a compact text is, told by its first byte.
-use Rattle.std.proofs.Common.{◌≡◌, ◌-◌, ℕ, List, [], ◌∷◌, false, eqb, refl, sym, ◌∙◌, IsUtf8, append-nil}
+use Rattle.std.proofs.Common.{◌≡◌, ◌-◌, ℕ, List, [], ◌∷◌, ◌++◌, false, eqb, refl, sym, ap, ◌∙◌, IsUtf8, append-nil}
 use Rattle.std.specs.List.{AllByRecursion}
 use Rattle.scene_json.specs.Characters.{quote}
-use Rattle.scene_json.specs.Tree.{string_spelling}
 use Rattle.scene_json.specs.Compact.{Member, array_text, object_text}
 use Rattle.scene_json.specs.Value.{IsCompact}
 use Rattle.scene_json.specs.Walk.{Quoted}
@@ -25,6 +24,9 @@ array-starts ts = (_, refl)
 pub object-starts : (ms : List Member) → StartsWith 123 (object_text ms)
 unfolding object_text
 object-starts ms = (_, refl)
+
+pub starts-same : (b : ℕ) {bytes text : List ℕ} → bytes ≡ text → StartsWith b bytes → StartsWith b text
+starts-same b e h = (h.0, sym e ∙ h.1)
 
 -- a text has one first byte
 starts-once : (a b : ℕ) (bytes text : List ℕ) → eqb a b ≡ false → StartsWith a bytes → StartsWith b text → bytes ≡ text → ⊥
@@ -52,7 +54,7 @@ form-membered limit s (listed ts all some e) starts = absurd (starts-once 123 91
 form-membered limit s (membered ms all some e) starts = (ms, all, e)
 
 -- the quote of a text is a string for it
-pub quote-Quoted : (bytes t : List ℕ) → IsUtf8 t → bytes ≡ quote t → Quoted bytes t []
-quote-Quoted bytes t u e =
+pub quote-Quoted : (bytes t rest : List ℕ) → IsUtf8 t → bytes ≡ quote t ++ rest → Quoted bytes t rest
+quote-Quoted bytes t rest u e =
     let q = utf8-Quotes t u in
-    record { pieces = q.pieces; good = q.good; parts = e ∙ sym q.spells ∙ sym (append-nil (string_spelling q.pieces)); means = q.means }
+    record { pieces = q.pieces; good = q.good; parts = e ∙ ap (λ x. x ++ rest) (sym q.spells); means = q.means }

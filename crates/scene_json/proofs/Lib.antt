@@ -8,6 +8,7 @@ pub mod Decimals
 pub mod Depths
 mod Ends
 pub mod Escapes
+pub mod FirstFaults
 pub mod Forms
 pub mod ItemsLeft
 pub mod Laid
@@ -26,7 +27,6 @@ pub mod Quoting
 pub mod Reading
 mod Rests
 mod Rows
-pub mod Runs
 mod Sequences
 pub mod Spread
 mod StringPlaces

@@ -4,6 +4,7 @@ use Rattle.std.specs.List.{list_all}
 use Rattle.std.proofs.lemmas.Bool.{cases_Bool, and_parts, and_from, or_cases, eqb-true, eqb-false, false≢true}
 use Rattle.scene_json.specs.Characters.{is_digit}
 use Rattle.scene_json.specs.Tree.{AreDigits, IsSign, IsWhole, IsFraction, IsExponent, IsNumber}
+use Rattle.scene_json.specs.Value.{extends_number}
 use Rattle.scene_json.specs.declared.number.Part.{Part}
 use Rattle.scene_json.specs.declared.number.Part.TheVariants.{Minus, Zero, Whole, Dot, Fraction, Letter, Sign, Exponent}
 use Rattle.scene_json.specs.Machine.{whole_begun, part_begun, after_fraction, after_whole, part_after, is_complete}
@@ -99,6 +100,40 @@ number_run s n = subst (IsRun part_begun) (sym n.spells) (signed n.sign n.signed
     signed : (sign : List ℕ) → IsSign sign → IsRun part_begun (sign ++ (n.whole ++ (n.fraction ++ n.exponent)))
     signed sign (inl none) = subst (λ x. IsRun part_begun (x ++ (n.whole ++ (n.fraction ++ n.exponent)))) (sym none) (unsigned_run (n.whole ++ (n.fraction ++ n.exponent)) counted)
     signed sign (inr minus) = subst (λ x. IsRun part_begun (x ++ (n.whole ++ (n.fraction ++ n.exponent)))) (sym minus) (signed_run (n.whole ++ (n.fraction ++ n.exponent)) counted)
+
+-- ---- the bytes of a number
+-- what does not go on with a number ends it
+pub ended_part : (part : Part) (b : ℕ) → extends_number b ≡ false → part_after part b ≡ None
+ended_part Minus b e = grind arith
+ended_part part b e = grind arith
+
+-- the part that a number goes on with
+pub some_part : (s : List ℕ) (o : Option Part) → on_part (ends s) o ≡ true → (part : Part) × (o ≡ Some part) × (ends s part ≡ true)
+some_part s None e = absurd (false≢true e)
+some_part s (Some part) e = (part, refl, e)
+
+pub part_first : (b : ℕ) (part : Part) → part_begun b ≡ Some part → (is_digit b || b == 45) ≡ true
+part_first b part e = grind arith
+
+first_extends : (b : ℕ) → (is_digit b || b == 45) ≡ true → extends_number b ≡ true
+first_extends b e = grind arith
+
+run_extends : (s : List ℕ) (part : Part) → ends s part ≡ true → list_all extends_number s ≡ true
+run_extends [] part run = refl
+run_extends (b ∷ s) part run = elim (cases_Bool (extends_number b)) [
+  | inl e ↦ let p = some_part s (part_after part b) run in and_from (extends_number b) (list_all extends_number s) e (run_extends s p.0 p.2)
+  | inr e ↦ absurd (false≢true (subst (λ o. on_part (ends s) o ≡ true) (ended_part part b e) run))
+]
+
+begun_extends : (s : List ℕ) → IsRun part_begun s → list_all extends_number s ≡ true
+begun_extends [] run = refl
+begun_extends (b ∷ s) run =
+    let p = some_part s (part_begun b) run in
+    and_from (extends_number b) (list_all extends_number s) (first_extends b (part_first b p.0 p.1)) (run_extends s p.0 p.2)
+
+-- each byte of a number may go on with one
+pub number-extends : (s : List ℕ) → IsNumber s → list_all extends_number s ≡ true
+number-extends s n = begun_extends s (number_run s n)
 
 -- ---- what is run over is spelled
 abbrev Goes : List ℕ → Option Part → Type 0

@@ -1,16 +1,20 @@
--- Numbers: which bytes they are made of, and that printed numbers are numbers.
-use Rattle.std.proofs.Common.{◌≡◌, ◌<◌, ◌≤◌, ℕ, ◌+◌, ◌/◌, ◌%◌, ◌^◌, List, [], ◌∷◌, ◌++◌, Bool, true, ◌≢◌, refl, sym, arith, decimal, append-nil, eq-zero-or-pos, inl, inr, ⊎_elim}
-use Rattle.std.proofs.lemmas.Bool.{and_parts, and_from}
+-- Numbers: how they are spelled, and that printed numbers are numbers.
+use Rattle.std.proofs.Common.{◌≡◌, ◌<◌, ◌≤◌, ℕ, ◌+◌, ◌/◌, ◌%◌, ◌^◌, List, [], ◌∷◌, ◌++◌, true, ◌≢◌, refl, ◌∙◌, subst, arith, decimal, append-nil, eq-zero-or-pos, inl, inr, ⊎_elim}
+use Rattle.std.proofs.lemmas.Bool.{and_from}
+use Rattle.std.proofs.lemmas.List.Folds.{list_all-append}
 use Rattle.std.proofs.lemmas.Bool.Decides.{nat_tests}
 use Rattle.std.proofs.lemmas.Fmt.{decimal_by_steps}
 use Rattle.std.specs.List.{list_all}
 use Rattle.scene_json.specs.Characters.{is_digit}
-use Rattle.scene_json.specs.Tree.{IsNumber}
+use Rattle.scene_json.specs.Tree.{IsNumber, IsSign, IsWhole, IsFraction, IsExponent}
 
-pub list_all-append : (p : ℕ → Bool) (xs ys : List ℕ) → list_all p xs ≡ true → list_all p ys ≡ true → list_all p (xs ++ ys) ≡ true
-list_all-append p [] ys h k = k
-list_all-append p (x ∷ xs) ys h k = let both = and_parts (p x) (list_all p xs) h in
-    and_from (p x) (list_all p (xs ++ ys)) both.0 (list_all-append p xs ys both.1 k)
+-- four parts spell a number, and a whole part alone does
+pub number : (sign whole fraction exponent : List ℕ) → IsSign sign → IsWhole whole → IsFraction fraction → IsExponent exponent → IsNumber (sign ++ (whole ++ (fraction ++ exponent)))
+number sign whole fraction exponent s w f e =
+    record { sign = sign; whole = whole; fraction = fraction; exponent = exponent; spells = refl; signed = s; counted = w; parted = f; scaled = e }
+
+pub whole_number : (s : List ℕ) → IsWhole s → IsNumber s
+whole_number s w = subst IsNumber (append-nil s) (number [] s [] [] (inl refl) w (inl refl) (inl refl))
 
 -- the digits of a number: `0` alone, or digits that don't begin with `0`
 record Digits (n : ℕ) (ds : List ℕ) : Type 0 where
@@ -38,19 +42,12 @@ more_digits n ds h d = record {
   more = d.more ++ (48 + n % 10) ∷ [];
   parts = rw d.parts refl;
   positive = λ p. d.positive (omega arith);
-  digits = list_all-append is_digit ds ((48 + n % 10) ∷ []) d.digits (one_digit (n % 10) (omega arith)).digits;
+  digits = list_all-append is_digit ds ((48 + n % 10) ∷ [])
+      ∙ and_from (list_all is_digit ds) (list_all is_digit ((48 + n % 10) ∷ [])) d.digits (one_digit (n % 10) (omega arith)).digits;
 }
 
 -- a printed number is a number
 pub decimal-number : (n : ℕ) → n < 2 ^ 64 → IsNumber (decimal n)
-decimal-number n h = let d = decimal_by_steps Digits one_digit more_digits n h in record {
-  sign = [];
-  whole = decimal n;
-  fraction = [];
-  exponent = [];
-  spells = sym (append-nil (decimal n));
-  signed = inl refl;
-  counted = ⊎_elim (λ e. inl (d.zero e)) (λ p. inr (d.first, d.more, d.parts, d.positive p, d.digits)) (eq-zero-or-pos n);
-  parted = inl refl;
-  scaled = inl refl;
-}
+decimal-number n h =
+    let d = decimal_by_steps Digits one_digit more_digits n h in
+    whole_number (decimal n) (⊎_elim (λ e. inl (d.zero e)) (λ p. inr (d.first, d.more, d.parts, d.positive p, d.digits)) (eq-zero-or-pos n))

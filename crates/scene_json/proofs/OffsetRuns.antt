@@ -1,31 +1,23 @@
 -- The machine over the bytes from an offset on.
-use Rattle.std.proofs.Common.{◌≡◌, ℕ, zero, suc, ◌+◌, ◌-◌, ◌<◌, ◌≤◌, List, [], ◌∷◌, length, take, drop, get_or, Some, None, refl, sym, ap, subst, ◌∙◌, arith, length-drop}
+use Rattle.std.proofs.Common.{◌≡◌, ℕ, suc, ◌+◌, ◌-◌, ◌<◌, ◌≤◌, List, [], ◌∷◌, length, take, drop, get_or, Some, None, sym, ap, subst, ◌∙◌, arith, length-drop}
 use Rattle.std.specs.Prelude.{slice_get}
 use Rattle.std.proofs.lemmas.List.{drop-drop, get_or-drop, drop_all}
+use Rattle.std.proofs.lemmas.Option.{slice_get-get_or, slice_get_past}
 use Rattle.scene_json.specs.Value.{Stands}
 use Rattle.scene_json.specs.Faults.{IsFirstFault, IsFaultOf}
 use Rattle.scene_json.specs.declared.brackets.Bracket.{Bracket}
 use Rattle.scene_json.specs.declared.machine.Mode.{Mode}
 use Rattle.scene_json.specs.Machine.{Outcome, state, ended, refused, top, step, fault_of}
 use Rattle.scene_json.proofs.Machines.{run, start, run-append}
-use Rattle.scene_json.proofs.Ends.{take_one, ended_stands, ended_only, refused_faulty, done_stands, done_only, undone_faulty}
+use Rattle.scene_json.proofs.Ends.{take_one, ended_stands, refused_faulty, done_stands, undone_faulty}
 use Rattle.scene_json.proofs.Places.{told}
-
-get_is : (xs : List ℕ) (n : ℕ) → n < length xs → slice_get xs n ≡ Some (get_or xs n 0)
-get_is [] n h = absurd (omega arith)
-get_is (x ∷ xs) zero h = refl
-get_is (x ∷ xs) (suc n) h = get_is xs n (omega arith)
-
-get_none : (xs : List ℕ) (n : ℕ) → length xs ≤ n → slice_get xs n ≡ None
-get_none [] n h = refl
-get_none (x ∷ xs) zero h = absurd (omega arith)
-get_none (x ∷ xs) (suc n) h = get_none xs n (omega arith)
+use Rattle.scene_json.proofs.Reading.{Stands-once}
 
 module _ (bytes : List ℕ) (at i : ℕ) (low : at ≤ i) where
   got : i < length bytes → slice_get (drop at bytes) (i - at) ≡ Some (get_or bytes i 0)
   got high =
       let place : at + (i - at) ≡ i = omega arith in
-      get_is (drop at bytes) (i - at) (omega (arith, length-drop at bytes)) ∙ ap Some (get_or-drop at bytes (i - at) 0 ∙ ap (λ k. get_or bytes k 0) place)
+      slice_get-get_or (drop at bytes) (i - at) 0 (omega (arith, length-drop at bytes)) ∙ ap Some (get_or-drop at bytes (i - at) 0 ∙ ap (λ k. get_or bytes k 0) place)
 
   behind : drop (i - at) (drop at bytes) ≡ drop i bytes
   behind = let place : at + (i - at) ≡ i = omega arith in drop-drop (i - at) at bytes ∙ ap (λ k. drop k bytes) place
@@ -42,7 +34,7 @@ module _ (bytes : List ℕ) (at i : ℕ) (low : at ≤ i) where
     end_found high e = subst (λ r. (text : List ℕ) × Stands (drop at bytes) text r) behind (ended_stands (drop at bytes) (i - at) m st is (get_or bytes i 0) (got high) e)
 
     pub end_only : i < length bytes → step 128 m st (get_or bytes i 0) ≡ ended (get_or bytes i 0) → (text rest : List ℕ) → Stands (drop at bytes) text rest → rest ≡ drop i bytes
-    end_only high e text rest s = ended_only (drop at bytes) (i - at) m st is (get_or bytes i 0) (got high) e text rest s ∙ behind
+    end_only high e text rest s = (Stands-once s (end_found high e).1).1
 
     -- the byte at i is refused
     pub refused_fault : i < length bytes → step 128 m st (get_or bytes i 0) ≡ refused → IsFirstFault bytes at (fault_of m (top st) (Some (get_or bytes i 0)) i)
@@ -60,7 +52,7 @@ module _ (bytes : List ℕ) (at i : ℕ) (low : at ≤ i) where
     -- the bytes end
     module _ (full : i ≡ length bytes) where
       none : slice_get (drop at bytes) (i - at) ≡ None
-      none = get_none (drop at bytes) (i - at) (omega (arith, length-drop at bytes))
+      none = slice_get_past (drop at bytes) (i - at) (omega (arith, length-drop at bytes))
 
       all : length (drop at bytes) ≤ i - at
       all = omega (arith, length-drop at bytes)
@@ -71,8 +63,8 @@ module _ (bytes : List ℕ) (at i : ℕ) (low : at ≤ i) where
       pub done_found : step 128 m st 32 ≡ ended 32 → (text : List ℕ) × Stands (drop at bytes) text (drop (length bytes) bytes)
       done_found e = subst (λ r. (text : List ℕ) × Stands (drop at bytes) text r) nothing (done_stands (drop at bytes) (i - at) m st is all e)
 
-      pub finished_only : (text rest : List ℕ) → Stands (drop at bytes) text rest → rest ≡ drop (length bytes) bytes
-      finished_only text rest s = done_only (drop at bytes) (i - at) m st is all text rest s ∙ nothing
+      pub finished_only : step 128 m st 32 ≡ ended 32 → (text rest : List ℕ) → Stands (drop at bytes) text rest → rest ≡ drop (length bytes) bytes
+      finished_only e text rest s = (Stands-once s (done_found e).1).1
 
       pub undone_fault : (step 128 m st 32 ≡ ended 32 → ⊥) → IsFirstFault bytes at (fault_of m (top st) None (length bytes))
       undone_fault undone =

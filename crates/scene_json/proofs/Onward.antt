@@ -3,12 +3,12 @@ use Rattle.std.proofs.Common.{◌≡◌, ◌≢◌, ◌==◌, ◌||◌, ℕ, zer
 use Rattle.std.specs.Prelude.{flat_map}
 use Rattle.std.specs.List.{list_all, AllByRecursion}
 use Rattle.std.specs.Char.{encode_utf8}
-use Rattle.std.proofs.lemmas.Bool.{and_parts, lt-ltb, le-ltb, ne_eqb, false≢true, cases_lt, cases_eq}
+use Rattle.std.proofs.lemmas.Str.{encode_ascii}
+use Rattle.std.proofs.lemmas.Bool.{and_parts, lt-ltb, le-ltb, ne_eqb, cases_lt, cases_eq}
 use Rattle.scene_json.specs.Characters.{is_space, is_blank, is_digit, is_hex}
-use Rattle.scene_json.specs.Tree.{Piece, bare, letter, unit, IsPiece, piece_spelling, letter_meaning, Container, array, object, opening, closing, Tree, scalar, text, empty, filled, spelling, IsGood, depth, values_spelling, AreGood, IsNumber, IsWord}
+use Rattle.scene_json.specs.Tree.{Piece, bare, letter, unit, IsPiece, piece_spelling, letter_meaning, Container, array, object, opening, closing, Tree, scalar, text, empty, filled, spelling, IsGood, depth, values_spelling, AreGood, IsWord}
 use Rattle.scene_json.specs.Value.{extends_number, Follows}
 use Rattle.scene_json.specs.declared.number.Part.{Part}
-use Rattle.scene_json.specs.declared.number.Part.TheVariants.{Minus, Zero, Whole, Dot, Fraction, Letter, Sign, Exponent}
 use Rattle.scene_json.specs.declared.sequence.Tail.{Tail}
 use Rattle.scene_json.specs.declared.brackets.Bracket.{Bracket}
 use Rattle.scene_json.specs.declared.brackets.Bracket.TheVariants.{Square, Curly}
@@ -23,42 +23,24 @@ use Rattle.scene_json.specs.declared.machine.Mode.TheVariants.{Fresh, Name, Colo
 use Rattle.scene_json.specs.declared.machine.Mode.TheVariants as mode
 use Rattle.scene_json.specs.declared.machine.Move.TheVariants.{To}
 use Rattle.scene_json.specs.Machine.{state, applied, step, container_of, part_begun, part_after, number_on, value_begun, after_string, tail_led, tail_after, tail_length, sequence_on, plain_move, escape_move}
-use Rattle.scene_json.proofs.NumberRuns.{ends, on_part, IsRun, number_run}
-use Rattle.scene_json.proofs.Sequences.{Completes, on_tail, encode_one, char_led}
-use Rattle.scene_json.proofs.Rests.{Quiet, Spaced, here, space, Byte, letters_of, Pieces, Front, IsEscape, AreHex, InString, Listed, Rest, Starts, AfterColon, AfterName, AfterString, Named, First, Opened, Finishes}
+use Rattle.scene_json.proofs.NumberRuns.{ends, IsRun, number_run, ended_part, some_part, part_first}
+use Rattle.scene_json.proofs.Reading.{Front, Follows-Stops}
+use Rattle.scene_json.proofs.Sequences.{Completes, on_tail, char_led}
+use Rattle.scene_json.proofs.Rests.{Quiet, Spaced, here, space, Byte, letters_of, Pieces, IsEscape, AreHex, InString, Listed, Rest, Starts, AfterColon, AfterName, AfterString, Named, First, Opened, Finishes}
 use Rattle.scene_json.proofs.Unrolled.{spaced_from, spaced_map, unrolled}
 use Rattle.scene_json.proofs.Machines.{Reaches}
 
 byte_is : {P : List ℕ → Type 0} (x b : ℕ) (w : List ℕ) → Byte x P (b ∷ w) → (b ≡ x) × P w
 byte_is {P} x b w (rest, e, p) = let same : w ≡ rest = cc in (cc, subst P (sym same) p)
 
--- the part that a number goes on with
-some_part : (s : List ℕ) (o : Option Part) → on_part (ends s) o ≡ true → (part : Part) × (o ≡ Some part) × (ends s part ≡ true)
-some_part s None e = absurd (false≢true e)
-some_part s (Some part) e = (part, refl, e)
-
-follows_quiet : (value w : List ℕ) → IsNumber value → Follows value w → Quiet w
-follows_quiet value [] n f = tt
-follows_quiet value (b ∷ w) n f = f n
-
-lead_high : (b : ℕ) (tail : Tail) → tail_led b ≡ Some tail → 128 ≤ b
-lead_high b tail e = grind arith
+-- a byte that begins a sequence
+pub led_high : (b : ℕ) (tail : Tail) → tail_led b ≡ Some tail → 192 ≤ b
+led_high b tail e = grind arith
 
 pub lead_char : (r : Role) (b : ℕ) (tail : Tail) → tail_led b ≡ Some tail → plain_move r b ≡ To (Quoted r (Sequence (tail_length tail + 1) tail))
 lead_char r b tail e =
-    let high : 128 ≤ b = lead_high b tail e in
-    rw (ne_eqb b 34 (λ q. omega arith), ne_eqb b 92 (λ q. omega arith), le-ltb b 32 (omega arith), le-ltb b 128 high, e) refl
-
--- what does not go on with a number ends it
-pub ended_part : (part : Part) (b : ℕ) → extends_number b ≡ false → part_after part b ≡ None
-ended_part Minus b e = grind arith
-ended_part Zero b e = grind arith
-ended_part Whole b e = grind arith
-ended_part Dot b e = grind arith
-ended_part Fraction b e = grind arith
-ended_part Letter b e = grind arith
-ended_part Sign b e = grind arith
-ended_part Exponent b e = grind arith
+    let high : 192 ≤ b = led_high b tail e in
+    rw (ne_eqb b 34 (λ q. omega arith), ne_eqb b 92 (λ q. omega arith), le-ltb b 32 (omega arith), le-ltb b 128 (omega arith), e) refl
 
 module _ (limit : ℕ) (left : List ℕ) where
   -- ---- after a value
@@ -87,9 +69,6 @@ module _ (limit : ℕ) (left : List ℕ) where
     pub inside : (b == 93) ≡ false
     pub goes : Reaches limit left (applied limit st b (value_begun b)) w
 
-  number_first : (b : ℕ) (part : Part) → part_begun b ≡ Some part → (is_digit b || b == 45) ≡ true
-  number_first b part e = grind arith
-
   number_solid : (b : ℕ) → (is_digit b || b == 45) ≡ true → is_space b ≡ false
   number_solid b e = grind arith
 
@@ -102,7 +81,7 @@ module _ (limit : ℕ) (left : List ℕ) where
   number_begun : (st : List Bracket) (b : ℕ) (s w rest : List ℕ) → IsRun part_begun (b ∷ s) → w ≡ s ++ rest → Quiet rest → Rest limit left st rest → Begun st b w
   number_begun st b s w rest is e quiet follows =
       let p = some_part s (part_begun b) is in
-      let first = number_first b p.0 p.1 in
+      let first = part_first b p.0 p.1 in
       record {
         solid = number_solid b first;
         inside = number_inside b first;
@@ -167,7 +146,7 @@ module _ (limit : ℕ) (left : List ℕ) where
   filled_opened st bracket w l = spaced_map (λ x p. inr p) (unrolled limit left st bracket w l)
 
   tree_begun : (st : List Bracket) (b : ℕ) (w rest : List ℕ) (tree : Tree) → IsGood tree → depth tree ≤ limit - length st → b ∷ w ≡ spelling tree ++ rest → Follows (spelling tree) rest → Rest limit left st rest → Begun st b w
-  tree_begun st b w rest (scalar literal) (inl number) shallow e quiet follows = literal_begun st b w literal rest e (number_run literal number) (follows_quiet literal rest number quiet) follows
+  tree_begun st b w rest (scalar literal) (inl number) shallow e quiet follows = literal_begun st b w literal rest e (number_run literal number) (Follows-Stops literal rest number quiet) follows
   tree_begun st b w rest (scalar literal) (inr word) shallow e quiet follows = word_begun st b w literal rest e word follows
   tree_begun st b w rest (text pieces) good shallow e quiet follows = text_begun st b w rest pieces e good follows
   tree_begun st b w rest (empty c blank) good shallow e quiet follows =
@@ -194,11 +173,8 @@ module _ (limit : ℕ) (left : List ℕ) where
   value_onward st b w (space s r) = rw s r
 
   -- ---- names, colons and what follows an opening bracket
-  named_onward : (st : List Bracket) (b : ℕ) (w : List ℕ) → Named limit left st (b ∷ w) → (b ≡ 34) × Pieces (AfterName limit left st) w
-  named_onward st b w n = byte_is 34 b w n
-
   name_onward : (st : List Bracket) (b : ℕ) (w : List ℕ) → Spaced (Named limit left st) (b ∷ w) → Reaches limit left (step limit Name st b) w
-  name_onward st b w (here n) = let p = named_onward st b w n in subst (λ x. Reaches limit left (step limit Name st x) w) (sym p.0) p.1
+  name_onward st b w (here n) = let p = byte_is 34 b w n in subst (λ x. Reaches limit left (step limit Name st x) w) (sym p.0) p.1
   name_onward st b w (space s r) = rw s r
 
   colon_onward : (st : List Bracket) (b : ℕ) (w : List ℕ) → AfterName limit left st (b ∷ w) → Reaches limit left (step limit Colon st b) w
@@ -216,7 +192,7 @@ module _ (limit : ℕ) (left : List ℕ) where
       subst (λ x. Reaches limit left (step limit Fresh (bracket ∷ st) x) w) (sym p.0) (fresh_closed bracket st w p.1)
   fresh_onward (Square ∷ st) b w (here (inr first)) = let r = starts_begun (Square ∷ st) b w first in rw (r.solid, r.inside) r.goes
   fresh_onward (Curly ∷ st) b w (here (inr first)) =
-      let p = named_onward (Curly ∷ st) b w first in
+      let p = byte_is 34 b w first in
       subst (λ x. Reaches limit left (step limit Fresh (Curly ∷ st) x) w) (sym p.0) p.1
   fresh_onward (bracket ∷ st) b w (space s r) = rw s r
 
@@ -232,7 +208,7 @@ module _ (limit : ℕ) (left : List ℕ) where
       → b ∷ w ≡ (encode_utf8 c ++ flat_map piece_spelling pieces) ++ 34 ∷ rest → AfterString limit left r st rest → Reaches limit left (step limit (Quoted r Plain) st b) w
   bare_onward r st b c w rest pieces good goods e follows = elim (cases_lt c 128) [
     | inl small ↦
-        let one : b ∷ w ≡ c ∷ (flat_map piece_spelling pieces ++ 34 ∷ rest) = e ∙ ap (λ x. (x ++ flat_map piece_spelling pieces) ++ 34 ∷ rest) (encode_one c small) in
+        let one : b ∷ w ≡ c ∷ (flat_map piece_spelling pieces ++ 34 ∷ rest) = e ∙ ap (λ x. (x ++ flat_map piece_spelling pieces) ++ 34 ∷ rest) (encode_ascii c small) in
         let first : b ≡ c = cc in
         subst (λ x. Reaches limit left (step limit (Quoted r Plain) st x) w) (sym first)
         (rw (plain_char r c good.1 small good.2 good.3) (record { pieces = pieces; rest = rest; good = goods; spells = cc; follows = follows }))

@@ -1,7 +1,7 @@
 -- Members as pairs: what holds of the one holds of the other.
 use Rattle.std.proofs.Common.{◌≡◌, ◌≤◌, ℕ, List, [], ◌∷◌, refl, sym, ap, subst, map, All, IsUtf8, bytes_eq, take, length, take_all}
-use Rattle.std.proofs.lemmas.List.Elements.{recursion_from_All, All-map, All-same}
-use Rattle.std.specs.List.{IsDistinct}
+use Rattle.std.proofs.lemmas.List.Elements.{recursion_from_All, All-from_recursion, All-map, All-same}
+use Rattle.std.specs.List.{AllByRecursion, IsDistinct}
 use Rattle.scene_json.specs.declared.text.Member.{Member}
 use Rattle.scene_json.specs.Compact.{Member as Pair}
 use Rattle.scene_json.specs.Members.{pairs, pair_of}
@@ -20,3 +20,14 @@ pairs-AreMembers limit i ms all named distinct valued = record {
   valued = recursion_from_All (λ (m : Pair). IsCompact limit m.1) (pairs ms) (All-map (λ (m : Pair). IsCompact limit m.1) pair_of ms valued);
   distinct = subst (IsDistinct bytes_eq) (sym (names-pairs ms)) distinct;
 }
+
+-- what may be made an object of
+pub AreMembers-distinct : (limit : ℕ) (ms : List Member) → AreMembers limit (pairs ms) → IsDistinct bytes_eq (map (λ m. m.name) ms)
+AreMembers-distinct limit ms are = subst (IsDistinct bytes_eq) (names-pairs ms) are.distinct
+
+values-recursion : (limit : ℕ) (ms : List Member) → AllByRecursion (λ (m : Pair). IsCompact limit m.1) (pairs ms) → AllByRecursion (λ (m : Member). IsCompact limit m.value) ms
+values-recursion limit [] each = tt
+values-recursion limit (m ∷ ms) each = (each.0, values-recursion limit ms each.1)
+
+pub AreMembers-values : (limit : ℕ) (ms : List Member) → AreMembers limit (pairs ms) → All (λ (m : Member). IsCompact limit m.value) ms
+AreMembers-values limit ms are = All-from_recursion (λ (m : Member). IsCompact limit m.value) ms (values-recursion limit ms are.valued)

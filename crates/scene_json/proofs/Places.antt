@@ -1,9 +1,11 @@
 -- Which the first fault is, and where.
-use Rattle.std.proofs.Common.{◌≡◌, ◌≢◌, ◌⊎◌, ℕ, suc, ◌+◌, ◌-◌, ◌<◌, ◌≤◌, List, [], ◌∷◌, ◌++◌, length, take, drop, replicate, Bool, true, false, cond, Option, Some, None, is_none, refl, sym, ap, subst, ◌∙◌, inl, inr, arith, take-append-drop, nat_le, length-append}
+use Rattle.std.proofs.Common.{◌≡◌, ◌≢◌, ◌⊎◌, ℕ, suc, ◌+◌, ◌-◌, ◌<◌, ◌≤◌, List, [], ◌∷◌, ◌++◌, length, get_or, take, drop, replicate, Bool, true, false, cond, Option, Some, None, is_none, refl, sym, ap, subst, ◌∙◌, inl, inr, arith, take-append-drop, nat_le, length-append}
 use Rattle.std.specs.Prelude.{slice_get}
 use Rattle.std.specs.Char.{IsScalar, encode_utf8}
 use lib.Utf8.{low_scalar}
 use Rattle.std.proofs.lemmas.Bool.{cases_lt, cases_order, false≢true, leb-true, leb-false, and_parts, and_cases}
+use Rattle.std.proofs.lemmas.Str.{encode_ascii}
+use Rattle.std.proofs.lemmas.Option.{slice_get-get_or}
 use Rattle.std.proofs.lemmas.List.{take-take, drop_at, length-take-le}
 use Rattle.scene_json.specs.Value.{Begins, IsLongest, IsInString, IsUnfinished, IsTooDeep, IsBrokenOff, IsStray, IsBadSyntax}
 use Rattle.scene_json.specs.Faults.{IsFaultOf}
@@ -14,22 +16,22 @@ use Rattle.scene_json.specs.declared.brackets.Bracket.{Bracket}
 use Rattle.scene_json.specs.declared.brackets.Bracket.TheVariants.{Square, Curly}
 use Rattle.scene_json.specs.declared.machine.Role.{Role}
 use Rattle.scene_json.specs.declared.machine.Place.{Place}
-use Rattle.scene_json.specs.declared.machine.Place.TheVariants.{Plain, Escape, Hex, Sequence}
+use Rattle.scene_json.specs.declared.machine.Place.TheVariants.{Plain, Sequence}
 use Rattle.scene_json.specs.declared.machine.Mode.{Mode}
-use Rattle.scene_json.specs.declared.machine.Mode.TheVariants.{Fresh, Name, Colon, After, Quoted, Number, Word}
-use Rattle.scene_json.specs.declared.machine.Mode.TheVariants as mode
+use Rattle.scene_json.specs.declared.machine.Mode.TheVariants.{Quoted}
 use Rattle.scene_json.specs.declared.machine.Move.{Move}
-use Rattle.scene_json.specs.declared.machine.Move.TheVariants.{To, Open, Close, End, Refuse}
+use Rattle.scene_json.specs.declared.machine.Move.TheVariants.{To, Open}
 use Rattle.scene_json.specs.Machine.{Outcome, state, ended, refused, top, applied, step, moved, opens, tail_led, tail_length, is_stray, stray_fault, bracket_fault, fault_of}
-use Rattle.scene_json.proofs.Sequences.{Completes, encode_one, IsChar, char_led, led_char}
+use Rattle.scene_json.proofs.Reading.{append-none}
+use Rattle.scene_json.proofs.Sequences.{Completes, IsChar, char_led, led_char}
 use Rattle.scene_json.proofs.Machines.{run, start, run-append}
 use Rattle.scene_json.proofs.Closers.{tail_closed}
-use Rattle.scene_json.proofs.Onward.{lead_char}
-use Rattle.scene_json.proofs.Moves.{OnState, on_applied, HasCome, Keeps, Kept, kept, run_keeps, IsPlain, high_moved, led_high}
+use Rattle.scene_json.proofs.Onward.{lead_char, led_high}
+use Rattle.scene_json.proofs.Moves.{OnState, on_applied, HasCome, Keeps, Kept, kept, run_keeps, IsPlain, IsOutside, high_moved}
 use Rattle.scene_json.proofs.Limits.{IsWithin, run_more, run_within, deep_opens, opens_deeper, string_shut}
-use Rattle.scene_json.proofs.StringPlaces.{IsOutside, IsInside, no_escape, some_escape, tail_run}
+use Rattle.scene_json.proofs.StringPlaces.{IsInside, no_escape, some_escape, tail_run}
 use Rattle.scene_json.proofs.ValueRuns.{begins_runs, runs_begins, begins_less, refused_stays, ended_stays}
-use Rattle.scene_json.proofs.Ends.{take_one, get_some}
+use Rattle.scene_json.proofs.Ends.{take_one}
 
 -- the machine is inside a sequence
 abbrev pub IsSequence : Mode → Type 0
@@ -44,7 +46,7 @@ longest_least bytes n k a b less =
     a.stops (omega arith) (subst (Begins 128) (take-take (suc n) k bytes (omega arith))
     (begins_less 128 (take (suc n) (take k bytes)) (drop (suc n) (take k bytes)) (subst (Begins 128) (sym front) b.begins)))
 
-longest_one : (bytes : List ℕ) (n k : ℕ) → IsLongest bytes n → IsLongest bytes k → k ≡ n
+pub longest_one : (bytes : List ℕ) (n k : ℕ) → IsLongest bytes n → IsLongest bytes k → k ≡ n
 longest_one bytes n k a b = elim (cases_order n k) [
   | inl same ↦ sym same
   | inr (inl less) ↦ absurd (longest_least bytes n k a b less)
@@ -53,18 +55,18 @@ longest_one bytes n k a b = elim (cases_order n k) [
 
 -- ---- a sequence that is begun and not complete
 -- what an unfinished sequence says of its first byte and the others
-record IsCut (first : ℕ) (more : List ℕ) : Type 0 where
-  tail : Tail
-  next : List ℕ
-  led : tail_led first ≡ Some tail
-  completes : Completes (more ++ next) tail
-  some : next ≡ [] → ⊥
+pub record IsCut (first : ℕ) (more : List ℕ) : Type 0 where
+  pub tail : Tail
+  pub next : List ℕ
+  pub led : tail_led first ≡ Some tail
+  pub completes : Completes (more ++ next) tail
+  pub some : next ≡ [] → ⊥
 
 cut : (c first : ℕ) (more next : List ℕ) → IsScalar c → encode_utf8 c ≡ first ∷ (more ++ next) → next ≢ [] → IsCut first more
 cut c first more next scalar e some = elim (cases_lt c 128) [
   | inl small ↦
-      let one : c ∷ [] ≡ first ∷ (more ++ next) = sym (encode_one c small) ∙ e in
-      absurd (some (no_more more (cc)))
+      let one : c ∷ [] ≡ first ∷ (more ++ next) = sym (encode_ascii c small) ∙ e in
+      absurd (some (append-none more next (cc)))
   | inr big ↦
       let l = char_led c scalar big in
       let same : l.first ∷ l.more ≡ first ∷ (more ++ next) = sym l.spells ∙ e in
@@ -76,10 +78,6 @@ cut c first more next scalar e some = elim (cases_lt c 128) [
         some = some;
       }
 ]
-  where
-    no_more : (xs : List ℕ) → xs ++ next ≡ [] → next ≡ []
-    no_more [] e = e
-    no_more (y ∷ ys) e = cc
 
 module _ (limit : ℕ) (first : ℕ) (more : List ℕ) (is : IsCut first more) (m : Mode) (st : List Bracket) where
   high : 192 ≤ first
@@ -96,16 +94,6 @@ module _ (limit : ℕ) (first : ℕ) (more : List ℕ) (is : IsCut first more) (
   led_sequence : (o : Outcome) → run limit o (first ∷ more) ≡ state m st → IsSequence m
   led_sequence refused e = absurd (refused_stays limit more m st e)
   led_sequence (ended c) e = absurd (refused_stays limit more m st e)
-  led_sequence (state mode.Value st0) e = no_lead mode.Value st0 (λ h. h) e
-  led_sequence (state Fresh st0) e = no_lead Fresh st0 (λ h. h) e
-  led_sequence (state Name st0) e = no_lead Name st0 (λ h. h) e
-  led_sequence (state Colon st0) e = no_lead Colon st0 (λ h. h) e
-  led_sequence (state After st0) e = no_lead After st0 (λ h. h) e
-  led_sequence (state (Number part) st0) e = no_lead (Number part) st0 (λ h. h) e
-  led_sequence (state (Word letters) st0) e = no_lead (Word letters) st0 (λ h. h) e
-  led_sequence (state (Quoted r Escape) st0) e = no_lead (Quoted r Escape) st0 (λ h. h) e
-  led_sequence (state (Quoted r (Hex k)) st0) e = no_lead (Quoted r (Hex k)) st0 (λ h. h) e
-  led_sequence (state (Quoted r (Sequence n tail)) st0) e = no_lead (Quoted r (Sequence n tail)) st0 (λ h. h) e
   led_sequence (state (Quoted r Plain) st0) e =
       let t = tail_run limit r (tail_length is.tail + 1) st0 more is.next is.tail is.completes is.some in
       let led : step limit (Quoted r Plain) st0 first ≡ state (Quoted r (Sequence (tail_length is.tail + 1) is.tail)) st0 = ap (applied limit st0 first) (lead_char' r) in
@@ -115,6 +103,25 @@ module _ (limit : ℕ) (first : ℕ) (more : List ℕ) (is : IsCut first more) (
     where
       lead_char' : (r : Role) → moved (Quoted r Plain) (top st0) first ≡ To (Quoted r (Sequence (tail_length is.tail + 1) is.tail))
       lead_char' r = lead_char r first is.tail is.led
+  led_sequence (state m0 st0) e = no_lead m0 st0 (λ h. h) e
+
+pub unfinished_cut : (bytes : List ℕ) (u : IsUnfinished bytes) → IsCut u.1 u.2
+unfinished_cut bytes u = cut u.0 u.1 u.2 u.3 u.4 (u.6 ∙ ap (λ x. x ++ u.3) u.5) u.7
+
+-- behind bytes that end in an unfinished sequence the machine is inside one
+pub unfinished_sequence : (limit : ℕ) (bytes : List ℕ) (k : ℕ) (m : Mode) (st : List Bracket) → IsUnfinished (drop k bytes) → run limit start bytes ≡ state m st → IsSequence m
+unfinished_sequence limit bytes k m st u is =
+    let whole : bytes ≡ take k bytes ++ (u.1 ∷ u.2) = sym (take-append-drop k bytes) ∙ ap (λ x. take k bytes ++ x) u.5 in
+    led_sequence limit u.1 u.2 (unfinished_cut (drop k bytes) u) m st (run limit start (take k bytes))
+    (sym (run-append limit start (take k bytes) (u.1 ∷ u.2)) ∙ ap (run limit start) (sym whole) ∙ is)
+
+-- outside a string no escape may come
+pub not_inside : (bytes : List ℕ) (m : Mode) (st : List Bracket) → run 128 start bytes ≡ state m st → IsOutside m → IsInString bytes → ⊥
+not_inside bytes m st is outside (zeros, begins) =
+    let r = begins_runs 128 (bytes ++ (replicate zeros 48 ++ 92 ∷ [])) begins in
+    let e : run 128 (state m st) (replicate zeros 48 ++ 92 ∷ []) ≡ state r.mode r.brackets =
+    ap (λ o. run 128 o (replicate zeros 48 ++ 92 ∷ [])) (sym is) ∙ sym (run-append 128 start bytes (replicate zeros 48 ++ 92 ∷ [])) ∙ r.is in
+    subst (OnState (λ x. ⊥)) e (no_escape 128 (state m st) zeros outside)
 
 -- ---- the fault behind the first n bytes
 module _ (bytes : List ℕ) (n : ℕ) (within : n ≤ length bytes) where
@@ -131,9 +138,9 @@ module _ (bytes : List ℕ) (n : ℕ) (within : n ≤ length bytes) where
       within = within;
       begins = runs_begins 128 (take n bytes) (record { mode = m; brackets = st; is = is });
       stops = λ less begins.
-          let g = get_some bytes n less in
+          let g : slice_get bytes n ≡ Some (get_or bytes n 0) = slice_get-get_or bytes n 0 less in
           let r = begins_runs 128 (take (suc n) bytes) begins in
-          let e : refused ≡ state r.mode r.brackets = sym (run_one 128 g.0 is g.1 ∙ stops g.0 g.1) ∙ r.is in
+          let e : refused ≡ state r.mode r.brackets = sym (run_one 128 (get_or bytes n 0) is g ∙ stops (get_or bytes n 0) g) ∙ r.is in
           cc;
     }
 
@@ -154,12 +161,9 @@ module _ (bytes : List ℕ) (n : ℕ) (within : n ≤ length bytes) where
     bracket_is b e k = by (moved m (top st) b) (kept (take n bytes) b m (top st) k) e
       where
         by : (move : Move) → Kept (take n bytes) b move → opens move ≡ true → (b ≡ 91) ⊎ (b ≡ 123)
-        by (To x) h o = absurd (false≢true o)
         by (Open Square) h o = inl h
         by (Open Curly) h o = inr h
-        by Close h o = absurd (false≢true o)
-        by End h o = absurd (false≢true o)
-        by Refuse h o = absurd (false≢true o)
+        by move h o = absurd (false≢true o)
 
     keeps : Keeps (take n bytes) m
     keeps = subst (OnState (Keeps (take n bytes))) is (run_keeps 128 [] (take n bytes) start tt)
@@ -179,19 +183,7 @@ module _ (bytes : List ℕ) (n : ℕ) (within : n ≤ length bytes) where
     not_broken : (IsSequence m → ⊥) → (k i : ℕ) → IsBrokenOff bytes k i → ⊥
     not_broken none k i broken =
         let same : i ≡ n = longest_one bytes n i longest broken.longest in
-        let u = subst (λ x. IsUnfinished (drop k (take x bytes))) same broken.unfinished in
-        let is_cut = cut u.0 u.1 u.2 u.3 u.4 (u.6 ∙ ap (λ x. x ++ u.3) u.5) u.7 in
-        let whole : take n bytes ≡ take k (take n bytes) ++ (u.1 ∷ u.2) = sym (take-append-drop k (take n bytes)) ∙ ap (λ x. take k (take n bytes) ++ x) u.5 in
-        none (led_sequence 128 u.1 u.2 is_cut m st (run 128 start (take k (take n bytes)))
-        (sym (run-append 128 start (take k (take n bytes)) (u.1 ∷ u.2)) ∙ ap (run 128 start) (sym whole) ∙ is))
-
-    -- outside a string no byte is stray
-    not_inside : IsOutside m → IsInString (take n bytes) → ⊥
-    not_inside outside (zeros, begins) =
-        let r = begins_runs 128 (take n bytes ++ (replicate zeros 48 ++ 92 ∷ [])) begins in
-        let e : run 128 (state m st) (replicate zeros 48 ++ 92 ∷ []) ≡ state r.mode r.brackets =
-        ap (λ o. run 128 o (replicate zeros 48 ++ 92 ∷ [])) (sym is) ∙ sym (run-append 128 start (take n bytes) (replicate zeros 48 ++ 92 ∷ [])) ∙ r.is in
-        subst (OnState (λ x. ⊥)) e (no_escape 128 (state m st) zeros outside)
+        none (unfinished_sequence 128 (take n bytes) k m st (subst (λ x. IsUnfinished (drop k (take x bytes))) same broken.unfinished) is)
 
     syntax : (IsTooDeep bytes n → ⊥) → (IsSequence m → ⊥) → (IsStray bytes n → ⊥) → IsBadSyntax bytes n
     syntax deep sequence stray = record {
@@ -210,7 +202,7 @@ stray_none b c more stray scalar e =
     let high : 128 ≤ b = leb-true 128 b p.0 in
     elim (cases_lt c 128) [
       | inl small ↦
-          let one : c ∷ [] ≡ b ∷ more = sym (encode_one c small) ∙ e in
+          let one : c ∷ [] ≡ b ∷ more = sym (encode_ascii c small) ∙ e in
           let same : c ≡ b = cc in
           omega arith
       | inr big ↦
@@ -220,9 +212,9 @@ stray_none b c more stray scalar e =
           false≢true (ap is_none (sym l.led) ∙ ap (λ x. is_none (tail_led x)) same ∙ p.1)
     ]
 
-stray_some : (b : ℕ) → is_stray b ≡ false → ((c : ℕ) (more : List ℕ) → IsScalar c → encode_utf8 c ≡ b ∷ more → ⊥) → ⊥
+pub stray_some : (b : ℕ) → is_stray b ≡ false → ((c : ℕ) (more : List ℕ) → IsScalar c → encode_utf8 c ≡ b ∷ more → ⊥) → ⊥
 stray_some b stray none = elim (and_cases (nat_le 128 b) (is_none (tail_led b)) stray) [
-  | inl low ↦ let small : b < 128 = leb-false 128 b low in none b [] (low_scalar b (omega arith)) (encode_one b small)
+  | inl low ↦ let small : b < 128 = leb-false 128 b low in none b [] (low_scalar b (omega arith)) (encode_ascii b small)
   | inr led ↦ by (tail_led b) refl led
 ]
   where
@@ -259,12 +251,12 @@ module _ (every : List ℕ) (at n : ℕ) (within : n ≤ length (drop at every))
 
   -- outside strings
   told_bracket : IsOutside m → (IsSequence m → ⊥) → (next : Option ℕ) → slice_get (drop at every) n ≡ next → Told (bracket_fault m (top st) next (at + n))
-  told_bracket outside none None g = told_syntax (syntax (drop at every) n within m st is stops (at_end g) none (λ s. not_inside (drop at every) n within m st is stops outside s.inside))
+  told_bracket outside none None g = told_syntax (syntax (drop at every) n within m st is stops (at_end g) none (λ s. not_inside (take n (drop at every)) m st is outside s.inside))
   told_bracket outside none (Some b) g = by (opens (moved m (top st) b)) refl
     where
       by : (open' : Bool) → opens (moved m (top st) b) ≡ open' → Told (cond open' (Depth (at + n)) (Syntax (at + n)))
       by true o = (n, refl, too_deep (drop at every) n within m st is stops b g o)
-      by false o = told_syntax (syntax (drop at every) n within m st is stops (shallow b g o) none (λ s. not_inside (drop at every) n within m st is stops outside s.inside))
+      by false o = told_syntax (syntax (drop at every) n within m st is stops (shallow b g o) none (λ s. not_inside (take n (drop at every)) m st is outside s.inside))
 
 -- inside strings
 module _ (every : List ℕ) (at n : ℕ) (within : n ≤ length (drop at every)) (r : Role) (place : Place) (st : List Bracket)
@@ -341,14 +333,6 @@ told_sequence every at n within r size tail st is stops =
 pub told : (every : List ℕ) (at n : ℕ) (within : n ≤ length (drop at every)) (m : Mode) (st : List Bracket)
     → (is : run 128 start (take n (drop at every)) ≡ state m st) → Stops (drop at every) n within m st → (next : Option ℕ) → slice_get (drop at every) n ≡ next
     → IsFaultOf every at (fault_of m (top st) next (at + n))
-told every at n within mode.Value st is stops next g = told_bracket every at n within mode.Value st is stops tt (λ h. h) next g
-told every at n within Fresh st is stops next g = told_bracket every at n within Fresh st is stops tt (λ h. h) next g
-told every at n within Name st is stops next g = told_bracket every at n within Name st is stops tt (λ h. h) next g
-told every at n within Colon st is stops next g = told_bracket every at n within Colon st is stops tt (λ h. h) next g
-told every at n within After st is stops next g = told_bracket every at n within After st is stops tt (λ h. h) next g
-told every at n within (Number part) st is stops next g = told_bracket every at n within (Number part) st is stops tt (λ h. h) next g
-told every at n within (Word letters) st is stops next g = told_bracket every at n within (Word letters) st is stops tt (λ h. h) next g
-told every at n within (Quoted r Plain) st is stops next g = told_stray every at n within r Plain st is stops tt (λ h. h) next g
-told every at n within (Quoted r Escape) st is stops next g = told_stray every at n within r Escape st is stops tt (λ h. h) next g
-told every at n within (Quoted r (Hex more)) st is stops next g = told_stray every at n within r (Hex more) st is stops tt (λ h. h) next g
 told every at n within (Quoted r (Sequence size tail)) st is stops next g = told_sequence every at n within r size tail st is stops
+told every at n within (Quoted r place) st is stops next g = told_stray every at n within r place st is stops tt (λ h. h) next g
+told every at n within m st is stops next g = told_bracket every at n within m st is stops tt (λ h. h) next g

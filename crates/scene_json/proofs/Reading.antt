@@ -1,13 +1,14 @@
 -- A text is read in one way alone: trees whose spellings begin one text are equal, and so is what follows them.
-use Rattle.std.proofs.Common.{◌≡◌, ℕ, List, [], ◌∷◌, ◌++◌, Bool, true, false, ◌||◌, ◌==◌, refl, sym, ap, ap₂, drop, ◌∙◌, subst, eqb, arith, append_assoc, ◌⊎◌, inl, inr, flat_map}
-use Rattle.std.proofs.lemmas.Bool.{and_parts, and_from, both_ways, or_left}
+use Rattle.std.proofs.Common.{◌≡◌, ℕ, List, [], ◌∷◌, ◌++◌, Bool, true, false, ◌||◌, ◌==◌, refl, sym, ap, ap₂, drop, get_or, ◌∙◌, subst, eqb, arith, append_assoc, ◌⊎◌, inl, inr, flat_map}
+use Rattle.std.proofs.lemmas.Bool.{and_parts, both_ways, or_left}
 use Rattle.std.proofs.lemmas.Bool.Decides.{nat_tests}
 use Rattle.std.specs.List.{list_all}
 use Rattle.scene_json.specs.Characters.{is_digit, is_space, is_blank}
-use Rattle.scene_json.specs.Tree.{Piece, piece_spelling, Container, array, object, opening, closing, Label, unnamed, named, label_spelling, Tree, scalar, text, empty, filled, Values, last, next, IsNumber, IsSign, IsWhole, IsFraction, IsExponent, IsWord, IsGood, AreGood, IsLabel, spelling, values_spelling, null_word, true_word, false_word}
+use Rattle.scene_json.specs.Tree.{Piece, piece_spelling, Container, array, object, opening, closing, Label, unnamed, named, label_spelling, Tree, scalar, text, empty, filled, Values, last, next, IsNumber, IsWord, IsGood, AreGood, IsLabel, spelling, values_spelling, null_word, true_word, false_word}
 use Rattle.scene_json.specs.Compact.{compact}
 use Rattle.scene_json.specs.Value.{extends_number, Follows, Stands}
-use Rattle.scene_json.proofs.Numbers.{list_all-append}
+use Rattle.scene_json.specs.Machine.{part_begun}
+use Rattle.scene_json.proofs.NumberRuns.{IsRun, number_run, number-extends, some_part, part_first}
 use Rattle.scene_json.proofs.Strings.{pieces-once, heads-differ}
 
 -- the list is empty, or its first number fails the test
@@ -27,43 +28,6 @@ run-once p (x ∷ xs) (y ∷ ys) r t h k stop halt e =
     let first : x ≡ y = cc in
     (ap₂ (λ b bs. b ∷ bs) first rest.0, rest.1)
 
--- each byte of a number may go on with one
-digits-extend : (ds : List ℕ) → list_all is_digit ds ≡ true → list_all extends_number ds ≡ true
-digits-extend [] h = refl
-digits-extend (d ∷ ds) h = let both = and_parts (is_digit d) (list_all is_digit ds) h in
-    and_from (extends_number d) (list_all extends_number ds) (or_left (is_digit d) _ both.0) (digits-extend ds both.1)
-
-sign-extends : (s : List ℕ) → IsSign s → list_all extends_number s ≡ true
-sign-extends s (inl e) = rw e refl
-sign-extends s (inr e) = rw e refl
-
-whole-extends : (s : List ℕ) → IsWhole s → list_all extends_number s ≡ true
-whole-extends s (inl e) = rw e refl
-whole-extends s (inr h) = digits-extend s h.4
-
-fraction-extends : (s : List ℕ) → IsFraction s → list_all extends_number s ≡ true
-fraction-extends s (inl e) = rw e refl
-fraction-extends s (inr h) = rw h.1 (digits-extend h.0 h.2.3)
-
-letter-extends : (b : ℕ) → (b ≡ 101) ⊎ (b ≡ 69) → extends_number b ≡ true
-letter-extends b (inl e) = rw e refl
-letter-extends b (inr e) = rw e refl
-
-mark-extends : (s : List ℕ) → (s ≡ []) ⊎ ((s ≡ 43 ∷ []) ⊎ (s ≡ 45 ∷ [])) → list_all extends_number s ≡ true
-mark-extends s (inl e) = rw e refl
-mark-extends s (inr (inl e)) = rw e refl
-mark-extends s (inr (inr e)) = rw e refl
-
-exponent-extends : (s : List ℕ) → IsExponent s → list_all extends_number s ≡ true
-exponent-extends s (inl e) = rw e refl
-exponent-extends s (inr h) = rw h.3 (and_from (extends_number h.0) _ (letter-extends h.0 h.4)
-    (list_all-append extends_number h.1 h.2 (mark-extends h.1 h.5) (digits-extend h.2 h.6.3)))
-
-pub number-extends : (s : List ℕ) → IsNumber s → list_all extends_number s ≡ true
-number-extends s n = rw n.spells (list_all-append extends_number n.sign _ (sign-extends n.sign n.signed)
-    (list_all-append extends_number n.whole _ (whole-extends n.whole n.counted)
-    (list_all-append extends_number n.fraction _ (fraction-extends n.fraction n.parted) (exponent-extends n.exponent n.scaled))))
-
 -- the first byte of a number, and of a number or a word
 abbrev pub begins_number : ℕ → Bool
 begins_number b = is_digit b || b == 45
@@ -77,24 +41,15 @@ pub record Head (p : ℕ → Bool) (s : List ℕ) : Type 0 where
   pub parts : s ≡ first ∷ more
   pub begins : p first ≡ true
 
-whole-Head : (s : List ℕ) → IsWhole s → Head begins_number s
-whole-Head s (inl e) = record { first = 48; more = []; parts = e; begins = refl }
-whole-Head s (inr h) = record {
-  first = h.0;
-  more = h.1;
-  parts = h.2;
-  begins = or_left (is_digit h.0) (h.0 == 45) (and_parts (is_digit h.0) (list_all is_digit h.1) (let digits : list_all is_digit (h.0 ∷ h.1) ≡ true = ap (list_all is_digit) (sym h.2) ∙ h.4 in digits)).0;
-}
-
-signed-Head : (sign rest : List ℕ) → IsSign sign → Head begins_number rest → Head begins_number (sign ++ rest)
-signed-Head sign rest (inl e) h = rw e h
-signed-Head sign rest (inr e) h = record { first = 45; more = rest; parts = rw e refl; begins = refl }
-
 pub more-Head : (p : ℕ → Bool) (s rest : List ℕ) → Head p s → Head p (s ++ rest)
 more-Head p s rest h = record { first = h.first; more = h.more ++ rest; parts = rw h.parts refl; begins = h.begins }
 
+run-Head : (s : List ℕ) → IsRun part_begun s → Head begins_number s
+run-Head [] run = absurd run
+run-Head (b ∷ s) run = let p = some_part s (part_begun b) run in record { first = b; more = s; parts = refl; begins = part_first b p.0 p.1 }
+
 pub number-Head : (s : List ℕ) → IsNumber s → Head begins_number s
-number-Head s n = rw n.spells (signed-Head n.sign _ n.signed (more-Head begins_number n.whole _ (whole-Head n.whole n.counted)))
+number-Head s n = run-Head s (number_run s n)
 
 pub scalar-Head : (s : List ℕ) → IsNumber s ⊎ IsWord s → Head begins_scalar s
 scalar-Head s (inl n) = let h = number-Head s n in record { first = h.first; more = h.more; parts = h.parts; begins = or_left (begins_number h.first) _ h.begins }
@@ -105,11 +60,21 @@ scalar-Head s (inr (inr (inr e))) = record { first = 102; more = 97 ∷ 108 ∷ 
 pub first-same : {a b : ℕ} {s t : List ℕ} → a ∷ s ≡ b ∷ t → a ≡ b
 first-same e = cc
 
--- two lists of which one begins with a byte that passes and the other with one that fails
-pub head-apart : (p : ℕ → Bool) (s r t : List ℕ) (b : ℕ) → Head p s → p b ≡ false → s ++ r ≡ b ∷ t → ⊥
-head-apart p s r t b h fails e =
-    let same : h.first ≡ b = first-same (sym (ap (λ x. x ++ r) h.parts) ∙ e) in
+pub tail-same : {a b : ℕ} {s t : List ℕ} → a ∷ s ≡ b ∷ t → s ≡ t
+tail-same e = cc
+
+pub append-none : (xs ys : List ℕ) → xs ++ ys ≡ [] → ys ≡ []
+append-none [] ys e = e
+append-none (x ∷ xs) ys e = cc
+
+-- a list that begins with a byte that passes does not begin with one that fails
+pub head-first : (p : ℕ → Bool) (s rest : List ℕ) (b : ℕ) → Head p s → get_or (s ++ rest) 0 0 ≡ b → p b ≡ false → ⊥
+head-first p s rest b h first fails =
+    let same : h.first ≡ b = sym (ap (λ x. get_or (x ++ rest) 0 0) h.parts) ∙ first in
     both_ways (p b) fails (rw (← same) h.begins)
+
+pub head-apart : (p : ℕ → Bool) (s r t : List ℕ) (b : ℕ) → Head p s → p b ≡ false → s ++ r ≡ b ∷ t → ⊥
+head-apart p s r t b h fails e = head-first p s r b h (ap (λ x. get_or x 0 0) e) fails
 
 -- the first byte of a value
 abbrev pub begins_value : ℕ → Bool
@@ -131,9 +96,6 @@ pub tree-Stops : (t : Tree) (r : List ℕ) → IsGood t → Stops is_space (spel
 tree-Stops t r good = let h = tree-Head t good in
     let start : spelling t ++ r ≡ h.first ∷ (h.more ++ r) = ap (λ s. s ++ r) h.parts in
     subst (Stops is_space) (sym start) (begins-no-space h.first h.begins)
-
-tail-same : {a b : ℕ} {s t : List ℕ} → a ∷ s ≡ b ∷ t → s ≡ t
-tail-same e = cc
 
 -- words
 word-rest : (n : ℕ) (word s u r t : List ℕ) → drop n (word ++ r) ≡ r → drop n (word ++ t) ≡ t → s ≡ word → u ≡ word → s ++ r ≡ u ++ t → (s ≡ u) × (r ≡ t)
@@ -172,7 +134,7 @@ scalar-once s u r t (inr w) (inl n) before after e = absurd (number-no-word u s 
 scalar-once s u r t (inr w) (inr v) before after e = word-once s u r t w v e
 
 -- what follows a value in a container: white space and then a byte that no number goes on with
-space-ends : (b : ℕ) → is_space b ≡ true → extends_number b ≡ false
+pub space-ends : (b : ℕ) → is_space b ≡ true → extends_number b ≡ false
 space-ends b h = grind (arith, nat_tests)
 
 pub Follows-blank : (s blank rest : List ℕ) (b : ℕ) → is_blank blank ≡ true → extends_number b ≡ false → Follows s (blank ++ b ∷ rest)
@@ -231,7 +193,7 @@ pub closing-no-value : (c : Container) → begins_value (closing c) ≡ false
 closing-no-value array = refl
 closing-no-value object = refl
 
-closing-no-comma : (c : Container) → eqb (closing c) 44 ≡ false
+pub closing-no-comma : (c : Container) → eqb (closing c) 44 ≡ false
 closing-no-comma array = refl
 closing-no-comma object = refl
 
@@ -243,34 +205,38 @@ pub opening-no-quote : (c : Container) → eqb (opening c) 34 ≡ false
 opening-no-quote array = refl
 opening-no-quote object = refl
 
-opening-same : (c d : Container) {s t : List ℕ} → opening c ∷ s ≡ opening d ∷ t → c ≡ d
+pub opening-same : (c d : Container) {s t : List ℕ} → opening c ∷ s ≡ opening d ∷ t → c ≡ d
 opening-same array array e = refl
 opening-same array object e = absurd (heads-differ 91 123 _ _ refl e)
 opening-same object array e = absurd (heads-differ 123 91 _ _ refl e)
 opening-same object object e = refl
 
--- the values of a container begin with white space and then with the first byte of a value
-pub record Front (s : List ℕ) : Type 0 where
-  pub before : List ℕ
-  pub tail : List ℕ
-  pub parts : s ≡ before ++ tail
-  pub space : is_blank before ≡ true
-  pub begins : Head begins_value tail
+-- some bytes, and then P; and white space, and then P
+pub record Front (Q P : List ℕ → Type 0) (w : List ℕ) : Type 0 where
+  pub front : List ℕ
+  pub rest : List ℕ
+  pub is : Q front
+  pub spells : w ≡ front ++ rest
+  pub follows : P rest
 
-label-Front : (c : Container) (l : Label) (v : Tree) (r : List ℕ) → IsLabel c l → IsGood v → Front (label_spelling l ++ (spelling v ++ r))
+abbrev pub Blank : (List ℕ → Type 0) → List ℕ → Type 0
+Blank P w = Front (λ s. is_blank s ≡ true) P w
+
+-- the values of a container begin with white space and then with the first byte of a value
+label-Front : (c : Container) (l : Label) (v : Tree) (r : List ℕ) → IsLabel c l → IsGood v → Blank (Head begins_value) (label_spelling l ++ (spelling v ++ r))
 label-Front array (unnamed before) v r h good =
-    record { before = before; tail = spelling v ++ r; parts = refl; space = h; begins = more-Head begins_value (spelling v) r (tree-Head v good) }
+    record { front = before; rest = spelling v ++ r; is = h; spells = refl; follows = more-Head begins_value (spelling v) r (tree-Head v good) }
 label-Front array (named _ _ _ _) v r h good = absurd h
 label-Front object (unnamed _) v r h good = absurd h
 label-Front object (named before name between after) v r h good = record {
-  before = before;
-  tail = 34 ∷ (flat_map piece_spelling name ++ 34 ∷ (between ++ 58 ∷ (after ++ (spelling v ++ r))));
-  parts = spread before name between after (spelling v ++ r);
-  space = h.0;
-  begins = record { first = 34; more = _; parts = refl; begins = refl };
+  front = before;
+  rest = 34 ∷ (flat_map piece_spelling name ++ 34 ∷ (between ++ 58 ∷ (after ++ (spelling v ++ r))));
+  is = h.0;
+  spells = spread before name between after (spelling v ++ r);
+  follows = record { first = 34; more = _; parts = refl; begins = refl };
 }
 
-pub values-Front : (c : Container) (vs : Values) → AreGood c vs → Front (values_spelling vs)
+pub values-Front : (c : Container) (vs : Values) → AreGood c vs → Blank (Head begins_value) (values_spelling vs)
 values-Front c (last l v blank) good = label-Front c l v blank good.0 good.1
 values-Front c (next l v blank vs) good = label-Front c l v (blank ++ 44 ∷ values_spelling vs) good.0 good.1
 
@@ -278,17 +244,17 @@ blank-no-values : (c : Container) (blank : List ℕ) (vs : Values) (r s : List �
     blank ++ closing c ∷ r ≡ values_spelling vs ++ s → ⊥
 blank-no-values c blank vs r s space good e =
     let f = values-Front c vs good in
-    let start = f.begins in
-    let stop : Stops is_space (f.tail ++ s) = subst (Stops is_space) (sym (ap (λ x. x ++ s) start.parts)) (begins-no-space start.first start.begins) in
-    let run = run-once is_space blank f.before (closing c ∷ r) (f.tail ++ s) space f.space (closing-no-space c) stop
-    (e ∙ ap (λ x. x ++ s) f.parts ∙ append_assoc f.before f.tail s) in
-    head-apart begins_value f.tail s r (closing c) start (closing-no-value c) (sym run.1)
+    let start = f.follows in
+    let stop : Stops is_space (f.rest ++ s) = subst (Stops is_space) (sym (ap (λ x. x ++ s) start.parts)) (begins-no-space start.first start.begins) in
+    let run = run-once is_space blank f.front (closing c ∷ r) (f.rest ++ s) space f.is (closing-no-space c) stop
+    (e ∙ ap (λ x. x ++ s) f.spells ∙ append_assoc f.front f.rest s) in
+    head-apart begins_value f.rest s r (closing c) start (closing-no-value c) (sym run.1)
 
-pub regroup-last : (label value blank rest : List ℕ) → (label ++ (value ++ blank)) ++ rest ≡ label ++ (value ++ (blank ++ rest))
-regroup-last label value blank rest = simp append_assoc
+pub regroup-last : (a b c rest : List ℕ) → (a ++ (b ++ c)) ++ rest ≡ a ++ (b ++ (c ++ rest))
+regroup-last a b c rest = simp append_assoc
 
-pub regroup-next : (label value blank values rest : List ℕ) → (label ++ (value ++ (blank ++ 44 ∷ values))) ++ rest ≡ label ++ (value ++ (blank ++ 44 ∷ (values ++ rest)))
-regroup-next label value blank values rest = simp append_assoc
+pub regroup-next : (a b c : List ℕ) (mark : ℕ) (d rest : List ℕ) → (a ++ (b ++ (c ++ mark ∷ d))) ++ rest ≡ a ++ (b ++ (c ++ mark ∷ (d ++ rest)))
+regroup-next a b c mark d rest = simp append_assoc
 
 empty-once : (c d : Container) (blank other r s : List ℕ) → is_blank blank ≡ true → is_blank other ≡ true →
     blank ++ closing c ∷ r ≡ other ++ closing d ∷ s → c ≡ d → (empty c blank ≡ empty d other) × (r ≡ s)
@@ -345,17 +311,17 @@ mutual
   values-once c (last l v blank) (next m w other ws) r s good fine e =
       let all = item-once c l m v w blank other r _ (closing c) 44 good.0 fine.0 good.1 fine.1 good.2 fine.2 (closing-no-space c) refl
       (tree-once v w _ _ good.1 fine.1 (Follows-blank (spelling v) blank r (closing c) good.2 (closing-ends c)) (Follows-blank (spelling w) other _ 44 fine.2 refl))
-      (sym (regroup-last (label_spelling l) (spelling v) blank (closing c ∷ r)) ∙ e ∙ regroup-next (label_spelling m) (spelling w) other (values_spelling ws) (closing c ∷ s)) in
+      (sym (regroup-last (label_spelling l) (spelling v) blank (closing c ∷ r)) ∙ e ∙ regroup-next (label_spelling m) (spelling w) other 44 (values_spelling ws) (closing c ∷ s)) in
       absurd (heads-differ (closing c) 44 _ _ (closing-no-comma c) all.3)
   values-once c (next l v blank vs) (last m w other) r s good fine e =
       let all = item-once c l m v w blank other _ s 44 (closing c) good.0 fine.0 good.1 fine.1 good.2 fine.2 refl (closing-no-space c)
       (tree-once v w _ _ good.1 fine.1 (Follows-blank (spelling v) blank _ 44 good.2 refl) (Follows-blank (spelling w) other s (closing c) fine.2 (closing-ends c)))
-      (sym (regroup-next (label_spelling l) (spelling v) blank (values_spelling vs) (closing c ∷ r)) ∙ e ∙ regroup-last (label_spelling m) (spelling w) other (closing c ∷ s)) in
+      (sym (regroup-next (label_spelling l) (spelling v) blank 44 (values_spelling vs) (closing c ∷ r)) ∙ e ∙ regroup-last (label_spelling m) (spelling w) other (closing c ∷ s)) in
       absurd (heads-differ (closing c) 44 _ _ (closing-no-comma c) (sym all.3))
   values-once c (next l v blank vs) (next m w other ws) r s good fine e =
       let all = item-once c l m v w blank other _ _ 44 44 good.0 fine.0 good.1 fine.1 good.2 fine.2 refl refl
       (tree-once v w _ _ good.1 fine.1 (Follows-blank (spelling v) blank _ 44 good.2 refl) (Follows-blank (spelling w) other _ 44 fine.2 refl))
-      (sym (regroup-next (label_spelling l) (spelling v) blank (values_spelling vs) (closing c ∷ r)) ∙ e ∙ regroup-next (label_spelling m) (spelling w) other (values_spelling ws) (closing c ∷ s)) in
+      (sym (regroup-next (label_spelling l) (spelling v) blank 44 (values_spelling vs) (closing c ∷ r)) ∙ e ∙ regroup-next (label_spelling m) (spelling w) other 44 (values_spelling ws) (closing c ∷ s)) in
       let rest = values-once c vs ws r s good.3 fine.3 (tail-same all.3) in
       (next-same all.0 all.1 all.2 rest.0, rest.1)
 

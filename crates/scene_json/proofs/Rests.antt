@@ -1,5 +1,5 @@
 -- What may come after each state of the machine: the texts that complete a value from there.
-use Rattle.std.proofs.Common.{◌≡◌, ◌≢◌, ◌⊎◌, ℕ, suc, ◌-◌, ◌≤◌, List, [], ◌∷◌, ◌++◌, length, true, false}
+use Rattle.std.proofs.Common.{◌≡◌, ◌≢◌, ◌⊎◌, ℕ, suc, ◌-◌, ◌≤◌, List, [], ◌∷◌, ◌++◌, length, true}
 use Rattle.std.specs.Prelude.{flat_map}
 use Rattle.std.specs.List.{list_all, AllByRecursion}
 use Rattle.scene_json.specs.Characters.{is_space, is_hex}
@@ -18,6 +18,7 @@ use Rattle.scene_json.specs.declared.machine.Mode.TheVariants.{Fresh, Name, Colo
 use Rattle.scene_json.specs.declared.machine.Mode.TheVariants as mode
 use Rattle.scene_json.specs.Machine.{container_of}
 use Rattle.scene_json.proofs.NumberRuns.{ends}
+use Rattle.scene_json.proofs.Reading.{Stops, Front}
 use Rattle.scene_json.proofs.Sequences.{Completes}
 
 -- white space, and then P
@@ -49,14 +50,6 @@ pub record Pieces (P : List ℕ → Type 0) (w : List ℕ) : Type 0 where
   pub spells : w ≡ flat_map piece_spelling pieces ++ 34 ∷ rest
   pub follows : P rest
 
--- some bytes, and then P
-pub record Front (Q P : List ℕ → Type 0) (w : List ℕ) : Type 0 where
-  pub front : List ℕ
-  pub rest : List ℕ
-  pub is : Q front
-  pub spells : w ≡ front ++ rest
-  pub follows : P rest
-
 abbrev pub IsEscape : List ℕ → Type 0
 IsEscape s = ((b : ℕ) × (s ≡ b ∷ []) × (letter_meaning b ≢ 0)) ⊎ ((h : List ℕ) × (s ≡ 117 ∷ h) × (length h ≡ 4) × (list_all is_hex h ≡ true))
 
@@ -71,8 +64,7 @@ InString (Sequence length tail) P w = Front (λ s. Completes s tail) (Pieces P) 
 
 -- no byte that goes on with a number comes first
 abbrev pub Quiet : List ℕ → Type 0
-Quiet [] = Unit {0}
-Quiet (b ∷ w) = extends_number b ≡ false
+Quiet w = Stops extends_number w
 
 -- What is left over when the value has ended is given.
 module _ (limit : ℕ) (left : List ℕ) where

@@ -17,10 +17,6 @@ Completes [] tail = ⊥
 Completes (b ∷ s) tail = (tail_fits tail b ≡ true) × on_tail (Completes s) (s ≡ []) (tail_after tail)
 
 -- ---- the bytes of a character
-pub encode_one : (c : ℕ) → c < 128 → encode_utf8 c ≡ c ∷ []
-unfolding encode_utf8
-encode_one c h = rw (lt-ltb c 128 h) refl
-
 encode_two : (c : ℕ) → 128 ≤ c → c < 2048 → encode_utf8 c ≡ (192 + c / 64) ∷ next c ∷ []
 unfolding encode_utf8
 encode_two c l h = rw (le-ltb c 128 l, lt-ltb c 2048 h) refl
@@ -64,7 +60,7 @@ led_is Low4 b e = grind arith
 fits : (low high b : ℕ) → low ≤ b → b ≤ high → (nat_le low b && nat_le b high) ≡ true
 fits low high b l h = and_from (nat_le low b) (nat_le b high) (le-leb low b l) (le-leb b high h)
 
-fitted : (low high b : ℕ) → (nat_le low b && nat_le b high) ≡ true → (low ≤ b) × (b ≤ high)
+pub fitted : (low high b : ℕ) → (nat_le low b && nat_le b high) ≡ true → (low ≤ b) × (b ≤ high)
 fitted low high b e = let p = and_parts (nat_le low b) (nat_le b high) e in (leb-true low b p.0, leb-true b high p.1)
 
 -- the bytes of a character from 128 on begin a sequence and complete it

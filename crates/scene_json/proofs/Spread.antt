@@ -1,5 +1,5 @@
 -- How a pass over a text lays it out.
-use Rattle.std.proofs.Common.{◌≡◌, ℕ, ◌+◌, ◌-◌, ◌<◌, ◌≤◌, List, [], ◌∷◌, ◌++◌, Bool, true, false, not, ◌&&◌, ◌==◌, eqb, if◌then◌else◌, length, take, flat_map, refl, sym, ap, ◌∙◌, append-nil, append_assoc, arith, inl, inr}
+use Rattle.std.proofs.Common.{◌≡◌, ℕ, ◌+◌, ◌-◌, ◌≤◌, List, [], ◌∷◌, ◌++◌, Bool, true, false, not, ◌&&◌, ◌==◌, eqb, if◌then◌else◌, length, take, flat_map, refl, sym, ap, ◌∙◌, append-nil, append_assoc, arith, inl, inr}
 use Rattle.std.specs.List.{list_all, AllByRecursion}
 use Rattle.std.proofs.lemmas.List.{length-append, take_at}
 use Rattle.std.proofs.lemmas.Bool.{and_parts, cond_both, cases_Bool, eqb-true}
@@ -9,7 +9,8 @@ use Rattle.scene_json.specs.Tree.{Piece, IsPiece, piece_spelling, string_spellin
 use Rattle.scene_json.specs.Layout.{line, label_laid_out, laid_out, values_laid_out}
 use Rattle.scene_json.specs.Passes.{behind_string, is_opening, is_closing, spaces_from, put_before, put_behind}
 use Rattle.scene_json.proofs.Behind.{Place, outside, inside, string_front, front-behind, length-behind_string, pieces-front, pieces-behind}
-use Rattle.scene_json.proofs.Literals.{is_plain, literal-plain, literal-some}
+use Rattle.scene_json.proofs.Literals.{is_plain, literal-plain}
+use Rattle.scene_json.proofs.Reading.{begins_value, begins-no-space, values-Front, regroup-last, regroup-next}
 
 -- the layout of what a text has from here on
 abbrev pub layout : Place → Bool → ℕ → List ℕ → List ℕ
@@ -77,9 +78,6 @@ spaces_from-le first spaces b =
 
 regroup : (a b c d e : List ℕ) → (((a ++ b) ++ c) ++ d) ++ e ≡ a ++ (b ++ (c ++ (d ++ e)))
 regroup a b c d e = simp append_assoc
-
-regroup-last : (a b c d : List ℕ) → (a ++ (b ++ c)) ++ d ≡ a ++ (b ++ (c ++ d))
-regroup-last a b c d = simp append_assoc
 
 -- one turn of the loop that lays a text out, where a token stands
 pub turn : (first : Bool) (spaces now b : ℕ) (bs rest after was broken copied parted : List ℕ) → is_space b ≡ false → rest ≡ b ∷ bs → after ≡ behind_token b bs
@@ -150,7 +148,7 @@ label-steps array (unnamed before) spaces bs good = ap (λ x. line spaces ++ x) 
 label-steps array (named before name between after) spaces bs good = absurd good
 label-steps object (unnamed before) spaces bs good = absurd good
 label-steps object (named before name between after) spaces bs good =
-    let e : (before ++ (string_spelling name ++ (between ++ 58 ∷ after))) ++ bs ≡ before ++ (string_spelling name ++ (between ++ 58 ∷ (after ++ bs))) = simp append_assoc in
+    let e = regroup-next before (string_spelling name) between 58 after bs in
     let passed : layout outside false spaces ((before ++ (string_spelling name ++ (between ++ 58 ∷ after))) ++ bs) ≡ string_spelling name ++ (58 ∷ 32 ∷ layout outside false spaces bs) =
     ap (layout outside false spaces) e
     ∙ blank-steps before false spaces (string_spelling name ++ (between ++ 58 ∷ (after ++ bs))) good.0
@@ -159,61 +157,22 @@ label-steps object (named before name between after) spaces bs good =
     ap (λ x. line spaces ++ x) passed
     ∙ sym (regroup-last (line spaces) (string_spelling name) (58 ∷ 32 ∷ []) (layout outside false spaces bs))
 
--- what begins with a byte that is no white space and closes nothing
-record Heads (bs : List ℕ) : Type 0 where
-  head : ℕ
-  more : List ℕ
-  parts : bs ≡ head ∷ more
-  solid : is_space head ≡ false
-  closes : is_closing head ≡ false
-
-plain-heads : (s : List ℕ) → 0 < length s → list_all is_plain s ≡ true → Heads s
-plain-heads [] some plain = absurd (omega arith)
-plain-heads (b ∷ bs) some plain =
-    let first = (and_parts (is_plain b) (list_all is_plain bs) plain).0 in
-    record { head = b; more = bs; parts = refl; solid = grind (arith, nat_tests); closes = grind (arith, nat_tests) }
-
-opening-heads : (c : Container) (bs : List ℕ) → Heads (opening c ∷ bs)
-opening-heads array bs = record { head = 91; more = bs; parts = refl; solid = refl; closes = refl }
-opening-heads object bs = record { head = 123; more = bs; parts = refl; solid = refl; closes = refl }
-
-string-heads : (ps : List Piece) → Heads (string_spelling ps)
-string-heads ps = record { head = 34; more = flat_map piece_spelling ps ++ 34 ∷ []; parts = refl; solid = refl; closes = refl }
-
-tree-heads : (t : Tree) → IsGood t → Heads (spelling t)
-tree-heads (scalar literal) good = plain-heads literal (literal-some literal good) (literal-plain literal good)
-tree-heads (text pieces) good = string-heads pieces
-tree-heads (empty c blank) good = opening-heads c (blank ++ closing c ∷ [])
-tree-heads (filled c values) good = opening-heads c (values_spelling values ++ closing c ∷ [])
+no-closing : (b : ℕ) → begins_value b ≡ true → is_closing b ≡ false
+no-closing b h = grind (arith, nat_tests)
 
 -- behind an opening bracket a line begins there
 first-step : (spaces b : ℕ) (bs : List ℕ) → is_space b ≡ false → is_closing b ≡ false → layout outside true spaces (b ∷ bs) ≡ line (spaces + 2) ++ layout outside false (spaces + 2) (b ∷ bs)
 first-step spaces b bs solid closes = rw (solid, closes) (append_assoc (line (spaces + 2)) _ _)
 
-first-line : (blank xs : List ℕ) (spaces : ℕ) (bs : List ℕ) → list_all is_space blank ≡ true → Heads xs → layout outside true spaces (blank ++ (xs ++ bs)) ≡ line (spaces + 2) ++ layout outside false (spaces + 2) (blank ++ (xs ++ bs))
-first-line blank xs spaces bs space h =
-    let e : xs ++ bs ≡ h.head ∷ (h.more ++ bs) = ap (λ x. x ++ bs) h.parts in
-    blank-steps blank true spaces (xs ++ bs) space
-    ∙ ap (layout outside true spaces) e
-    ∙ first-step spaces h.head (h.more ++ bs) h.solid h.closes
-    ∙ ap (λ x. line (spaces + 2) ++ x) (sym (blank-steps blank false (spaces + 2) (xs ++ bs) space ∙ ap (layout outside false (spaces + 2)) e))
-
-label-line : (c : Container) (l : Label) (t : Tree) (spaces : ℕ) (bs : List ℕ) → IsLabel c l → IsGood t → layout outside true spaces (label_spelling l ++ (spelling t ++ bs)) ≡ line (spaces + 2) ++ layout outside false (spaces + 2) (label_spelling l ++ (spelling t ++ bs))
-label-line array (unnamed before) t spaces bs label good = first-line before (spelling t) spaces bs label (tree-heads t good)
-label-line array (named before name between after) t spaces bs label good = absurd label
-label-line object (unnamed before) t spaces bs label good = absurd label
-label-line object (named before name between after) t spaces bs label good =
-    let e : (before ++ (string_spelling name ++ (between ++ 58 ∷ after))) ++ (spelling t ++ bs) ≡ before ++ (string_spelling name ++ ((between ++ 58 ∷ after) ++ (spelling t ++ bs))) =
-    regroup-last before (string_spelling name) (between ++ 58 ∷ after) (spelling t ++ bs) in
-    rw e (first-line before (string_spelling name) spaces ((between ++ 58 ∷ after) ++ (spelling t ++ bs)) label.0 (string-heads name))
-
 values-line : (c : Container) (vs : Values) (spaces : ℕ) (bs : List ℕ) → AreGood c vs → layout outside true spaces (values_spelling vs ++ bs) ≡ line (spaces + 2) ++ layout outside false (spaces + 2) (values_spelling vs ++ bs)
-values-line c (last label value blank) spaces bs good =
-    let e = regroup-last (label_spelling label) (spelling value) blank bs in
-    rw e (label-line c label value spaces (blank ++ bs) good.0 good.1)
-values-line c (next label value blank values) spaces bs good =
-    let e = regroup-last (label_spelling label) (spelling value) (blank ++ 44 ∷ values_spelling values) bs in
-    rw e (label-line c label value spaces ((blank ++ 44 ∷ values_spelling values) ++ bs) good.0 good.1)
+values-line c vs spaces bs good =
+    let f = values-Front c vs good in
+    let h = f.follows in
+    let e : values_spelling vs ++ bs ≡ f.front ++ (h.first ∷ (h.more ++ bs)) =
+    ap (λ x. x ++ bs) (f.spells ∙ ap (λ x. f.front ++ x) h.parts) ∙ append_assoc f.front (h.first ∷ h.more) bs in
+    rw e (blank-steps f.front true spaces (h.first ∷ (h.more ++ bs)) f.is
+    ∙ first-step spaces h.first (h.more ++ bs) (begins-no-space h.first h.begins) (no-closing h.first h.begins)
+    ∙ ap (λ x. line (spaces + 2) ++ x) (sym (blank-steps f.front false (spaces + 2) (h.first ∷ (h.more ++ bs)) f.is)))
 
 -- the pass lays out a value, and what follows as if it stood alone
 mutual

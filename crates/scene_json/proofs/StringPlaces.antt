@@ -1,31 +1,24 @@
 -- Inside a string an escape may come, and elsewhere none may; a sequence that is begun is gone on with inside one.
-use Rattle.std.proofs.Common.{◌≡◌, ◌==◌, ℕ, zero, suc, ◌-◌, List, [], ◌∷◌, ◌++◌, replicate, false, Option, Some, None, refl, ap, ◌∙◌, arith}
+use Rattle.std.proofs.Common.{◌≡◌, ◌==◌, ℕ, zero, suc, ◌-◌, List, [], ◌∷◌, ◌++◌, replicate, false, Option, Some, None, refl, ap, inl, ◌∙◌, arith}
 use Rattle.std.proofs.lemmas.Bool.{ne_eqb}
 use Rattle.scene_json.specs.declared.number.Part.{Part}
-use Rattle.scene_json.specs.declared.number.Part.TheVariants.{Minus, Zero, Whole, Dot, Fraction, Letter, Sign, Exponent}
+use Rattle.scene_json.specs.declared.number.Part.TheVariants.{Minus}
 use Rattle.scene_json.specs.declared.sequence.Tail.{Tail}
-use Rattle.scene_json.specs.declared.sequence.Tail.TheVariants.{One, Two, Three, Long3, Low3, Long4, Low4}
+use Rattle.scene_json.specs.declared.sequence.Tail.TheVariants.{One}
 use Rattle.scene_json.specs.declared.brackets.Bracket.{Bracket}
 use Rattle.scene_json.specs.declared.brackets.Bracket.TheVariants.{Square, Curly}
 use Rattle.scene_json.specs.declared.machine.Role.{Role}
 use Rattle.scene_json.specs.declared.machine.Place.{Place}
 use Rattle.scene_json.specs.declared.machine.Place.TheVariants.{Plain, Escape, Hex, Sequence}
 use Rattle.scene_json.specs.declared.machine.Letters.{Letters}
-use Rattle.scene_json.specs.declared.machine.Letters.TheVariants.{Ull, Ll, L, Rue, Ue, Alse, Lse, Se, E}
+use Rattle.scene_json.specs.declared.machine.Letters.TheVariants.{Ull}
 use Rattle.scene_json.specs.declared.machine.Mode.{Mode}
-use Rattle.scene_json.specs.declared.machine.Mode.TheVariants.{Fresh, Name, Colon, After, Quoted, Number, Word}
-use Rattle.scene_json.specs.declared.machine.Mode.TheVariants as mode
-use Rattle.scene_json.specs.Machine.{Outcome, state, ended, refused, top, applied, step, moved, tail_after, sequence_on}
+use Rattle.scene_json.specs.declared.machine.Mode.TheVariants.{Fresh, After, Quoted, Number, Word}
+use Rattle.scene_json.specs.Machine.{Outcome, state, top, applied, step, moved, tail_after, sequence_on}
+use Rattle.scene_json.proofs.Reading.{append-none}
 use Rattle.scene_json.proofs.Sequences.{Completes, on_tail}
 use Rattle.scene_json.proofs.Machines.{go, run, run-append}
-use Rattle.scene_json.proofs.Moves.{OnMove, OnState, on_applied}
-
--- No escape may come, even after zeros.
-abbrev pub IsOutside : Mode → Type 0
-IsOutside (Quoted r Plain) = ⊥
-IsOutside (Quoted r Escape) = ⊥
-IsOutside (Quoted r (Hex more)) = ⊥
-IsOutside m = Unit {0}
+use Rattle.scene_json.proofs.Moves.{OnMove, OnState, on_applied, IsOutside, outside_moved}
 
 -- the place is inside no sequence
 abbrev pub IsInside : Place → Type 0
@@ -34,113 +27,39 @@ IsInside place = Unit {0}
 
 zero_sequence : (r : Role) (n : ℕ) (tail : Tail) → OnMove IsOutside (moved (Quoted r (Sequence n tail)) None 48)
 zero_sequence r n One = tt
-zero_sequence r n Two = tt
-zero_sequence r n Three = tt
-zero_sequence r n Long3 = tt
-zero_sequence r n Low3 = tt
-zero_sequence r n Long4 = tt
-zero_sequence r n Low4 = tt
+zero_sequence r n tail = tt
 
 zero_number : (part : Part) (top : Option Bracket) → OnMove IsOutside (moved (Number part) top 48)
 zero_number Minus top = tt
-zero_number Zero top = tt
-zero_number Whole top = tt
-zero_number Dot top = tt
-zero_number Fraction top = tt
-zero_number Letter top = tt
-zero_number Sign top = tt
-zero_number Exponent top = tt
+zero_number part top = tt
 
 zero_word : (letters : Letters) → OnMove IsOutside (moved (Word letters) None 48)
 zero_word Ull = tt
-zero_word Ll = tt
-zero_word L = tt
-zero_word Rue = tt
-zero_word Ue = tt
-zero_word Alse = tt
-zero_word Lse = tt
-zero_word Se = tt
-zero_word E = tt
+zero_word letters = tt
 
 zero_moved : (m : Mode) (top : Option Bracket) → IsOutside m → OnMove IsOutside (moved m top 48)
-zero_moved mode.Value top h = tt
 zero_moved Fresh None h = tt
 zero_moved Fresh (Some Square) h = tt
 zero_moved Fresh (Some Curly) h = tt
-zero_moved Name top h = tt
-zero_moved Colon top h = tt
 zero_moved After None h = tt
 zero_moved After (Some Square) h = tt
 zero_moved After (Some Curly) h = tt
-zero_moved (Quoted r Plain) top h = absurd h
-zero_moved (Quoted r Escape) top h = absurd h
-zero_moved (Quoted r (Hex more)) top h = absurd h
 zero_moved (Quoted r (Sequence n tail)) top h = zero_sequence r n tail
+zero_moved (Quoted r place) top h = absurd h
 zero_moved (Number part) top h = zero_number part top
 zero_moved (Word letters) top h = zero_word letters
+zero_moved m top h = tt
 
 abbrev Never : Mode → Type 0
 Never m = ⊥
 
-escape_sequence : (r : Role) (n : ℕ) (tail : Tail) → OnMove Never (moved (Quoted r (Sequence n tail)) None 92)
-escape_sequence r n One = tt
-escape_sequence r n Two = tt
-escape_sequence r n Three = tt
-escape_sequence r n Long3 = tt
-escape_sequence r n Low3 = tt
-escape_sequence r n Long4 = tt
-escape_sequence r n Low4 = tt
-
-escape_after : (top : Option Bracket) → OnMove Never (moved After top 92)
-escape_after None = tt
-escape_after (Some Square) = tt
-escape_after (Some Curly) = tt
-
-escape_number : (part : Part) (top : Option Bracket) → OnMove Never (moved (Number part) top 92)
-escape_number Minus top = tt
-escape_number Zero top = escape_after top
-escape_number Whole top = escape_after top
-escape_number Dot top = tt
-escape_number Fraction top = escape_after top
-escape_number Letter top = tt
-escape_number Sign top = tt
-escape_number Exponent top = escape_after top
-
-escape_word : (letters : Letters) → OnMove Never (moved (Word letters) None 92)
-escape_word Ull = tt
-escape_word Ll = tt
-escape_word L = tt
-escape_word Rue = tt
-escape_word Ue = tt
-escape_word Alse = tt
-escape_word Lse = tt
-escape_word Se = tt
-escape_word E = tt
-
-escape_moved : (m : Mode) (top : Option Bracket) → IsOutside m → OnMove Never (moved m top 92)
-escape_moved mode.Value top h = tt
-escape_moved Fresh None h = tt
-escape_moved Fresh (Some Square) h = tt
-escape_moved Fresh (Some Curly) h = tt
-escape_moved Name top h = tt
-escape_moved Colon top h = tt
-escape_moved After top h = escape_after top
-escape_moved (Quoted r Plain) top h = absurd h
-escape_moved (Quoted r Escape) top h = absurd h
-escape_moved (Quoted r (Hex more)) top h = absurd h
-escape_moved (Quoted r (Sequence n tail)) top h = escape_sequence r n tail
-escape_moved (Number part) top h = escape_number part top
-escape_moved (Word letters) top h = escape_word letters
-
 escape_go : (limit : ℕ) (o : Outcome) → OnState IsOutside o → OnState Never (go limit o 92)
-escape_go limit (state m st) h = on_applied Never limit st 92 (moved m (top st) 92) (escape_moved m (top st) h)
-escape_go limit (ended c) h = tt
-escape_go limit refused h = tt
+escape_go limit (state m st) h = on_applied Never limit st 92 (moved m (top st) 92) (outside_moved 92 (inl refl) m (top st) h)
+escape_go limit o h = tt
 
 zero_go : (limit : ℕ) (o : Outcome) → OnState IsOutside o → OnState IsOutside (go limit o 48)
 zero_go limit (state m st) h = on_applied IsOutside limit st 48 (moved m (top st) 48) (zero_moved m (top st) h)
-zero_go limit (ended c) h = tt
-zero_go limit refused h = tt
+zero_go limit o h = tt
 
 pub no_escape : (limit : ℕ) (o : Outcome) (zeros : ℕ) → OnState IsOutside o → OnState Never (run limit o (replicate zeros 48 ++ 92 ∷ []))
 no_escape limit o zero h = escape_go limit o h
@@ -176,9 +95,5 @@ tail_run limit r n st (x ∷ more) next tail c some = rw c.0 (by (tail_after tai
     by : (o : Option Tail) → on_tail (Completes (more ++ next)) (more ++ next ≡ []) o
         → ((t : Tail) → Completes (more ++ next) t → (rest : Tail) × (run limit (state (Quoted r (Sequence n t)) st) more ≡ state (Quoted r (Sequence n rest)) st))
         → (rest : Tail) × (run limit (applied limit st x (sequence_on r n o)) more ≡ state (Quoted r (Sequence n rest)) st)
-    by None none again = absurd (some (no_more more none))
-      where
-        no_more : (more : List ℕ) → more ++ next ≡ [] → next ≡ []
-        no_more [] e = e
-        no_more (y ∷ ys) e = cc
+    by None none again = absurd (some (append-none more next none))
     by (Some t) h again = again t h

@@ -1,6 +1,6 @@
 -- Strings: what their pieces stand for is UTF-8, and each text of UTF-8 has a quote made of pieces.
-use Rattle.std.proofs.Common.{◌≡◌, ◌<◌, ◌≤◌, ℕ, ◌/◌, ◌%◌, List, [], ◌∷◌, ◌++◌, Bool, true, false, not, ◌&&◌, ◌==◌, nat_le, if◌then◌else◌, refl, sym, ap, ap₂, ◌∙◌, eqb, ltb, arith, map, flat_map, IsUtf8, encode_utf8_all, bytes_eq, append-nil, append_assoc, eqb-true, le-ltb, lit<, length, get_or, inl, inr}
-use Rattle.std.proofs.lemmas.Bool.{cases_Bool, cases_lt, and_parts, cond_both, eqb-false, not-true, agree_below_at}
+use Rattle.std.proofs.Common.{◌≡◌, ◌≢◌, ◌<◌, ◌≤◌, ℕ, ◌/◌, ◌%◌, List, [], ◌∷◌, ◌++◌, Bool, true, false, not, ◌&&◌, ◌==◌, nat_le, if◌then◌else◌, refl, sym, ap, ap₂, ◌∙◌, eqb, ltb, arith, map, flat_map, IsUtf8, encode_utf8_all, bytes_eq, append-nil, append_assoc, eqb-true, le-ltb, lit<, length, get_or, inl, inr}
+use Rattle.std.proofs.lemmas.Bool.{cases_Bool, cases_lt, and_parts, and_from, cond_both, eqb-false, not-true, agree_below_at}
 use Rattle.std.proofs.lemmas.Bool.Decides.{nat_tests}
 use Rattle.std.proofs.lemmas.Str.{encode_ascii, encode_same, char_from_byte}
 use Rattle.std.proofs.lemmas.List.Concat.{flat_map-append}
@@ -8,7 +8,7 @@ use Rattle.std.proofs.lemmas.Slice.Eq.{bytes_eq-Decides}
 use Rattle.std.specs.Char.{IsScalar, encode_utf8}
 use Rattle.std.specs.List.{AllByRecursion, list_all}
 use lib.Utf8.{scalar, scalars, scalar_cases}
-use Rattle.scene_json.specs.Characters.{hex_digit, hex_value, is_hex, quote, quoted_byte}
+use Rattle.scene_json.specs.Characters.{hex_digit, hex_value, is_hex, is_plain, quote, quoted_byte}
 use Rattle.scene_json.specs.Tree.{Piece, bare, letter, unit, IsPiece, letter_meaning, piece_spelling, string_spelling}
 use Rattle.scene_json.specs.Compact.{piece_value, is_high, is_low, joined, lone, characters, content}
 
@@ -30,22 +30,19 @@ characters-scalars (u ∷ v ∷ us) h = elim (cases_Bool (is_high u && is_low v)
 hex_value-lt : (b : ℕ) → is_hex b ≡ true → hex_value b < 16
 hex_value-lt b h = grind (arith, nat_tests)
 
-pub fourth-hex : (a b c d : ℕ) → list_all is_hex (a ∷ b ∷ c ∷ d ∷ []) ≡ true → is_hex d ≡ true
-fourth-hex a b c d h =
+pub four-hex : (a b c d : ℕ) → list_all is_hex (a ∷ b ∷ c ∷ d ∷ []) ≡ true → (is_hex a ≡ true) × (is_hex b ≡ true) × (is_hex c ≡ true) × (is_hex d ≡ true)
+four-hex a b c d h =
     let first = and_parts (is_hex a) (list_all is_hex (b ∷ c ∷ d ∷ [])) h in
     let second = and_parts (is_hex b) (list_all is_hex (c ∷ d ∷ [])) first.1 in
     let third = and_parts (is_hex c) (list_all is_hex (d ∷ [])) second.1 in
-    (and_parts (is_hex d) true third.1).0
+    (first.0, second.0, third.0, (and_parts (is_hex d) true third.1).0)
 
 piece_value-lt : (p : Piece) → IsPiece p → piece_value p < 0x11_0000
 piece_value-lt (bare c) h = elim (scalar_cases c h.0) [ inl l ↦ omega arith | inr l ↦ omega arith ]
 piece_value-lt (letter b) h = grind (arith, nat_tests)
 piece_value-lt (unit a b c d) h =
-    let first = and_parts (is_hex a) (list_all is_hex (b ∷ c ∷ d ∷ [])) h in
-    let second = and_parts (is_hex b) (list_all is_hex (c ∷ d ∷ [])) first.1 in
-    let third = and_parts (is_hex c) (list_all is_hex (d ∷ [])) second.1 in
-    let fourth = and_parts (is_hex d) true third.1 in
-    omega (arith, hex_value-lt a first.0, hex_value-lt b second.0, hex_value-lt c third.0, hex_value-lt d fourth.0)
+    let hex = four-hex a b c d h in
+    omega (arith, hex_value-lt a hex.0, hex_value-lt b hex.1, hex_value-lt c hex.2, hex_value-lt d hex.3)
 
 -- the pieces' own values, one after another
 piece_values-lt : (ps : List Piece) → AllByRecursion IsPiece ps → AllByRecursion (λ u. u < 0x11_0000) (map piece_value ps)
@@ -128,7 +125,7 @@ low-IsQuoted c h =
       spells = (bytes_eq-Decides (piece_spelling (piece_of c)) (quoted_byte c)).0 second.1 ∙ sym (rw (encode_ascii c h) (append-nil (quoted_byte c)));
     }
 
-pub high_bytes : (c : ℕ) → 128 ≤ c → AllByRecursion (λ b. 128 ≤ b) (encode_utf8 c)
+high_bytes : (c : ℕ) → 128 ≤ c → AllByRecursion (λ b. 128 ≤ b) (encode_utf8 c)
 unfolding encode_utf8
 high_bytes c h = rw (le-ltb c 128 h) (cond_both (ltb c 2048) _ _ (AllByRecursion (λ b. 128 ≤ b))
     (λ _. (omega arith, (omega arith, tt)))
@@ -139,6 +136,17 @@ high_bytes c h = rw (le-ltb c 128 h) (cond_both (ltb c 2048) _ _ (AllByRecursion
 quoted-same : (bs : List ℕ) → AllByRecursion (λ b. 128 ≤ b) bs → flat_map quoted_byte bs ≡ bs
 quoted-same [] h = refl
 quoted-same (b ∷ bs) h = rw (quoted_byte-high b h.0, quoted-same bs h.1) refl
+
+-- the bytes of a character other than `"` and `\` are others too
+plain-high : (bs : List ℕ) → AllByRecursion (λ b. 128 ≤ b) bs → list_all is_plain bs ≡ true
+plain-high [] h = refl
+plain-high (b ∷ bs) h = and_from (is_plain b) (list_all is_plain bs) (grind (arith, nat_tests)) (plain-high bs h.1)
+
+pub plain-bare : (c : ℕ) → c ≢ 34 → c ≢ 92 → list_all is_plain (encode_utf8 c) ≡ true
+plain-bare c a b = elim (cases_lt c 128) [
+  | inl l ↦ rw (encode_ascii c l) (and_from (is_plain c) true (grind (arith, nat_tests)) refl)
+  | inr l ↦ plain-high (encode_utf8 c) (high_bytes c l)
+]
 
 high-IsQuoted : (c : ℕ) → IsScalar c → 128 ≤ c → IsQuoted c
 high-IsQuoted c s h = record {

@@ -1,31 +1,26 @@
 -- The turns of the loops that go over the values of an array and of an object, and the ends of literals.
-use Rattle.std.proofs.Common.{◌≡◌, ◌<◌, ◌≤◌, ℕ, suc, ◌+◌, ◌-◌, List, [], ◌∷◌, ◌++◌, true, false, ◌==◌, if◌then◌else◌, refl, sym, ap, ap₂, ◌∙◌, subst, arith, length, get_or, take, drop, map, append_assoc, drop-drop, get_or-drop, add-zero, ◌⊎◌, inl, inr, ⊎_elim, drop_at, take_at, length-drop, length-append, le_trans, bytes_eq}
+use Rattle.std.proofs.Common.{◌≡◌, ◌<◌, ◌≤◌, ℕ, suc, ◌+◌, ◌-◌, List, [], ◌∷◌, ◌++◌, true, false, ◌==◌, if◌then◌else◌, refl, sym, ap, ap₂, ◌∙◌, subst, arith, length, get_or, take, drop, map, append_assoc, drop-drop, add-zero, ◌⊎◌, inl, inr, ⊎_elim, drop_at, take_at, length-drop, length-append, le_trans, bytes_eq}
 use Rattle.std.proofs.lemmas.Bool.{both_ways}
-use Rattle.std.specs.List.{AllByRecursion, prefix_len, join_with_byte}
+use Rattle.std.specs.List.{prefix_len, join_with_byte}
 use Rattle.indexmap.specs.IndexMap.{insert_entry}
 use Rattle.scene_json.specs.Characters.{is_space, is_blank}
-use Rattle.scene_json.specs.Tree.{Piece, IsPiece, Container, array, object, opening, closing, Label, unnamed, named, label_spelling, Tree, Values, last, next, IsNumber, IsWord, IsGood, IsLabel, spelling, values_spelling, string_spelling, depth}
+use Rattle.scene_json.specs.Tree.{Piece, Container, array, object, opening, closing, Label, unnamed, named, label_spelling, Tree, Values, last, next, IsNumber, IsWord, IsGood, IsLabel, spelling, values_spelling, string_spelling, depth}
 use Rattle.scene_json.specs.Compact.{Member, content, compact, members, collapsed, label_name, member_text, container_text, array_text, object_text}
 use Rattle.scene_json.specs.Value.{Stands, Follows, extends_number}
 use Rattle.scene_json.specs.Walk.{Quoted, Literal, Filled, AppendsValue, items_text}
 use Rattle.scene_json.proofs.Collapsed.{collapsed-push}
-use Rattle.scene_json.proofs.Contents.{drop-after, inside-after}
+use Rattle.scene_json.proofs.Contents.{drop-after, inside-after, front, behind}
 use Rattle.scene_json.proofs.Escapes.{prefix-run}
-use Rattle.scene_json.proofs.Reading.{tree-Head, begins_value, closing-no-value, scalar-Head, begins_number, number-Head, number-extends, Follows-Stops, closing-no-space, closing-ends, regroup-last, regroup-next, Follows-blank}
+use Rattle.scene_json.proofs.NumberRuns.{number-extends}
+use Rattle.scene_json.proofs.Reading.{tree-Head, begins_value, closing-no-value, scalar-Head, begins_number, number-Head, head-first, Follows-Stops, closing-no-space, closing-ends, regroup-last, regroup-next, Follows-blank}
 use Rattle.scene_json.proofs.Walks.{At, At-Stands, At-Container, EmptyAt, FilledAt, first-empty, first-filled, skip-to, stands-At, stands-skip, stops-none}
 
 -- literals
-number-first : (s rest : List ℕ) (b : ℕ) → IsNumber s → get_or (s ++ rest) 0 0 ≡ b → begins_number b ≡ false → ⊥
-number-first s rest b good first fails =
-    let h = number-Head s good in
-    let same : h.first ≡ b = sym (ap (λ x. get_or (x ++ rest) 0 0) h.parts) ∙ first in
-    both_ways (begins_number b) fails (rw (← same) h.begins)
-
 abbrev word_length : ℕ → ℕ
 word_length b = if b == 102 then 5 else 4
 
 word-at : (s rest : List ℕ) (b : ℕ) → IsNumber s ⊎ IsWord s → get_or (s ++ rest) 0 0 ≡ b → begins_number b ≡ false → length s ≡ word_length b
-word-at s rest b (inl n) first fails = absurd (number-first s rest b n first fails)
+word-at s rest b (inl n) first fails = absurd (head-first begins_number s rest b (number-Head s n) first fails)
 word-at s rest b (inr (inl e)) first fails = subst (λ x. length s ≡ word_length x) (sym (ap (λ x. get_or (x ++ rest) 0 0) e) ∙ first) (ap length e)
 word-at s rest b (inr (inr (inl e))) first fails = subst (λ x. length s ≡ word_length x) (sym (ap (λ x. get_or (x ++ rest) 0 0) e) ∙ first) (ap length e)
 word-at s rest b (inr (inr (inr e))) first fails = subst (λ x. length s ≡ word_length x) (sym (ap (λ x. get_or (x ++ rest) 0 0) e) ∙ first) (ap length e)
@@ -41,10 +36,10 @@ number-at s rest (inr (inl e)) ends a b c = absurd (a (ap (λ x. get_or (x ++ re
 number-at s rest (inr (inr (inl e))) ends a b c = absurd (b (ap (λ x. get_or (x ++ rest) 0 0) e))
 number-at s rest (inr (inr (inr e))) ends a b c = absurd (c (ap (λ x. get_or (x ++ rest) 0 0) e))
 
-pub literal-number : {xs text rest : List ℕ} → Literal xs text rest → (get_or xs 0 0 ≡ 110 → ⊥) → (get_or xs 0 0 ≡ 116 → ⊥) → (get_or xs 0 0 ≡ 102 → ⊥) →
-    length text ≡ prefix_len extends_number xs
-literal-number {xs} {text} {rest} l a b c =
-    let first = λ (k : ℕ) (no : get_or xs 0 0 ≡ k → ⊥) (e : get_or (text ++ rest) 0 0 ≡ k). no (ap (λ x. get_or x 0 0) l.parts ∙ e) in
+pub literal-number : (bytes : List ℕ) (at : ℕ) {text rest : List ℕ} → Literal (drop at bytes) text rest → (get_or bytes at 0 ≡ 110 → ⊥) → (get_or bytes at 0 ≡ 116 → ⊥) → (get_or bytes at 0 ≡ 102 → ⊥) →
+    length text ≡ prefix_len extends_number (drop at bytes)
+literal-number bytes at {text} {rest} l a b c =
+    let first = λ (k : ℕ) (no : get_or bytes at 0 ≡ k → ⊥) (e : get_or (text ++ rest) 0 0 ≡ k). no (behind bytes at (ap (λ x. get_or x 0 0) l.parts ∙ e)) in
     number-at text rest l.good l.ends (first 110 a) (first 116 b) (first 102 c) ∙ ap (prefix_len extends_number) (sym l.parts)
 
 pub literal-taken : (bytes : List ℕ) (at end : ℕ) {text rest : List ℕ} → Literal (drop at bytes) text rest → end ≡ at + length text →
@@ -100,7 +95,7 @@ turn c xs (next l v blank vs) rest f = record {
   space = f.good.2;
   solid = refl;
   ends = refl;
-  parts = f.parts ∙ regroup-next (label_spelling l) (spelling v) blank (values_spelling vs) (closing c ∷ rest);
+  parts = f.parts ∙ regroup-next (label_spelling l) (spelling v) blank 44 (values_spelling vs) (closing c ∷ rest);
   goes = inr (refl, (vs, record { good = f.good.3; shallow = omega (arith, f.shallow); parts = refl }, refl));
 }
 
@@ -131,7 +126,7 @@ pub mark-at : (bytes : List ℕ) (end place : ℕ) (blank : List ℕ) (mark : �
 mark-at bytes end place blank mark tail space solid e is = skip-to bytes end place blank (mark ∷ tail) space solid e is
 
 pub byte-at : (bytes : List ℕ) (at : ℕ) {b : ℕ} {rest : List ℕ} → drop at bytes ≡ b ∷ rest → get_or bytes at 0 ≡ b
-byte-at bytes at {b} {rest} e = ap (λ k. get_or bytes k 0) (sym (add-zero at)) ∙ sym (get_or-drop at bytes 0 0) ∙ ap (λ s. get_or s 0 0) e
+byte-at bytes at e = behind bytes at (ap (λ s. get_or s 0 0) e)
 
 -- the loop over items
 abbrev items_of : List Member → List ℕ
@@ -185,60 +180,19 @@ items-turn bytes at place end mark before out more done loop appends is pushed v
           t.goes,
     )
 
--- a member
+-- a member: a turn whose label has a name
 pub record Field (xs : List ℕ) (left : Values) (rest : List ℕ) : Type 0 where
+  pub turn : Turn object xs left rest
   pub before : List ℕ
   pub name : List Piece
   pub between : List ℕ
   pub after : List ℕ
-  pub value : Tree
-  pub blank : List ℕ
-  pub mark : ℕ
-  pub tail : List ℕ
-  pub leads : is_blank before ≡ true
-  pub named : AllByRecursion IsPiece name
-  pub parted : is_blank between ≡ true
-  pub follows : is_blank after ≡ true
-  pub good : IsGood value
-  pub shallow : depth value ≤ 128
-  pub space : is_blank blank ≡ true
-  pub solid : is_space mark ≡ false
-  pub ends : extends_number mark ≡ false
-  pub parts : xs ≡ before ++ (string_spelling name ++ (between ++ 58 ∷ (after ++ (spelling value ++ (blank ++ mark ∷ tail)))))
-  pub goes : ((mark ≡ 125) × (tail ≡ rest) × (members left ≡ (content name, compact value) ∷ []))
-      ⊎ ((mark ≡ 44) × ((others : Values) × Filled object tail others rest × (members left ≡ (content name, compact value) ∷ members others)))
-
-unlabel : (before : List ℕ) (name : List Piece) (between after rest : List ℕ) → label_spelling (named before name between after) ++ rest ≡
-    before ++ (string_spelling name ++ (between ++ 58 ∷ (after ++ rest)))
-unlabel before name between after rest = simp append_assoc
+  pub is : turn.label ≡ named before name between after
+  pub labelled : IsLabel object (named before name between after)
 
 field-of : {xs rest : List ℕ} {left : Values} (l : Label) → IsLabel object l → (t : Turn object xs left rest) → t.label ≡ l → Field xs left rest
 field-of (unnamed before) h t e = absurd h
-field-of {xs} {rest} {left} (named before name between after) h t e = record {
-  before = before;
-  name = name;
-  between = between;
-  after = after;
-  value = t.value;
-  blank = t.blank;
-  mark = t.mark;
-  tail = t.tail;
-  leads = h.0;
-  named = h.1;
-  parted = h.2;
-  follows = h.3;
-  good = t.good;
-  shallow = t.shallow;
-  space = t.space;
-  solid = t.solid;
-  ends = t.ends;
-  parts = t.parts ∙ ap (λ l. label_spelling l ++ (spelling t.value ++ (t.blank ++ t.mark ∷ t.tail))) e
-      ∙ unlabel before name between after (spelling t.value ++ (t.blank ++ t.mark ∷ t.tail));
-  goes = ⊎_elim
-      (λ g. inl (g.0, g.1, g.2 ∙ ap (λ l. (label_name l, compact t.value) ∷ []) e))
-      (λ g. inr (g.0, (g.1.0, g.1.1, g.1.2 ∙ ap (λ l. (label_name l, compact t.value) ∷ members g.1.0) e)))
-      t.goes;
-}
+field-of (named before name between after) h t e = record { turn = t; before = before; name = name; between = between; after = after; is = e; labelled = h }
 
 pub field : {xs rest : List ℕ} {left : Values} → Filled object xs left rest → Field xs left rest
 field {xs} {rest} {left} f = let t = turn object xs left rest f in field-of t.label t.labelled t refl
@@ -256,14 +210,16 @@ Names bytes at name colon = (text rest : List ℕ) → Quoted (drop at bytes) te
 
 -- what follows the name, and what follows the colon
 abbrev value_part : {xs rest : List ℕ} {left : Values} → Field xs left rest → List ℕ
-value_part f = f.after ++ (spelling f.value ++ (f.blank ++ f.mark ∷ f.tail))
+value_part f = f.after ++ (spelling f.turn.value ++ (f.turn.blank ++ f.turn.mark ∷ f.turn.tail))
 
 field-quoted : (bytes : List ℕ) (place start : ℕ) {left : Values} {rest : List ℕ} (f : Field (drop place bytes) left rest) → start ≡ place + prefix_len is_space (drop place bytes) →
     Quoted (drop start bytes) (content f.name) (f.between ++ 58 ∷ value_part f)
 field-quoted bytes place start f is = record {
   pieces = f.name;
-  good = f.named;
-  parts = skip-to bytes place start f.before (string_spelling f.name ++ (f.between ++ 58 ∷ value_part f)) f.leads refl f.parts is;
+  good = f.labelled.1;
+  parts = skip-to bytes place start f.before (string_spelling f.name ++ (f.between ++ 58 ∷ value_part f)) f.labelled.0 refl
+      (f.turn.parts ∙ ap (λ l. label_spelling l ++ (spelling f.turn.value ++ (f.turn.blank ++ f.turn.mark ∷ f.turn.tail))) f.is
+      ∙ regroup-next f.before (string_spelling f.name) f.between 58 f.after (spelling f.turn.value ++ (f.turn.blank ++ f.turn.mark ∷ f.turn.tail))) is;
   means = refl;
 }
 
@@ -271,12 +227,13 @@ field-colon : (bytes : List ℕ) (place start colon sign : ℕ) (name : List ℕ
     Names bytes start name colon → sign ≡ colon + prefix_len is_space (drop colon bytes) → (name ≡ content f.name) × (drop sign bytes ≡ 58 ∷ value_part f)
 field-colon bytes place start colon sign name f is names signed =
     let n = names _ _ (field-quoted bytes place start f is) in
-    (n.0, skip-to bytes colon sign f.between (58 ∷ value_part f) f.parted refl n.1 signed)
+    (n.0, skip-to bytes colon sign f.between (58 ∷ value_part f) f.labelled.2 refl n.1 signed)
 
 field-value : (bytes : List ℕ) (sign : ℕ) {xs : List ℕ} {left : Values} {rest : List ℕ} (f : Field xs left rest) → drop sign bytes ≡ 58 ∷ value_part f →
-    Stands (drop (sign + 1) bytes) (compact f.value) (f.blank ++ f.mark ∷ f.tail)
-field-value bytes sign f e = subst (λ s. Stands s (compact f.value) (f.blank ++ f.mark ∷ f.tail)) (sym (drop-after bytes sign e))
-    (value-stands f.after f.value f.blank f.mark f.tail f.follows f.good f.shallow f.space f.ends)
+    Stands (drop (sign + 1) bytes) (compact f.turn.value) (f.turn.blank ++ f.turn.mark ∷ f.turn.tail)
+field-value bytes sign f e = let t = f.turn in
+    subst (λ s. Stands s (compact t.value) (t.blank ++ t.mark ∷ t.tail)) (sym (drop-after bytes sign e))
+    (value-stands f.after t.value t.blank t.mark t.tail f.labelled.3 t.good t.shallow t.space t.ends)
 
 pub members-name : (bytes : List ℕ) (at place start : ℕ) {entries : List Member} {vs : Values} {rest : List ℕ} → Members bytes at place entries → Filled object (drop at bytes) vs rest →
     start ≡ place + prefix_len is_space (drop place bytes) → (text after : List ℕ) × Quoted (drop start bytes) text after
@@ -288,27 +245,30 @@ pub members-value : (bytes : List ℕ) (at place start colon sign : ℕ) (name :
 members-value bytes at place start colon sign name {entries} {vs} {rest} loop f is names signed =
     let g = field (loop.split vs rest f).2 in
     let e = field-colon bytes place start colon sign name g is names signed in
-    (inside-after bytes sign e.1, (compact g.value, g.blank ++ g.mark ∷ g.tail, field-value bytes sign g e.1))
+    (inside-after bytes sign e.1, (compact g.turn.value, g.turn.blank ++ g.turn.mark ∷ g.turn.tail, field-value bytes sign g e.1))
 
 abbrev pub Kept : List ℕ → ℕ → List Member → Values → List ℕ → Type 0
 Kept bytes mark entries vs rest =
     ((get_or bytes mark 0 ≡ 125) × (entries ≡ collapsed (members vs)) × (drop (mark + 1) bytes ≡ rest))
     ⊎ ((get_or bytes mark 0 ≡ 44) × ((left : Values) × (done : List Member) × Filled object (drop (mark + 1) bytes) left rest × (members vs ≡ done ++ members left) × (entries ≡ collapsed done)))
 
-pub members-turn : (bytes : List ℕ) (at place start colon sign end mark : ℕ) (name value : List ℕ) (entries more : List Member) → Members bytes at place entries →
+pub members-turn : (bytes : List ℕ) (at place start colon sign end mark : ℕ) (name old value : List ℕ) (entries more : List Member) → Members bytes at place entries →
     start ≡ place + prefix_len is_space (drop place bytes) → Names bytes start name colon → sign ≡ colon + prefix_len is_space (drop colon bytes) →
-    AppendsValue bytes (sign + 1) end [] value → mark ≡ end + prefix_len is_space (drop end bytes) → more ≡ insert_entry bytes_eq entries name value →
+    old ≡ [] → AppendsValue bytes (sign + 1) end old value → mark ≡ end + prefix_len is_space (drop end bytes) → more ≡ insert_entry bytes_eq entries name value →
     (vs : Values) (rest : List ℕ) → Filled object (drop at bytes) vs rest → (mark < length bytes) × Kept bytes mark more vs rest
-members-turn bytes at place start colon sign end mark name value entries more loop is names signed appends marked inserted vs rest f =
+members-turn bytes at place start colon sign end mark name old value entries more loop is names signed fresh appends marked inserted vs rest f =
     let s = loop.split vs rest f in
     let g = field s.2 in
+    let t = g.turn in
     let e = field-colon bytes place start colon sign name g is names signed in
     let a = appends _ _ (field-value bytes sign g e.1) in
-    let m = mark-at bytes end mark g.blank g.mark g.tail g.space g.solid a.1 marked in
+    let m = mark-at bytes end mark t.blank t.mark t.tail t.space t.solid a.1 marked in
     let byte = byte-at bytes mark m in
     let after = drop-after bytes mark m in
-    let kept : more ≡ collapsed (s.1 ++ (content g.name, compact g.value) ∷ []) =
-    inserted ∙ ap₂ (λ n v. insert_entry bytes_eq entries n v) e.0 a.0 ∙ ap (λ d. insert_entry bytes_eq d (content g.name) (compact g.value)) s.4 ∙ sym (collapsed-push s.1 (content g.name) (compact g.value)) in (
+    let new : List Member → List Member = λ ms. (label_name t.label, compact t.value) ∷ ms in
+    let kept : more ≡ collapsed (s.1 ++ new []) =
+    inserted ∙ ap₂ (λ n v. insert_entry bytes_eq entries n v) (e.0 ∙ ap label_name (sym g.is)) (a.0 ∙ ap (λ o. o ++ compact t.value) fresh)
+    ∙ ap (λ d. insert_entry bytes_eq d (label_name t.label) (compact t.value)) s.4 ∙ sym (collapsed-push s.1 (label_name t.label) (compact t.value)) in (
       inside-after bytes mark m,
       ⊎_elim
           (λ h. inl (byte ∙ h.0, kept ∙ ap collapsed (sym (s.3 ∙ ap (λ x. s.1 ++ x) h.2)), after ∙ h.1))
@@ -316,13 +276,13 @@ members-turn bytes at place start colon sign end mark name value entries more lo
             byte ∙ h.0,
             (
               h.1.0,
-              s.1 ++ (content g.name, compact g.value) ∷ [],
+              s.1 ++ new [],
               subst (λ x. Filled object x h.1.0 rest) (sym after) h.1.1,
-              s.3 ∙ ap (λ x. s.1 ++ x) h.1.2 ∙ sym (append_assoc s.1 ((content g.name, compact g.value) ∷ []) (members h.1.0)),
+              s.3 ∙ ap (λ x. s.1 ++ x) h.1.2 ∙ sym (append_assoc s.1 (new []) (members h.1.0)),
               kept,
             ),
           ))
-          g.goes,
+          t.goes,
     )
 
 -- writing members, each behind a mark
@@ -339,9 +299,6 @@ unfolding object_text
 object-marked [] h = absurd (omega arith)
 object-marked (m ∷ ms) h = ap (λ s. 123 ∷ s) (joined-marked m ms)
 
-pub front : (bytes : List ℕ) (at : ℕ) {b : ℕ} → get_or bytes at 0 ≡ b → get_or (drop at bytes) 0 0 ≡ b
-front bytes at e = get_or-drop at bytes 0 0 ∙ ap (λ k. get_or bytes k 0) (add-zero at) ∙ e
-
 -- a literal isn't empty, and it stands within the text
 pub literal-fits : (bytes : List ℕ) (at : ℕ) {text rest : List ℕ} → Literal (drop at bytes) text rest → (at < at + length text) × (at + length text ≤ length bytes)
 literal-fits bytes at {text} {rest} l =
@@ -349,9 +306,6 @@ literal-fits bytes at {text} {rest} l =
     let long : length text ≡ suc (length h.more) = ap length h.parts in
     let size : length bytes - at ≡ length text + length rest = sym (length-drop at bytes) ∙ ap length l.parts ∙ length-append text rest in
     (omega arith, omega arith)
-
-pub behind : (bytes : List ℕ) (at : ℕ) {b : ℕ} → get_or (drop at bytes) 0 0 ≡ b → get_or bytes at 0 ≡ b
-behind bytes at e = ap (λ k. get_or bytes k 0) (sym (add-zero at)) ∙ sym (get_or-drop at bytes 0 0) ∙ e
 
 -- values and containers within the text
 pub at-inside : (bytes : List ℕ) (start : ℕ) {text rest : List ℕ} → At (drop start bytes) text rest → start < length bytes

@@ -1,13 +1,14 @@
 -- The values of a container: the next one, and those behind it.
-use Rattle.std.proofs.Common.{◌≡◌, ◌⊎◌, ℕ, suc, ◌-◌, ◌≤◌, List, [], ◌∷◌, ◌++◌, length, true, false, refl, sym, ap, subst, ◌∙◌, inl, inr, arith, append_assoc}
+use Rattle.std.proofs.Common.{◌≡◌, ◌⊎◌, ℕ, suc, ◌-◌, ◌≤◌, List, [], ◌∷◌, ◌++◌, length, true, refl, sym, ap, subst, ◌∙◌, inl, inr, arith}
 use Rattle.std.specs.Prelude.{flat_map}
 use Rattle.std.proofs.lemmas.Bool.{and_parts, and_from}
 use Rattle.scene_json.specs.Characters.{is_space, is_blank}
 use Rattle.scene_json.specs.Tree.{piece_spelling, array, object, closing, Label, unnamed, named, label_spelling, IsLabel, spelling, Values, last, next, values_spelling, AreGood, values_depth}
-use Rattle.scene_json.specs.Value.{extends_number, Follows}
+use Rattle.scene_json.specs.Value.{Follows}
 use Rattle.scene_json.specs.declared.brackets.Bracket.{Bracket}
 use Rattle.scene_json.specs.declared.brackets.Bracket.TheVariants.{Square, Curly}
 use Rattle.scene_json.specs.Machine.{container_of}
+use Rattle.scene_json.proofs.Reading.{Blank, space-ends, spread, regroup-last, regroup-next}
 use Rattle.scene_json.proofs.Rests.{Quiet, Spaced, here, space, Byte, Listed, Rest, Starts, Named, First}
 
 -- ---- white space
@@ -15,18 +16,11 @@ pub spaced_from : {P : List ℕ → Type 0} (blank w : List ℕ) → is_blank bl
 spaced_from [] w is p = here p
 spaced_from (b ∷ blank) w is p = let parts = and_parts (is_space b) (is_blank blank) is in space parts.0 (spaced_from blank w parts.1 p)
 
-pub record Blank (P : List ℕ → Type 0) (w : List ℕ) : Type 0 where
-  pub blank : List ℕ
-  pub rest : List ℕ
-  pub is : is_blank blank ≡ true
-  pub spells : w ≡ blank ++ rest
-  pub follows : P rest
-
 pub spaced_to : {P : List ℕ → Type 0} {w : List ℕ} → Spaced P w → Blank P w
-spaced_to {w} (here p) = record { blank = []; rest = w; is = refl; spells = refl; follows = p }
+spaced_to {w} (here p) = record { front = []; rest = w; is = refl; spells = refl; follows = p }
 spaced_to (space {b} s r) =
     let more = spaced_to r in
-    record { blank = b ∷ more.blank; rest = more.rest; is = and_from (is_space b) (is_blank more.blank) s more.is; spells = ap (λ x. b ∷ x) more.spells; follows = more.follows }
+    record { front = b ∷ more.front; rest = more.rest; is = and_from (is_space b) (is_blank more.front) s more.is; spells = ap (λ x. b ∷ x) more.spells; follows = more.follows }
 
 pub spaced_map : {P Q : List ℕ → Type 0} {w : List ℕ} → ((x : List ℕ) → P x → Q x) → Spaced P w → Spaced Q w
 spaced_map {w} f (here p) = here (f w p)
@@ -40,18 +34,11 @@ pub record Labelled (limit : ℕ) (left : List ℕ) (bracket : Bracket) (st : Li
   pub spells : w ≡ label_spelling label ++ rest
   pub follows : Starts limit left (bracket ∷ st) rest
 
-space_quiet : (b : ℕ) → is_space b ≡ true → extends_number b ≡ false
-space_quiet b s = grind arith
-
 pub quiet_follows : (value w : List ℕ) → Quiet w → Follows value w
 quiet_follows value [] q = tt
 quiet_follows value (b ∷ w) q = λ n. q
 
 module _ (limit : ℕ) (left : List ℕ) (st : List Bracket) where
-  named_spelling : (before name between after w : List ℕ) →
-      (before ++ ((34 ∷ (name ++ 34 ∷ [])) ++ (between ++ 58 ∷ after))) ++ w ≡ before ++ (34 ∷ (name ++ 34 ∷ (between ++ 58 ∷ (after ++ w))))
-  named_spelling before name between after w = simp append_assoc
-
   pub label_first : (bracket : Bracket) (w : List ℕ) → Labelled limit left bracket st w → Spaced (First limit left bracket (bracket ∷ st)) w
   label_first Square w l = unnamed_first l.label l.good l.spells
     where
@@ -63,7 +50,7 @@ module _ (limit : ℕ) (left : List ℕ) (st : List Bracket) where
       named_first : (label : Label) → IsLabel object label → w ≡ label_spelling label ++ l.rest → Spaced (Named limit left (Curly ∷ st)) w
       named_first (unnamed before) none e = absurd none
       named_first (named before name between after) good e =
-          subst (Spaced (Named limit left (Curly ∷ st))) (sym (e ∙ named_spelling before (flat_map piece_spelling name) between after l.rest))
+          subst (Spaced (Named limit left (Curly ∷ st))) (sym (e ∙ spread before name between after l.rest))
           (spaced_from before _ good.0 (
             _,
             refl,
@@ -79,19 +66,19 @@ module _ (limit : ℕ) (left : List ℕ) (st : List Bracket) where
   pub first_label : (bracket : Bracket) (w : List ℕ) → Spaced (First limit left bracket (bracket ∷ st)) w → Labelled limit left bracket st w
   first_label Square w s =
       let b = spaced_to s in
-      record { label = unnamed b.blank; rest = b.rest; good = b.is; spells = b.spells; follows = b.follows }
+      record { label = unnamed b.front; rest = b.rest; good = b.is; spells = b.spells; follows = b.follows }
   first_label Curly w s =
       let before = spaced_to s in
       let quoted = before.follows.2 in
       let between = spaced_to quoted.follows in
       let after = spaced_to between.follows.2 in
       record {
-        label = named before.blank quoted.pieces between.blank after.blank;
+        label = named before.front quoted.pieces between.front after.front;
         rest = after.rest;
         good = (before.is, quoted.good, between.is, after.is);
-        spells = before.spells ∙ ap (λ x. before.blank ++ x) (before.follows.1 ∙ ap (λ x. 34 ∷ x) (quoted.spells
-            ∙ ap (λ x. flat_map piece_spelling quoted.pieces ++ 34 ∷ x) (between.spells ∙ ap (λ x. between.blank ++ x) (between.follows.1 ∙ ap (λ x. 58 ∷ x) after.spells))))
-            ∙ sym (named_spelling before.blank (flat_map piece_spelling quoted.pieces) between.blank after.blank after.rest);
+        spells = before.spells ∙ ap (λ x. before.front ++ x) (before.follows.1 ∙ ap (λ x. 34 ∷ x) (quoted.spells
+            ∙ ap (λ x. flat_map piece_spelling quoted.pieces ++ 34 ∷ x) (between.spells ∙ ap (λ x. between.front ++ x) (between.follows.1 ∙ ap (λ x. 58 ∷ x) after.spells))))
+            ∙ sym (spread before.front quoted.pieces between.front after.front after.rest);
         follows = after.follows;
       }
 
@@ -100,13 +87,7 @@ module _ (limit : ℕ) (left : List ℕ) (st : List Bracket) where
   rest_quiet Square w (here (inl close)) = subst Quiet (sym close.1) refl
   rest_quiet Curly w (here (inl close)) = subst Quiet (sym close.1) refl
   rest_quiet bracket w (here (inr more)) = subst Quiet (sym more.1) refl
-  rest_quiet bracket w (space {b} s r) = space_quiet b s
-
-  last_spelling : (label value blank rest : List ℕ) → (label ++ (value ++ blank)) ++ rest ≡ label ++ (value ++ (blank ++ rest))
-  last_spelling label value blank rest = simp append_assoc
-
-  next_spelling : (label value blank values rest : List ℕ) → (label ++ (value ++ (blank ++ 44 ∷ values))) ++ rest ≡ label ++ (value ++ (blank ++ 44 ∷ (values ++ rest)))
-  next_spelling label value blank values rest = simp append_assoc
+  rest_quiet bracket w (space {b} s r) = space-ends b s
 
   -- values behind a comma or an opening bracket, as the next one and what follows it
   pub unrolled : (bracket : Bracket) (w : List ℕ) → Listed limit left bracket st (Rest limit left st) w → Spaced (First limit left bracket (bracket ∷ st)) w
@@ -131,7 +112,7 @@ module _ (limit : ℕ) (left : List ℕ) (st : List Bracket) where
         label = label;
         rest = spelling value ++ (blank ++ end);
         good = good.0;
-        spells = e ∙ last_spelling (label_spelling label) (spelling value) blank end;
+        spells = e ∙ regroup-last (label_spelling label) (spelling value) blank end;
         follows = record {
           tree = value;
           rest = blank ++ end;
@@ -146,7 +127,7 @@ module _ (limit : ℕ) (left : List ℕ) (st : List Bracket) where
         label = label;
         rest = spelling value ++ (blank ++ 44 ∷ (values_spelling values ++ end));
         good = good.0;
-        spells = e ∙ next_spelling (label_spelling label) (spelling value) blank (values_spelling values) end;
+        spells = e ∙ regroup-next (label_spelling label) (spelling value) blank 44 (values_spelling values) end;
         follows = record {
           tree = value;
           rest = blank ++ 44 ∷ (values_spelling values ++ end);
@@ -171,21 +152,21 @@ module _ (limit : ℕ) (left : List ℕ) (st : List Bracket) where
       by_rest : Blank (λ r. Byte (closing (container_of bracket)) (Rest limit left st) r ⊎ Byte 44 (Listed limit left bracket st (Rest limit left st)) r) value.rest → Listed limit left bracket st (Rest limit left st) w
       by_rest b = elim b.follows [
         | inl end ↦ record {
-          values = last l.label value.tree b.blank;
+          values = last l.label value.tree b.front;
           rest = end.0;
           good = (l.good, value.good, b.is);
           shallow = value.shallow;
-          spells = l.spells ∙ ap (λ x. label_spelling l.label ++ x) (value.spells ∙ ap (λ x. spelling value.tree ++ x) (b.spells ∙ ap (λ x. b.blank ++ x) end.1))
-              ∙ sym (last_spelling (label_spelling l.label) (spelling value.tree) b.blank (closing (container_of bracket) ∷ end.0));
+          spells = l.spells ∙ ap (λ x. label_spelling l.label ++ x) (value.spells ∙ ap (λ x. spelling value.tree ++ x) (b.spells ∙ ap (λ x. b.front ++ x) end.1))
+              ∙ sym (regroup-last (label_spelling l.label) (spelling value.tree) b.front (closing (container_of bracket) ∷ end.0));
           follows = end.2;
         }
         | inr more ↦ let listed = more.2 in record {
-          values = next l.label value.tree b.blank listed.values;
+          values = next l.label value.tree b.front listed.values;
           rest = listed.rest;
           good = (l.good, value.good, b.is, listed.good);
           shallow = omega (arith, value.shallow, listed.shallow);
-          spells = l.spells ∙ ap (λ x. label_spelling l.label ++ x) (value.spells ∙ ap (λ x. spelling value.tree ++ x) (b.spells ∙ ap (λ x. b.blank ++ x) (more.1 ∙ ap (λ x. 44 ∷ x) listed.spells)))
-              ∙ sym (next_spelling (label_spelling l.label) (spelling value.tree) b.blank (values_spelling listed.values) (closing (container_of bracket) ∷ listed.rest));
+          spells = l.spells ∙ ap (λ x. label_spelling l.label ++ x) (value.spells ∙ ap (λ x. spelling value.tree ++ x) (b.spells ∙ ap (λ x. b.front ++ x) (more.1 ∙ ap (λ x. 44 ∷ x) listed.spells)))
+              ∙ sym (regroup-next (label_spelling l.label) (spelling value.tree) b.front 44 (values_spelling listed.values) (closing (container_of bracket) ∷ listed.rest));
           follows = listed.follows;
         }
       ]

@@ -1,8 +1,9 @@
 -- What a text that begins a value, and one that a value stands in, say of the machine's run, and the other way round.
-use Rattle.std.proofs.Common.{◌≡◌, ℕ, List, [], ◌∷◌, ◌++◌, refl, sym, ap, subst, ◌∙◌, arith, append_assoc, append-nil}
+use Rattle.std.proofs.Common.{◌≡◌, ℕ, List, [], ◌∷◌, ◌++◌, true, refl, sym, ap, subst, ◌∙◌, arith, append_assoc, append-nil}
 use Rattle.scene_json.specs.Tree.{spelling}
 use Rattle.scene_json.specs.Compact.{compact}
-use Rattle.scene_json.specs.Value.{Follows, Stands, Begins}
+use Rattle.scene_json.specs.Characters.{is_blank}
+use Rattle.scene_json.specs.Value.{Value, Follows, Stands, Begins}
 use Rattle.scene_json.specs.declared.brackets.Bracket.{Bracket}
 use Rattle.scene_json.specs.declared.machine.Mode.{Mode}
 use Rattle.scene_json.specs.Machine.{Outcome, state, ended, refused, step}
@@ -50,17 +51,20 @@ module _ (limit : ℕ) where
       record { mode = r.mode; brackets = r.brackets; is = r.is }
 
   -- ---- what begins a value is run over, and no other text
+  value_start : (blank value text rest : List ℕ) → is_blank blank ≡ true → Value limit value text → Follows value rest → Reaches limit rest start (blank ++ (value ++ rest))
+  value_start blank value text rest space v ends = spaced_from blank (value ++ rest) space (record {
+    tree = v.tree;
+    rest = rest;
+    good = v.good;
+    shallow = omega (arith, v.shallow);
+    spells = ap (λ x. x ++ rest) (sym v.spells);
+    ends = subst (λ s. Follows s rest) (sym v.spells) ends;
+    follows = refl;
+  })
+
   pub begins_runs : (bytes : List ℕ) → Begins limit bytes → Runs limit start bytes
-  begins_runs bytes b = runs_through bytes b.more start (subst (Reaches limit [] start) (sym b.parts)
-      (spaced_from b.blank b.value b.space (record {
-        tree = b.is.tree;
-        rest = [];
-        good = b.is.good;
-        shallow = omega (arith, b.is.shallow);
-        spells = sym b.is.spells ∙ sym (append-nil (spelling b.is.tree));
-        ends = tt;
-        follows = refl;
-      })))
+  begins_runs bytes b = runs_through bytes b.more start
+      (subst (Reaches limit [] start) (ap (λ x. b.blank ++ x) (append-nil b.value) ∙ sym b.parts) (value_start b.blank b.value b.text [] b.space b.is tt))
 
   pub runs_begins : (bytes : List ℕ) → Runs limit start bytes → Begins limit bytes
   runs_begins bytes r =
@@ -69,10 +73,10 @@ module _ (limit : ℕ) where
       let s = b.follows in
       record {
         more = c.0;
-        blank = b.blank;
+        blank = b.front;
         value = spelling s.tree;
         text = compact s.tree;
-        parts = b.spells ∙ ap (λ x. b.blank ++ x) (s.spells ∙ ap (λ x. spelling s.tree ++ x) s.follows ∙ append-nil (spelling s.tree));
+        parts = b.spells ∙ ap (λ x. b.front ++ x) (s.spells ∙ ap (λ x. spelling s.tree ++ x) s.follows ∙ append-nil (spelling s.tree));
         space = b.is;
         is = record { tree = s.tree; good = s.good; shallow = omega (arith, s.shallow); spells = refl; means = refl };
       }
@@ -86,15 +90,7 @@ module _ (limit : ℕ) where
 
 -- ---- where a value stands
 pub stands_start : (bytes text rest : List ℕ) → Stands bytes text rest → Reaches 128 rest start bytes
-stands_start bytes text rest s = subst (Reaches 128 rest start) (sym s.parts) (spaced_from s.blank (s.value ++ rest) s.space (record {
-  tree = s.is.tree;
-  rest = rest;
-  good = s.is.good;
-  shallow = omega (arith, s.is.shallow);
-  spells = ap (λ x. x ++ rest) (sym s.is.spells);
-  ends = subst (λ v. Follows v rest) (sym s.is.spells) s.ends;
-  follows = refl;
-}))
+stands_start bytes text rest s = subst (Reaches 128 rest start) (sym s.parts) (value_start 128 s.blank s.value text rest s.space s.is s.ends)
 
 pub start_stands : (bytes rest : List ℕ) → Reaches 128 rest start bytes → (text : List ℕ) × Stands bytes text rest
 start_stands bytes rest r =
@@ -102,9 +98,9 @@ start_stands bytes rest r =
     let s = b.follows in (
       compact s.tree,
       record {
-        blank = b.blank;
+        blank = b.front;
         value = spelling s.tree;
-        parts = b.spells ∙ ap (λ x. b.blank ++ x) (s.spells ∙ ap (λ x. spelling s.tree ++ x) s.follows);
+        parts = b.spells ∙ ap (λ x. b.front ++ x) (s.spells ∙ ap (λ x. spelling s.tree ++ x) s.follows);
         space = b.is;
         is = record { tree = s.tree; good = s.good; shallow = omega (arith, s.shallow); spells = refl; means = refl };
         ends = subst (Follows (spelling s.tree)) s.follows s.ends;

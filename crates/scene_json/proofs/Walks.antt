@@ -3,12 +3,13 @@ use Rattle.std.proofs.Common.{◌≡◌, ◌≤◌, ℕ, ◌+◌, List, [], ◌�
 use Rattle.std.proofs.lemmas.Bool.{and_parts, both_ways, eqb-false}
 use Rattle.std.specs.List.{prefix_len}
 use Rattle.scene_json.specs.Characters.{is_space, is_blank, quote}
-use Rattle.scene_json.specs.Tree.{Container, array, object, opening, closing, Tree, scalar, text, empty, filled, Values, IsNumber, IsWord, IsGood, spelling, values_spelling, depth}
+use Rattle.scene_json.specs.Tree.{Container, array, object, opening, closing, Tree, scalar, text, empty, filled, Values, IsGood, spelling, values_spelling, depth}
 use Rattle.scene_json.specs.Compact.{content, compact, members, container_text}
 use Rattle.scene_json.specs.Value.{Stands, Follows}
 use Rattle.scene_json.specs.Walk.{Quoted, Literal, Filled}
+use Rattle.scene_json.proofs.Contents.{behind}
 use Rattle.scene_json.proofs.Escapes.{prefix-run}
-use Rattle.scene_json.proofs.Reading.{opening-no-scalar, opening-no-quote, Stops, scalar-Head, begins_scalar, begins_value, begins-no-space, tree-Stops, closing-no-space, values-Front}
+use Rattle.scene_json.proofs.Reading.{opening-same, opening-no-scalar, opening-no-quote, Stops, scalar-Head, begins_scalar, begins_value, begins-no-space, tree-Stops, closing-no-space, values-Front, head-first}
 
 -- white space is skipped
 pub stops-none : (p : ℕ → Bool) (s : List ℕ) → Stops p s → prefix_len p s ≡ 0
@@ -42,17 +43,14 @@ At-Stands a = record {
   ends = a.ends;
 }
 
+-- the value where it stands, once the white space before it is passed
+tree-At : {xs ys text rest : List ℕ} → (s : Stands xs text rest) → ys ≡ spelling s.is.tree ++ rest → At ys text rest
+tree-At {xs} {ys} {text} {rest} s e =
+    record { tree = s.is.tree; good = s.is.good; shallow = s.is.shallow; parts = e; means = s.is.means; ends = subst (λ v. Follows v rest) (sym s.is.spells) s.ends }
+
 pub stands-skip : (bytes : List ℕ) (at start : ℕ) {text rest : List ℕ} → Stands (drop at bytes) text rest → start ≡ at + prefix_len is_space (drop at bytes) → At (drop start bytes) text rest
-stands-skip bytes at start {text} {rest} s is =
-    let t = s.is.tree in
-    record {
-      tree = t;
-      good = s.is.good;
-      shallow = s.is.shallow;
-      parts = skip-to bytes at start s.blank (spelling t ++ rest) s.space (tree-Stops t rest s.is.good) (s.parts ∙ ap (λ v. s.blank ++ (v ++ rest)) (sym s.is.spells)) is;
-      means = s.is.means;
-      ends = subst (λ v. Follows v rest) (sym s.is.spells) s.ends;
-    }
+stands-skip bytes at start {text} {rest} s is = tree-At s (skip-to bytes at start s.blank (spelling s.is.tree ++ rest) s.space (tree-Stops s.is.tree rest s.is.good)
+    (s.parts ∙ ap (λ v. s.blank ++ (v ++ rest)) (sym s.is.spells)) is)
 
 -- where the first byte is no white space
 no-blank : (blank s : List ℕ) → is_blank blank ≡ true → is_space (get_or (blank ++ s) 0 0) ≡ false → blank ≡ []
@@ -61,23 +59,8 @@ no-blank (b ∷ bs) s space first = absurd (both_ways (is_space b) first (and_pa
 
 pub stands-At : {xs text rest : List ℕ} → Stands xs text rest → is_space (get_or xs 0 0) ≡ false → At xs text rest
 stands-At {xs} {text} {rest} s first =
-    let t = s.is.tree in
     let none : s.blank ≡ [] = no-blank s.blank (s.value ++ rest) s.space (ap (λ x. is_space (get_or x 0 0)) (sym s.parts) ∙ first) in
-    record {
-      tree = t;
-      good = s.is.good;
-      shallow = s.is.shallow;
-      parts = s.parts ∙ ap₂ (λ b v. b ++ (v ++ rest)) none (sym s.is.spells);
-      means = s.is.means;
-      ends = subst (λ v. Follows v rest) (sym s.is.spells) s.ends;
-    }
-
--- the kind of a value by its first byte
-pub scalar-first : (s rest : List ℕ) (b : ℕ) → IsNumber s ⊎ IsWord s → get_or (s ++ rest) 0 0 ≡ b → begins_scalar b ≡ false → ⊥
-scalar-first s rest b good first fails =
-    let h = scalar-Head s good in
-    let same : h.first ≡ b = sym (ap (λ x. get_or (x ++ rest) 0 0) h.parts) ∙ first in
-    both_ways (begins_scalar b) fails (rw (← same) h.begins)
+    tree-At s (s.parts ∙ ap₂ (λ b v. b ++ (v ++ rest)) none (sym s.is.spells))
 
 -- a string
 pub record StringAt (xs text rest : List ℕ) : Type 0 where
@@ -86,12 +69,10 @@ pub record StringAt (xs text rest : List ℕ) : Type 0 where
   pub means : quote content ≡ text
 
 string-at : (xs rest : List ℕ) (t : Tree) → IsGood t → xs ≡ spelling t ++ rest → get_or xs 0 0 ≡ 34 → StringAt xs (compact t) rest
-string-at xs rest (scalar s) good e first = absurd (scalar-first s rest 34 good (sym (ap (λ x. get_or x 0 0) e) ∙ first) refl)
+string-at xs rest (scalar s) good e first = absurd (head-first begins_scalar s rest 34 (scalar-Head s good) (sym (ap (λ x. get_or x 0 0) e) ∙ first) refl)
 string-at xs rest (text ps) good e first = record { content = content ps; quoted = record { pieces = ps; good = good; parts = e; means = refl }; means = refl }
-string-at xs rest (empty array blank) good e first = absurd (eqb-false 91 34 refl (sym (ap (λ x. get_or x 0 0) e) ∙ first))
-string-at xs rest (empty object blank) good e first = absurd (eqb-false 123 34 refl (sym (ap (λ x. get_or x 0 0) e) ∙ first))
-string-at xs rest (filled array vs) good e first = absurd (eqb-false 91 34 refl (sym (ap (λ x. get_or x 0 0) e) ∙ first))
-string-at xs rest (filled object vs) good e first = absurd (eqb-false 123 34 refl (sym (ap (λ x. get_or x 0 0) e) ∙ first))
+string-at xs rest (empty c blank) good e first = absurd (eqb-false (opening c) 34 (opening-no-quote c) (sym (ap (λ x. get_or x 0 0) e) ∙ first))
+string-at xs rest (filled c vs) good e first = absurd (eqb-false (opening c) 34 (opening-no-quote c) (sym (ap (λ x. get_or x 0 0) e) ∙ first))
 
 pub At-String : {xs text rest : List ℕ} → At xs text rest → get_or xs 0 0 ≡ 34 → StringAt xs text rest
 At-String {xs} {text} {rest} a first = subst (λ t. StringAt xs t rest) a.means (string-at xs rest a.tree a.good a.parts first)
@@ -106,8 +87,9 @@ literal-at xs rest (empty object blank) good ends e q a o = absurd (o (ap (λ x.
 literal-at xs rest (filled array vs) good ends e q a o = absurd (a (ap (λ x. get_or x 0 0) e))
 literal-at xs rest (filled object vs) good ends e q a o = absurd (o (ap (λ x. get_or x 0 0) e))
 
-pub At-Literal : {xs text rest : List ℕ} → At xs text rest → (get_or xs 0 0 ≡ 34 → ⊥) → (get_or xs 0 0 ≡ 91 → ⊥) → (get_or xs 0 0 ≡ 123 → ⊥) → Literal xs text rest
-At-Literal {xs} {text} {rest} a q l o = subst (λ t. Literal xs t rest) a.means (literal-at xs rest a.tree a.good a.ends a.parts q l o)
+pub At-Literal : (bytes : List ℕ) (at : ℕ) {text rest : List ℕ} → At (drop at bytes) text rest → (get_or bytes at 0 ≡ 34 → ⊥) → (get_or bytes at 0 ≡ 91 → ⊥) → (get_or bytes at 0 ≡ 123 → ⊥) → Literal (drop at bytes) text rest
+At-Literal bytes at {text} {rest} a q l o = subst (λ t. Literal (drop at bytes) t rest) a.means
+    (literal-at (drop at bytes) rest a.tree a.good a.ends a.parts (λ e. q (behind bytes at e)) (λ e. l (behind bytes at e)) (λ e. o (behind bytes at e)))
 
 -- an empty container, and one with values
 pub record EmptyAt (c : Container) (xs text rest : List ℕ) : Type 0 where
@@ -123,20 +105,14 @@ pub record FilledAt (c : Container) (xs text rest : List ℕ) : Type 0 where
 
 container-at : (c : Container) (xs rest : List ℕ) (t : Tree) → IsGood t → depth t ≤ 128 → xs ≡ spelling t ++ rest → get_or xs 0 0 ≡ opening c →
     EmptyAt c xs (compact t) rest ⊎ FilledAt c xs (compact t) rest
-container-at c xs rest (scalar s) good shallow e first = absurd (scalar-first s rest (opening c) good (sym (ap (λ x. get_or x 0 0) e) ∙ first) (opening-no-scalar c))
+container-at c xs rest (scalar s) good shallow e first = absurd (head-first begins_scalar s rest (opening c) (scalar-Head s good) (sym (ap (λ x. get_or x 0 0) e) ∙ first) (opening-no-scalar c))
 container-at c xs rest (text ps) good shallow e first = absurd (eqb-false (opening c) 34 (opening-no-quote c) (sym first ∙ ap (λ x. get_or x 0 0) e))
-container-at array xs rest (empty array blank) good shallow e first =
-    inl (record { blank = blank; space = good; parts = ap (drop 1) e ∙ append_assoc blank (93 ∷ []) rest; means = refl })
-container-at array xs rest (empty object blank) good shallow e first = absurd (eqb-false 123 91 refl (sym (ap (λ x. get_or x 0 0) e) ∙ first))
-container-at object xs rest (empty array blank) good shallow e first = absurd (eqb-false 91 123 refl (sym (ap (λ x. get_or x 0 0) e) ∙ first))
-container-at object xs rest (empty object blank) good shallow e first =
-    inl (record { blank = blank; space = good; parts = ap (drop 1) e ∙ append_assoc blank (125 ∷ []) rest; means = refl })
-container-at array xs rest (filled array vs) good shallow e first =
-    inr (record { values = vs; filled = record { good = good; shallow = omega (arith, shallow); parts = ap (drop 1) e ∙ append_assoc (values_spelling vs) (93 ∷ []) rest }; means = refl })
-container-at array xs rest (filled object vs) good shallow e first = absurd (eqb-false 123 91 refl (sym (ap (λ x. get_or x 0 0) e) ∙ first))
-container-at object xs rest (filled array vs) good shallow e first = absurd (eqb-false 91 123 refl (sym (ap (λ x. get_or x 0 0) e) ∙ first))
-container-at object xs rest (filled object vs) good shallow e first =
-    inr (record { values = vs; filled = record { good = good; shallow = omega (arith, shallow); parts = ap (drop 1) e ∙ append_assoc (values_spelling vs) (125 ∷ []) rest }; means = refl })
+container-at c xs rest (empty d blank) good shallow e first =
+    subst (λ k. EmptyAt k xs (compact (empty d blank)) rest ⊎ FilledAt k xs (compact (empty d blank)) rest) (opening-same d c (ap (λ b. b ∷ []) (sym (ap (λ x. get_or x 0 0) e) ∙ first)))
+    (inl (record { blank = blank; space = good; parts = ap (drop 1) e ∙ append_assoc blank (closing d ∷ []) rest; means = refl }))
+container-at c xs rest (filled d vs) good shallow e first =
+    subst (λ k. EmptyAt k xs (compact (filled d vs)) rest ⊎ FilledAt k xs (compact (filled d vs)) rest) (opening-same d c (ap (λ b. b ∷ []) (sym (ap (λ x. get_or x 0 0) e) ∙ first)))
+    (inr (record { values = vs; filled = record { good = good; shallow = omega (arith, shallow); parts = ap (drop 1) e ∙ append_assoc (values_spelling vs) (closing d ∷ []) rest }; means = refl }))
 
 pub At-Container : (c : Container) {xs text rest : List ℕ} → At xs text rest → get_or xs 0 0 ≡ opening c → EmptyAt c xs text rest ⊎ FilledAt c xs text rest
 At-Container c {xs} {text} {rest} a first =
@@ -153,9 +129,9 @@ pub first-filled : (c : Container) (bytes : List ℕ) (at first : ℕ) {text res
     first ≡ at + 1 + prefix_len is_space (drop (at + 1) bytes) → (b : ℕ) × (more : List ℕ) × (drop first bytes ≡ b ∷ more) × (begins_value b ≡ true)
 first-filled c bytes at first {text} {rest} h is =
     let f = values-Front c h.values h.filled.good in
-    let start = f.begins in
-    let tail : f.tail ++ closing c ∷ rest ≡ start.first ∷ (start.more ++ closing c ∷ rest) = ap (λ s. s ++ closing c ∷ rest) start.parts in
-    let place = skip-to bytes (at + 1) first f.before (f.tail ++ closing c ∷ rest) f.space
+    let start = f.follows in
+    let tail : f.rest ++ closing c ∷ rest ≡ start.first ∷ (start.more ++ closing c ∷ rest) = ap (λ s. s ++ closing c ∷ rest) start.parts in
+    let place = skip-to bytes (at + 1) first f.front (f.rest ++ closing c ∷ rest) f.is
     (subst (Stops is_space) (sym tail) (begins-no-space start.first start.begins))
-    (sym (drop-drop 1 at bytes) ∙ h.filled.parts ∙ ap (λ s. s ++ closing c ∷ rest) f.parts ∙ append_assoc f.before f.tail (closing c ∷ rest)) is in
+    (sym (drop-drop 1 at bytes) ∙ h.filled.parts ∙ ap (λ s. s ++ closing c ∷ rest) f.spells ∙ append_assoc f.front f.rest (closing c ∷ rest)) is in
     (start.first, start.more ++ closing c ∷ rest, place ∙ tail, start.begins)

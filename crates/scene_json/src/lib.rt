@@ -7,6 +7,7 @@ mod compacting;
 mod content;
 mod end;
 mod fault;
+pub mod laws;
 mod layout;
 mod machine;
 mod nesting;

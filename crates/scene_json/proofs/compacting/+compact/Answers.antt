@@ -1,14 +1,16 @@
-use Rattle.std.proofs.Common.{◌≡◌, ◌<◌, ◌≤◌, ◌+◌, ◌-◌, ◌*◌, [], ◌∷◌, ◌++◌, ℕ, List, length, drop, get_or, bytes_eq, refl, sym, ap, ◌∙◌, subst, ⊎_elim, arith, append_assoc}
+use Rattle.std.proofs.Common.{◌≡◌, ◌<◌, ◌≤◌, ◌+◌, ◌-◌, ◌*◌, [], ◌∷◌, ◌++◌, ℕ, List, length, drop, bytes_eq, refl, sym, ap, ◌∙◌, subst, ⊎_elim, arith, append_assoc, length-drop}
 use Rattle.std.proofs.lemmas.Bool.{eqb-false}
 use Rattle.std.proofs.lemmas.Result.{IfOk-weaker}
+use Rattle.std.proofs.lemmas.List.Sums.{prefix_len-le-length}
 use Rattle.indexmap.specs.IndexMap.{insert_entry}
+use Rattle.scene_json.specs.Characters.{is_space}
 use Rattle.scene_json.specs.Tree.{Values, array, object}
 use Rattle.scene_json.specs.Compact.{object_text}
 use Rattle.scene_json.specs.Value.{IsCompact}
 use Rattle.scene_json.specs.Walk.{AppendsValue, Filled, Literal, items_text}
 use Rattle.scene_json.proofs.CompactLaws.{Value-compact}
 use Rattle.scene_json.proofs.Walks.{At-Stands, At-Literal, stands-skip}
-use Rattle.scene_json.proofs.Turns.{items-turn, items-stands, members-name, members-value, members-turn, behind, at-inside, stands-inside, container-inside, empty-of, filled-of, array-items, collapsed-some, appends-behind}
+use Rattle.scene_json.proofs.Turns.{items-turn, items-stands, members-name, members-value, members-turn, at-inside, stands-inside, container-inside, empty-of, filled-of, array-items, collapsed-some, appends-behind}
 use Rattle.scene_json.proofs.compacting.+compact.Goals as goal
 
 -- ---- values
@@ -37,10 +39,7 @@ pub push_compact-push_literal-requires : goal.push_compact-push_literal-requires
 push_compact-push_literal-requires t c = (
   _,
   _,
-  At-Literal (stands-skip c.args.bytes.now c.args.at c.skip_space-start.result c.requires.2 c.skip_space-start.ensures)
-      (λ e. let same : get_or c.args.bytes.now c.skip_space-start.result 0 ≡ 34 = behind c.args.bytes.now c.skip_space-start.result e in omega arith)
-      (λ e. let same : get_or c.args.bytes.now c.skip_space-start.result 0 ≡ 91 = behind c.args.bytes.now c.skip_space-start.result e in omega arith)
-      (λ e. let same : get_or c.args.bytes.now c.skip_space-start.result 0 ≡ 123 = behind c.args.bytes.now c.skip_space-start.result e in omega arith),
+  At-Literal c.args.bytes.now c.skip_space-start.result (stands-skip c.args.bytes.now c.args.at c.skip_space-start.result c.requires.2 c.skip_space-start.ensures) (λ e. omega arith) (λ e. omega arith) (λ e. omega arith),
 )
 
 pub push_compact-returns-in-34-clause-ok : goal.push_compact-returns-in-34-clause-ok
@@ -60,10 +59,8 @@ push_compact-returns-in_default-clause-ok t c =
     let step : (end : ℕ) → ((text rest : List ℕ) → Literal (drop c.skip_space-start.result c.args.bytes.now) text rest →
     (c.push_literal.new.out.items ≡ c.args.out.now.items ++ text) × (drop end c.args.bytes.now ≡ rest)) →
     AppendsValue c.args.bytes.now c.args.at end c.args.out.now.items c.push_literal.new.out.items =
-    λ end all text rest stands. all text rest (At-Literal (stands-skip c.args.bytes.now c.args.at c.skip_space-start.result stands c.skip_space-start.ensures)
-    (λ e. let same : get_or c.args.bytes.now c.skip_space-start.result 0 ≡ 34 = behind c.args.bytes.now c.skip_space-start.result e in omega arith)
-    (λ e. let same : get_or c.args.bytes.now c.skip_space-start.result 0 ≡ 91 = behind c.args.bytes.now c.skip_space-start.result e in omega arith)
-    (λ e. let same : get_or c.args.bytes.now c.skip_space-start.result 0 ≡ 123 = behind c.args.bytes.now c.skip_space-start.result e in omega arith)) in
+    λ end all text rest stands. all text rest (At-Literal c.args.bytes.now c.skip_space-start.result (stands-skip c.args.bytes.now c.args.at c.skip_space-start.result stands c.skip_space-start.ensures)
+    (λ e. omega arith) (λ e. omega arith) (λ e. omega arith)) in
     IfOk-weaker _ _ _ step c.push_literal.ensures.ok
 
 -- ---- arrays
@@ -104,31 +101,24 @@ push_items-push_compact-requires t c =
 
 pub push_items-bounds-bytes-mark : goal.push_items-bounds-bytes-mark
 push_items-bounds-bytes-mark t c =
-    (items-turn c.args.bytes.now c.args.at c.loop-end.next c.in_ok-end.end c.skip_space-mark.result c.args.out.now.items c.loop-end.out.items c.push_compact.new.out.items _
-    c.loop-end.invariant c.in_ok-end.ensures.ok c.skip_space-mark.ensures refl _ _ c.requires.2).0
+    (items-turn _ _ _ _ _ _ _ _ _ c.loop-end.invariant c.in_ok-end.ensures.ok c.skip_space-mark.ensures refl _ _ c.requires.2).0
 
 pub push_items-bounds-bytes-mark-in-loop-end : goal.push_items-bounds-bytes-mark-in-loop-end
 push_items-bounds-bytes-mark-in-loop-end t c =
-    (items-turn c.args.bytes.now c.args.at c.loop-end.next c.in_ok-end.end c.skip_space-mark.result c.args.out.now.items c.loop-end.out.items c.push_compact.new.out.items _
-    c.loop-end.invariant c.in_ok-end.ensures.ok c.skip_space-mark.ensures refl _ _ c.requires.2).0
+    (items-turn _ _ _ _ _ _ _ _ _ c.loop-end.invariant c.in_ok-end.ensures.ok c.skip_space-mark.ensures refl _ _ c.requires.2).0
 
 pub push_items-overflow_add-next : goal.push_items-overflow_add-next
 push_items-overflow_add-next t c =
-    let inside = (items-turn c.args.bytes.now c.args.at c.loop-end.next c.in_ok-end.end c.skip_space-mark.result c.args.out.now.items c.loop-end.out.items c.push_compact.new.out.items _
-    c.loop-end.invariant c.in_ok-end.ensures.ok c.skip_space-mark.ensures refl _ _ c.requires.2).0 in
-    omega arith
+    omega (arith, c.in_ok-end.ensures.within.1, c.skip_space-mark.ensures, prefix_len-le-length is_space (drop c.in_ok-end.end c.args.bytes.now), length-drop c.in_ok-end.end c.args.bytes.now)
 
 pub push_items-returns-then-bytes-mark-eq93-clause-ok : goal.push_items-returns-then-bytes-mark-eq93-clause-ok
 push_items-returns-then-bytes-mark-eq93-clause-ok t c values rest f =
-    let turn = items-turn c.args.bytes.now c.args.at c.loop-end.next c.in_ok-end.end c.skip_space-mark.result c.args.out.now.items c.loop-end.out.items c.push_compact.new.out.items c.push.new.self.items
-    c.loop-end.invariant c.in_ok-end.ensures.ok c.skip_space-mark.ensures c.in_ok-push.ensures.items values rest f in
+    let turn = items-turn _ _ _ _ _ _ _ _ _ c.loop-end.invariant c.in_ok-end.ensures.ok c.skip_space-mark.ensures c.in_ok-push.ensures.items values rest f in
     ⊎_elim (λ h. (h.1, h.2)) (λ h. absurd (eqb-false 93 44 refl (sym c.if-bytes-mark-eq93.true ∙ h.0))) turn.1
 
 pub push_items-loop-end-preserved : goal.push_items-loop-end-preserved
 push_items-loop-end-preserved t c =
-    let turn = λ (vs : Values) (rest : List ℕ) (f : Filled array (drop c.args.at c.args.bytes.now) vs rest).
-    items-turn c.args.bytes.now c.args.at c.loop-end.next c.in_ok-end.end c.skip_space-mark.result c.args.out.now.items c.loop-end.out.items c.push_compact.new.out.items c.push.new.self.items
-    c.loop-end.invariant c.in_ok-end.ensures.ok c.skip_space-mark.ensures c.in_ok-push.ensures.items vs rest f in
+    let turn = items-turn _ _ _ _ _ _ _ _ _ c.loop-end.invariant c.in_ok-end.ensures.ok c.skip_space-mark.ensures c.in_ok-push.ensures.items in
     let inside : c.skip_space-mark.result < length c.args.bytes.now = (turn _ _ c.requires.2).0 in
     let forward : c.args.at ≤ c.skip_space-mark.result + 1 = omega (arith, c.loop-end.invariant.begun, c.in_ok-end.ensures.within.0) in
     record {
@@ -171,68 +161,40 @@ collapsed_members-content_of-requires t c =
 
 pub collapsed_members-overflow_add-skip_space : goal.collapsed_members-overflow_add-skip_space
 collapsed_members-overflow_add-skip_space t c =
-    let inside = (members-value c.args.bytes.now c.args.at c.loop-members.next c.skip_space.result c.in_ok-name.colon c.skip_space-in-loop-members.result c.in_ok-name.name
-    c.loop-members.invariant c.requires.2 c.skip_space.ensures c.in_ok-name.ensures.found c.skip_space-in-loop-members.ensures).0 in
-    omega arith
+    omega (arith, c.in_ok-name.ensures.within.1, c.skip_space-in-loop-members.ensures, prefix_len-le-length is_space (drop c.in_ok-name.colon c.args.bytes.now), length-drop c.in_ok-name.colon c.args.bytes.now)
 
 pub collapsed_members-push_compact-requires : goal.collapsed_members-push_compact-requires
 collapsed_members-push_compact-requires t c =
-    let value = members-value c.args.bytes.now c.args.at c.loop-members.next c.skip_space.result c.in_ok-name.colon c.skip_space-in-loop-members.result c.in_ok-name.name
-    c.loop-members.invariant c.requires.2 c.skip_space.ensures c.in_ok-name.ensures.found c.skip_space-in-loop-members.ensures in
+    let value = members-value _ _ _ _ _ _ _ c.loop-members.invariant c.requires.2 c.skip_space.ensures c.in_ok-name.ensures.found c.skip_space-in-loop-members.ensures in
     let smaller : 3 * (length c.args.bytes.now - (c.skip_space-in-loop-members.result + 1)) + 1 < t =
     omega (arith, c.loop-members.invariant.begun, c.in_ok-name.ensures.within.0, value.0) in
     (smaller, value.1)
 
 pub collapsed_members-from_compact-requires : goal.collapsed_members-from_compact-requires
 collapsed_members-from_compact-requires t c =
-    let value = members-value c.args.bytes.now c.args.at c.loop-members.next c.skip_space.result c.in_ok-name.colon c.skip_space-in-loop-members.result c.in_ok-name.name
-    c.loop-members.invariant c.requires.2 c.skip_space.ensures c.in_ok-name.ensures.found c.skip_space-in-loop-members.ensures in
+    let value = members-value _ _ _ _ _ _ _ c.loop-members.invariant c.requires.2 c.skip_space.ensures c.in_ok-name.ensures.found c.skip_space-in-loop-members.ensures in
     let wrote = c.in_ok-end.ensures.ok _ _ value.1.2 in
     subst (IsCompact 128) (sym (wrote.0 ∙ ap (λ s. s ++ value.1.0) c.new-value.ensures.items)) (Value-compact value.1.2.is)
 
 pub collapsed_members-bounds-bytes-mark : goal.collapsed_members-bounds-bytes-mark
 collapsed_members-bounds-bytes-mark t c =
-    let turn = λ (vs : Values) (rest : List ℕ) (f : Filled object (drop c.args.at c.args.bytes.now) vs rest).
-    members-turn c.args.bytes.now c.args.at c.loop-members.next c.skip_space.result c.in_ok-name.colon c.skip_space-in-loop-members.result c.in_ok-end.end c.skip_space-mark.result
-    c.in_ok-name.name c.push_compact.new.out.items c.loop-members.members.entries c.insert.new.self.entries c.loop-members.invariant c.skip_space.ensures c.in_ok-name.ensures.found
-    c.skip_space-in-loop-members.ensures
-    (subst (λ old. AppendsValue c.args.bytes.now (c.skip_space-in-loop-members.result + 1) c.in_ok-end.end old c.push_compact.new.out.items) c.new-value.ensures.items c.in_ok-end.ensures.ok)
-    c.skip_space-mark.ensures
-    (c.in_ok-insert.ensures.entries ∙ ap (λ v. insert_entry bytes_eq c.loop-members.members.entries c.in_ok-name.name v) c.from_compact.ensures) vs rest f in
-    (turn _ _ c.requires.2).0
+    (members-turn _ _ _ _ _ _ _ _ _ _ _ _ _ c.loop-members.invariant c.skip_space.ensures c.in_ok-name.ensures.found c.skip_space-in-loop-members.ensures c.new-value.ensures.items c.in_ok-end.ensures.ok
+    c.skip_space-mark.ensures refl _ _ c.requires.2).0
 
 pub collapsed_members-overflow_add-next : goal.collapsed_members-overflow_add-next
 collapsed_members-overflow_add-next t c =
-    let turn = λ (vs : Values) (rest : List ℕ) (f : Filled object (drop c.args.at c.args.bytes.now) vs rest).
-    members-turn c.args.bytes.now c.args.at c.loop-members.next c.skip_space.result c.in_ok-name.colon c.skip_space-in-loop-members.result c.in_ok-end.end c.skip_space-mark.result
-    c.in_ok-name.name c.push_compact.new.out.items c.loop-members.members.entries c.insert.new.self.entries c.loop-members.invariant c.skip_space.ensures c.in_ok-name.ensures.found
-    c.skip_space-in-loop-members.ensures
-    (subst (λ old. AppendsValue c.args.bytes.now (c.skip_space-in-loop-members.result + 1) c.in_ok-end.end old c.push_compact.new.out.items) c.new-value.ensures.items c.in_ok-end.ensures.ok)
-    c.skip_space-mark.ensures
-    (c.in_ok-insert.ensures.entries ∙ ap (λ v. insert_entry bytes_eq c.loop-members.members.entries c.in_ok-name.name v) c.from_compact.ensures) vs rest f in
-    let inside : c.skip_space-mark.result < length c.args.bytes.now = (turn _ _ c.requires.2).0 in
-    omega arith
+    omega (arith, c.in_ok-end.ensures.within.1, c.skip_space-mark.ensures, prefix_len-le-length is_space (drop c.in_ok-end.end c.args.bytes.now), length-drop c.in_ok-end.end c.args.bytes.now)
 
 pub collapsed_members-returns-then-bytes-mark-eq125-clause-ok : goal.collapsed_members-returns-then-bytes-mark-eq125-clause-ok
 collapsed_members-returns-then-bytes-mark-eq125-clause-ok t c values rest f =
-    let turn = λ (vs : Values) (rest : List ℕ) (f : Filled object (drop c.args.at c.args.bytes.now) vs rest).
-    members-turn c.args.bytes.now c.args.at c.loop-members.next c.skip_space.result c.in_ok-name.colon c.skip_space-in-loop-members.result c.in_ok-end.end c.skip_space-mark.result
-    c.in_ok-name.name c.push_compact.new.out.items c.loop-members.members.entries c.insert.new.self.entries c.loop-members.invariant c.skip_space.ensures c.in_ok-name.ensures.found
-    c.skip_space-in-loop-members.ensures
-    (subst (λ old. AppendsValue c.args.bytes.now (c.skip_space-in-loop-members.result + 1) c.in_ok-end.end old c.push_compact.new.out.items) c.new-value.ensures.items c.in_ok-end.ensures.ok)
-    c.skip_space-mark.ensures
-    (c.in_ok-insert.ensures.entries ∙ ap (λ v. insert_entry bytes_eq c.loop-members.members.entries c.in_ok-name.name v) c.from_compact.ensures) vs rest f in
-    ⊎_elim (λ h. (h.1, h.2)) (λ h. absurd (eqb-false 125 44 refl (sym c.if-bytes-mark-eq125.true ∙ h.0))) (turn values rest f).1
+    let turn = members-turn _ _ _ _ _ _ _ _ _ _ _ _ _ c.loop-members.invariant c.skip_space.ensures c.in_ok-name.ensures.found c.skip_space-in-loop-members.ensures c.new-value.ensures.items c.in_ok-end.ensures.ok
+    c.skip_space-mark.ensures (c.in_ok-insert.ensures.entries ∙ ap (λ v. insert_entry bytes_eq c.loop-members.members.entries c.in_ok-name.name v) c.from_compact.ensures) values rest f in
+    ⊎_elim (λ h. (h.1, h.2)) (λ h. absurd (eqb-false 125 44 refl (sym c.if-bytes-mark-eq125.true ∙ h.0))) turn.1
 
 pub collapsed_members-loop-members-preserved : goal.collapsed_members-loop-members-preserved
 collapsed_members-loop-members-preserved t c =
-    let turn = λ (vs : Values) (rest : List ℕ) (f : Filled object (drop c.args.at c.args.bytes.now) vs rest).
-    members-turn c.args.bytes.now c.args.at c.loop-members.next c.skip_space.result c.in_ok-name.colon c.skip_space-in-loop-members.result c.in_ok-end.end c.skip_space-mark.result
-    c.in_ok-name.name c.push_compact.new.out.items c.loop-members.members.entries c.insert.new.self.entries c.loop-members.invariant c.skip_space.ensures c.in_ok-name.ensures.found
-    c.skip_space-in-loop-members.ensures
-    (subst (λ old. AppendsValue c.args.bytes.now (c.skip_space-in-loop-members.result + 1) c.in_ok-end.end old c.push_compact.new.out.items) c.new-value.ensures.items c.in_ok-end.ensures.ok)
-    c.skip_space-mark.ensures
-    (c.in_ok-insert.ensures.entries ∙ ap (λ v. insert_entry bytes_eq c.loop-members.members.entries c.in_ok-name.name v) c.from_compact.ensures) vs rest f in
+    let turn = members-turn _ _ _ _ _ _ _ _ _ _ _ _ _ c.loop-members.invariant c.skip_space.ensures c.in_ok-name.ensures.found c.skip_space-in-loop-members.ensures c.new-value.ensures.items c.in_ok-end.ensures.ok
+    c.skip_space-mark.ensures (c.in_ok-insert.ensures.entries ∙ ap (λ v. insert_entry bytes_eq c.loop-members.members.entries c.in_ok-name.name v) c.from_compact.ensures) in
     let inside : c.skip_space-mark.result < length c.args.bytes.now = (turn _ _ c.requires.2).0 in
     let forward : c.args.at ≤ c.skip_space-mark.result + 1 = omega (arith, c.loop-members.invariant.begun, c.in_ok-name.ensures.within.0, c.in_ok-end.ensures.within.0) in
     record {

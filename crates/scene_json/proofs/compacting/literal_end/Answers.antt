@@ -1,15 +1,13 @@
-use Rattle.std.proofs.Common.{◌≡◌, ◌+◌, length, get_or, drop, refl, sym, ap, ◌∙◌, arith, ℕ, List}
+use Rattle.std.proofs.Common.{◌≡◌, ◌+◌, length, drop, refl, sym, ap, ◌∙◌, arith, ℕ, List}
 use Rattle.scene_json.specs.Walk.{Literal}
-use Rattle.scene_json.proofs.Turns.{front, behind, literal-word, literal-number, literal-fits}
+use Rattle.scene_json.proofs.Contents.{front}
+use Rattle.scene_json.proofs.Turns.{literal-word, literal-number, literal-fits}
 use Rattle.scene_json.proofs.compacting.literal_end.Goals as goal
 use Rattle.scene_json.proofs.compacting.literal_end.Goals.{After-number_end}
 
 number : (c : After-number_end) (text rest : List ℕ) → Literal (drop c.args.at c.args.bytes.now) text rest → c.number_end.result ≡ c.args.at + length text
 number c text rest l =
-    c.number_end.ensures ∙ ap (λ n. c.args.at + n) (sym (literal-number l
-    (λ e. let same : get_or c.args.bytes.now c.args.at 0 ≡ 110 = behind c.args.bytes.now c.args.at e in omega arith)
-    (λ e. let same : get_or c.args.bytes.now c.args.at 0 ≡ 116 = behind c.args.bytes.now c.args.at e in omega arith)
-    (λ e. let same : get_or c.args.bytes.now c.args.at 0 ≡ 102 = behind c.args.bytes.now c.args.at e in omega arith)))
+    c.number_end.ensures ∙ ap (λ n. c.args.at + n) (sym (literal-number c.args.bytes.now c.args.at l (λ e. omega arith) (λ e. omega arith) (λ e. omega arith)))
 
 pub returns-in-110-clause-value : goal.returns-in-110-clause-value
 returns-in-110-clause-value c text rest l =

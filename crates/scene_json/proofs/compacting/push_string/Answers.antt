@@ -1,7 +1,7 @@
 use Rattle.std.proofs.Common.{◌≡◌, ◌∙◌, ◌++◌, List, ℕ, get_or, drop, ap}
 use Rattle.scene_json.specs.Characters.{quote, is_space}
 use Rattle.scene_json.specs.Value.{Stands}
-use Rattle.scene_json.proofs.Turns.{front}
+use Rattle.scene_json.proofs.Contents.{front}
 use Rattle.scene_json.proofs.Walks.{StringAt, stands-At, At-String}
 use Rattle.scene_json.proofs.compacting.push_string.Goals as goal
 

@@ -34,7 +34,7 @@ returns-then-is_done-clause-found c =
 
 pub returns-then-is_done-clause-only : goal.returns-then-is_done-clause-only
 returns-then-is_done-clause-only c =
-    finished_only c.args.bytes.now c.args.at c.loop-i.i c.loop-i.auto.i c.loop-i.machine.mode c.loop-i.machine.brackets c.loop-i.invariant (omega arith)
+    finished_only c.args.bytes.now c.args.at c.loop-i.i c.loop-i.auto.i c.loop-i.machine.mode c.loop-i.machine.brackets c.loop-i.invariant (omega arith) (c.is_done.ensures.0 c.if-is_done.true)
 
 pub returns-else-is_done-clause-fault : goal.returns-else-is_done-clause-fault
 returns-else-is_done-clause-fault c =

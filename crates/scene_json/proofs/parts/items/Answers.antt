@@ -3,7 +3,7 @@ use Rattle.std.specs.List.{AllByRecursion}
 use Rattle.scene_json.specs.Compact.{array_text}
 use Rattle.scene_json.specs.Value.{IsCompact}
 use Rattle.scene_json.proofs.CompactLaws.{Value-Form}
-use Rattle.scene_json.proofs.Forms.{array-starts, form-listed}
+use Rattle.scene_json.proofs.Forms.{starts-same, array-starts, form-listed}
 use Rattle.scene_json.proofs.ItemsLeft.{closed-empty, filled-some}
 use Rattle.scene_json.proofs.parts.items.Goals as goal
 
@@ -15,9 +15,8 @@ returns-then-not-begins_with-clause-shape c =
 
 pub returns-then-begins_with-clause-spelled : goal.returns-then-begins_with-clause-spelled
 returns-then-begins_with-clause-spelled c =
-    let starts = c.if-not-begins_with.ensures.yes refl in
     let closed = c.if-begins_with.ensures.yes refl in
-    let form = form-listed 128 c.args.value.now (Value-Form c.as_bytes-bytes.ensures.compact) (starts.0, sym c.as_bytes-bytes.ensures.value ∙ starts.1) in
+    let form = form-listed 128 c.args.value.now (Value-Form c.as_bytes-bytes.ensures.compact) (starts-same 91 c.as_bytes-bytes.ensures.value (c.if-not-begins_with.ensures.yes refl)) in
     form.2 ∙ ap array_text (closed-empty form.0 _ closed.0 form.1 (c.as_bytes-bytes.ensures.value ∙ form.2) (sym c.split_at.ensures.back ∙ closed.1) ∙ sym c.new.ensures)
 
 pub returns-then-begins_with-clause-only : goal.returns-then-begins_with-clause-only
@@ -28,20 +27,17 @@ returns-then-begins_with-clause-only c =
 
 pub items_from-requires : goal.items_from-requires
 items_from-requires c =
-    let starts = c.if-not-begins_with.ensures.yes refl in
-    let form = form-listed 128 c.args.value.now (Value-Form c.as_bytes-bytes.ensures.compact) (starts.0, sym c.as_bytes-bytes.ensures.value ∙ starts.1) in
+    let form = form-listed 128 c.args.value.now (Value-Form c.as_bytes-bytes.ensures.compact) (starts-same 91 c.as_bytes-bytes.ensures.value (c.if-not-begins_with.ensures.yes refl)) in
     filled-some form.0 _ form.1 (c.as_bytes-bytes.ensures.value ∙ form.2) (λ more e. c.if-begins_with.ensures.no refl more (c.split_at.ensures.back ∙ e))
 
 pub returns-clause-spelled : goal.returns-clause-spelled
 returns-clause-spelled c =
-    let starts = c.if-not-begins_with.ensures.yes refl in
-    let form = form-listed 128 c.args.value.now (Value-Form c.as_bytes-bytes.ensures.compact) (starts.0, sym c.as_bytes-bytes.ensures.value ∙ starts.1) in
+    let form = form-listed 128 c.args.value.now (Value-Form c.as_bytes-bytes.ensures.compact) (starts-same 91 c.as_bytes-bytes.ensures.value (c.if-not-begins_with.ensures.yes refl)) in
     let found = c.in_ok-items_from.ensures form.0 form.1 (c.as_bytes-bytes.ensures.value ∙ form.2) in
     form.2 ∙ ap array_text (sym (c.from_vec.ensures ∙ found))
 
 pub returns-clause-are : goal.returns-clause-are
 returns-clause-are c =
-    let starts = c.if-not-begins_with.ensures.yes refl in
-    let form = form-listed 128 c.args.value.now (Value-Form c.as_bytes-bytes.ensures.compact) (starts.0, sym c.as_bytes-bytes.ensures.value ∙ starts.1) in
+    let form = form-listed 128 c.args.value.now (Value-Form c.as_bytes-bytes.ensures.compact) (starts-same 91 c.as_bytes-bytes.ensures.value (c.if-not-begins_with.ensures.yes refl)) in
     let found = c.in_ok-items_from.ensures form.0 form.1 (c.as_bytes-bytes.ensures.value ∙ form.2) in
     subst (AllByRecursion (IsCompact 127)) (sym (c.from_vec.ensures ∙ found)) form.1

@@ -1,4 +1,5 @@
 use Rattle.std.proofs.Common.{◌+◌, ℕ, List, [], ◌∷◌, ◌++◌, length, drop, ap, ◌∙◌, arith}
+use Rattle.scene_json.specs.Tree.{array}
 use Rattle.scene_json.proofs.Forms.{array-starts}
 use Rattle.scene_json.proofs.ItemsLeft.{IsLeft-all, IsLeft-Compacted, IsLeft-end, IsLeft-next, after-here}
 use Rattle.scene_json.proofs.parts.items_from.Goals as goal
@@ -14,23 +15,23 @@ pub returns-then-bytes-end-eq93 : goal.returns-then-bytes-end-eq93
 returns-then-bytes-end-eq93 c =
     λ all compact e.
     let l = c.loop-found.invariant.left all compact e in
-    let found = c.next_end-end.ensures.end l.item _ (IsLeft-Compacted _ _ _ l) in
-    let here = after-here c.args.bytes.now c.next_end-end.result l.more found.0 in
+    let found = c.next_end-end.ensures.end l.item _ (IsLeft-Compacted l) in
+    let here = after-here array c.args.bytes.now c.next_end-end.result _ found.0 in
     c.in_ok-push.ensures.items
     ∙ ap (λ (item : List ℕ). c.loop-found.found.items ++ item ∷ []) (c.in_ok-raw_between.ensures ∙ found.1)
-    ∙ IsLeft-end _ _ _ _ l (here.1 ∙ ap (λ (b : ℕ). b ∷ drop (c.next_end-end.result + 1) c.args.bytes.now) c.if-bytes-end-eq93.true)
+    ∙ IsLeft-end l (here.1 ∙ ap (λ (b : ℕ). b ∷ drop (c.next_end-end.result + 1) c.args.bytes.now) c.if-bytes-end-eq93.true)
 
 pub loop-found-preserved : goal.loop-found-preserved
 loop-found-preserved c =
     let first = c.loop-found.invariant.left (c.requires.0 ∷ c.requires.1) c.requires.2 c.requires.3 in
-    let ends = c.next_end-end.ensures.end first.item _ (IsLeft-Compacted _ _ _ first) in
-    let after = after-here c.args.bytes.now c.next_end-end.result first.more ends.0 in
+    let ends = c.next_end-end.ensures.end first.item _ (IsLeft-Compacted first) in
+    let after = after-here array c.args.bytes.now c.next_end-end.result _ ends.0 in
     record {
       within = omega (arith, after.0);
       left = λ all compact e.
           let l = c.loop-found.invariant.left all compact e in
-          let found = c.next_end-end.ensures.end l.item _ (IsLeft-Compacted _ _ _ l) in
-          let here = after-here c.args.bytes.now c.next_end-end.result l.more found.0 in
+          let found = c.next_end-end.ensures.end l.item _ (IsLeft-Compacted l) in
+          let here = after-here array c.args.bytes.now c.next_end-end.result _ found.0 in
           let pushed = c.in_ok-push.ensures.items ∙ ap (λ (item : List ℕ). c.loop-found.found.items ++ item ∷ []) (c.in_ok-raw_between.ensures ∙ found.1) in
-          rw pushed (IsLeft-next _ _ _ _ _ l here.1 c.if-bytes-end-eq93.false);
+          rw pushed (IsLeft-next l here.1 c.if-bytes-end-eq93.false);
     }

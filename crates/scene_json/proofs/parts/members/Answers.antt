@@ -3,7 +3,7 @@ use Rattle.scene_json.specs.Members.{pairs}
 use Rattle.scene_json.specs.Parts.{AreMembers}
 use Rattle.scene_json.specs.Compact.{object_text}
 use Rattle.scene_json.proofs.CompactLaws.{Value-Form}
-use Rattle.scene_json.proofs.Forms.{object-starts, form-membered}
+use Rattle.scene_json.proofs.Forms.{starts-same, object-starts, form-membered}
 use Rattle.scene_json.proofs.MembersLeft.{closed-empty, filled-some}
 use Rattle.scene_json.proofs.parts.members.Goals as goal
 
@@ -15,16 +15,14 @@ returns-then-not-begins_with-clause-shape c =
 
 pub returns-then-begins_with-clause-spelled : goal.returns-then-begins_with-clause-spelled
 returns-then-begins_with-clause-spelled c =
-    let starts = c.if-not-begins_with.ensures.yes refl in
     let closed = c.if-begins_with.ensures.yes refl in
-    let form = form-membered 128 c.args.value.now (Value-Form c.as_bytes-bytes.ensures.compact) (starts.0, sym c.as_bytes-bytes.ensures.value ∙ starts.1) in
+    let form = form-membered 128 c.args.value.now (Value-Form c.as_bytes-bytes.ensures.compact) (starts-same 123 c.as_bytes-bytes.ensures.value (c.if-not-begins_with.ensures.yes refl)) in
     form.2 ∙ ap object_text (closed-empty form.0 _ closed.0 (c.as_bytes-bytes.ensures.value ∙ form.2) (sym c.split_at.ensures.back ∙ closed.1) ∙ sym (ap pairs c.new.ensures))
 
 pub returns-then-begins_with-clause-are : goal.returns-then-begins_with-clause-are
 returns-then-begins_with-clause-are c =
-    let starts = c.if-not-begins_with.ensures.yes refl in
     let closed = c.if-begins_with.ensures.yes refl in
-    let form = form-membered 128 c.args.value.now (Value-Form c.as_bytes-bytes.ensures.compact) (starts.0, sym c.as_bytes-bytes.ensures.value ∙ starts.1) in
+    let form = form-membered 128 c.args.value.now (Value-Form c.as_bytes-bytes.ensures.compact) (starts-same 123 c.as_bytes-bytes.ensures.value (c.if-not-begins_with.ensures.yes refl)) in
     subst (AreMembers 127) (closed-empty form.0 _ closed.0 (c.as_bytes-bytes.ensures.value ∙ form.2) (sym c.split_at.ensures.back ∙ closed.1) ∙ sym (ap pairs c.new.ensures)) form.1
 
 pub returns-then-begins_with-clause-only : goal.returns-then-begins_with-clause-only
@@ -35,20 +33,17 @@ returns-then-begins_with-clause-only c =
 
 pub members_from-requires : goal.members_from-requires
 members_from-requires c =
-    let starts = c.if-not-begins_with.ensures.yes refl in
-    let form = form-membered 128 c.args.value.now (Value-Form c.as_bytes-bytes.ensures.compact) (starts.0, sym c.as_bytes-bytes.ensures.value ∙ starts.1) in
+    let form = form-membered 128 c.args.value.now (Value-Form c.as_bytes-bytes.ensures.compact) (starts-same 123 c.as_bytes-bytes.ensures.value (c.if-not-begins_with.ensures.yes refl)) in
     filled-some form.0 _ form.1 (c.as_bytes-bytes.ensures.value ∙ form.2) (λ more e. c.if-begins_with.ensures.no refl more (c.split_at.ensures.back ∙ e))
 
 pub returns-clause-spelled : goal.returns-clause-spelled
 returns-clause-spelled c =
-    let starts = c.if-not-begins_with.ensures.yes refl in
-    let form = form-membered 128 c.args.value.now (Value-Form c.as_bytes-bytes.ensures.compact) (starts.0, sym c.as_bytes-bytes.ensures.value ∙ starts.1) in
+    let form = form-membered 128 c.args.value.now (Value-Form c.as_bytes-bytes.ensures.compact) (starts-same 123 c.as_bytes-bytes.ensures.value (c.if-not-begins_with.ensures.yes refl)) in
     let found = c.in_ok-members_from.ensures form.0 form.1 (c.as_bytes-bytes.ensures.value ∙ form.2) in
     form.2 ∙ ap object_text (sym (ap pairs c.from_vec.ensures ∙ found))
 
 pub returns-clause-are : goal.returns-clause-are
 returns-clause-are c =
-    let starts = c.if-not-begins_with.ensures.yes refl in
-    let form = form-membered 128 c.args.value.now (Value-Form c.as_bytes-bytes.ensures.compact) (starts.0, sym c.as_bytes-bytes.ensures.value ∙ starts.1) in
+    let form = form-membered 128 c.args.value.now (Value-Form c.as_bytes-bytes.ensures.compact) (starts-same 123 c.as_bytes-bytes.ensures.value (c.if-not-begins_with.ensures.yes refl)) in
     let found = c.in_ok-members_from.ensures form.0 form.1 (c.as_bytes-bytes.ensures.value ∙ form.2) in
     subst (AreMembers 127) (sym (ap pairs c.from_vec.ensures ∙ found)) form.1

@@ -2,13 +2,13 @@ use Rattle.std.proofs.Common.{◌≡◌, ◌≤◌, ◌-◌, List, length, drop}
 use Rattle.scene_json.specs.Members.{pairs}
 use Rattle.scene_json.specs.Parts.{AreMembers}
 use Rattle.scene_json.specs.Compact.{Member, object_text}
-use Rattle.scene_json.proofs.MembersLeft.{IsLeft}
+use Rattle.scene_json.proofs.MembersLeft.{AreMembersLeft}
 use Rattle.scene_json.proofs.parts.members_from.Given as goal
 
 abbrev pub invariant-loop-found : goal.invariant-loop-found
 invariant-loop-found l = record {
   within : l.at ≤ length l.bytes;
-  left : (all : List Member) → AreMembers 127 all → l.bytes ≡ object_text all → IsLeft all (pairs l.found.items) (drop l.at l.bytes);
+  left : (all : List Member) → AreMembers 127 all → l.bytes ≡ object_text all → AreMembersLeft all (pairs l.found.items) (drop l.at l.bytes);
 }
 
 abbrev pub decreases-loop-found : goal.decreases-loop-found

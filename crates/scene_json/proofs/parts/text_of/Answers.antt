@@ -1,7 +1,7 @@
-use Rattle.std.proofs.Common.{[], refl, sym, ap, ◌∙◌}
+use Rattle.std.proofs.Common.{[], append-nil, refl, sym, ap, ◌∙◌}
 use Rattle.scene_json.specs.Characters.{quote}
 use Rattle.scene_json.proofs.CompactLaws.{Value-Form}
-use Rattle.scene_json.proofs.Forms.{quote-starts, form-quoted, quote-Quoted}
+use Rattle.scene_json.proofs.Forms.{starts-same, quote-starts, form-quoted, quote-Quoted}
 use Rattle.scene_json.proofs.parts.text_of.Goals as goal
 
 pub returns-then-not-begins_with-clause-shape : goal.returns-then-not-begins_with-clause-shape
@@ -12,17 +12,15 @@ returns-then-not-begins_with-clause-shape c =
 
 pub content_of-requires : goal.content_of-requires
 content_of-requires c =
-    let starts = c.if-not-begins_with.ensures.yes refl in
-    let form = form-quoted 128 c.args.value.now (Value-Form c.as_bytes-bytes.ensures.compact) (starts.0, sym c.as_bytes-bytes.ensures.value ∙ starts.1) in
-    (form.0, [], quote-Quoted c.as_bytes-bytes.result.now form.0 form.1 (c.as_bytes-bytes.ensures.value ∙ form.2))
+    let form = form-quoted 128 c.args.value.now (Value-Form c.as_bytes-bytes.ensures.compact) (starts-same 34 c.as_bytes-bytes.ensures.value (c.if-not-begins_with.ensures.yes refl)) in
+    (form.0, [], quote-Quoted c.as_bytes-bytes.result.now form.0 [] form.1 (c.as_bytes-bytes.ensures.value ∙ form.2 ∙ sym (append-nil (quote form.0))))
 
 pub returns-clause-spelled : goal.returns-clause-spelled
 returns-clause-spelled c =
-    let starts = c.if-not-begins_with.ensures.yes refl in
-    let form = form-quoted 128 c.args.value.now (Value-Form c.as_bytes-bytes.ensures.compact) (starts.0, sym c.as_bytes-bytes.ensures.value ∙ starts.1) in
-    let same = c.in_ok-text.ensures.found form.0 [] (quote-Quoted c.as_bytes-bytes.result.now form.0 form.1 (c.as_bytes-bytes.ensures.value ∙ form.2)) in
+    let form = form-quoted 128 c.args.value.now (Value-Form c.as_bytes-bytes.ensures.compact) (starts-same 34 c.as_bytes-bytes.ensures.value (c.if-not-begins_with.ensures.yes refl)) in
+    let same = c.in_ok-text.ensures.found form.0 [] (quote-Quoted c.as_bytes-bytes.result.now form.0 [] form.1 (c.as_bytes-bytes.ensures.value ∙ form.2 ∙ sym (append-nil (quote form.0)))) in
     form.2 ∙ ap quote (sym same.0)
 
 pub returns-clause-only : goal.returns-clause-only
 returns-clause-only c =
-    λ other utf8 e. (c.in_ok-text.ensures.found other [] (quote-Quoted c.as_bytes-bytes.result.now other utf8 (c.as_bytes-bytes.ensures.value ∙ e))).0
+    λ other utf8 e. (c.in_ok-text.ensures.found other [] (quote-Quoted c.as_bytes-bytes.result.now other [] utf8 (c.as_bytes-bytes.ensures.value ∙ e ∙ sym (append-nil (quote other))))).0

@@ -1,0 +1,18 @@
+//! Laws on texts, for all bytes. They do nothing when they run.
+
+ghost use Rattle.std.specs.Prelude.{◌≡◌, ℕ, List};
+ghost use Rattle.scene_json.specs.Value.{Stands};
+ghost use Rattle.scene_json.specs.Faults.{IsFaultOf};
+ghost use Rattle.scene_json.specs.declared.fault.JsonFault.{JsonFault};
+
+/// At most one value stands at the front of a text: its compact text and what follows it are determined.
+pub fn value_is_unique()
+    ensures { (bytes text rest other more : List ℕ)
+        → Stands bytes text rest → Stands bytes other more → (text ≡ other) × (rest ≡ more) }
+{}
+
+/// A text has at most one first fault at an offset: its kind and its place are determined.
+pub fn first_fault_is_unique()
+    ensures { (bytes : List ℕ) (at : ℕ) (fault other : JsonFault)
+        → IsFaultOf bytes at fault → IsFaultOf bytes at other → fault ≡ other }
+{}
