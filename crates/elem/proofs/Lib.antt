@@ -1,5 +1,5 @@
 mod Distinct
-mod KeyTexts
+pub mod KeyTexts
 pub mod OrderLaws
 mod Rows
 pub mod Sorting

@@ -4,6 +4,7 @@
 mod compare;
 mod element;
 mod kind;
+pub mod laws;
 mod order;
 mod parts;
 mod raw;

@@ -2,11 +2,11 @@
 use Rattle.std.proofs.Common.{◌≡◌, ℕ, Bool, true, false, cond, ◌&&◌, List, [], ◌∷◌, ◌++◌, Option, Some, None, is_some, Contains, refl, sym, ap, ap₂, ◌∙◌, subst, inl, inr}
 use Rattle.std.specs.List.{list_any}
 use Rattle.std.specs.Option.{option_map_or}
-use Rattle.std.proofs.lemmas.Bool.{cases_Bool, cond-true, cond-false, false_from_ne_true}
+use Rattle.std.proofs.lemmas.Bool.{cases_Bool, cond-true, cond-false, false_from_ne_true, false≢true}
 use Rattle.frac_keys.specs.Rising.{are_rising}
 use Rattle.elem.specs.Drawn.{Drawn}
 use Rattle.elem.specs.Order.{beats}
-use Rattle.elem_store.specs.Updates.{is_of, best_updates, stored_of, element_of, is_taken, ids_of, AreStored, HasTaken, IsFreeOfClashes, HaveSameUpdates}
+use Rattle.elem_store.specs.Updates.{is_of, best_updates, stored_of, element_of, is_taken, ids_of, AreStored, HasTaken, IsFreeOfClashes, HaveSameUpdates, AreBest}
 use Rattle.elem_store.proofs.Ids.{same_id, of_itself}
 use Rattle.elem_store.proofs.Lists.{find-Some, find-None}
 use Rattle.elem_store.proofs.Leader.{next_leader, joined_leader, stored-push, stored-append}
@@ -57,6 +57,30 @@ AreStored-ids updates elements id h = ap is_some (h.each id) ∙ is_some-stored 
 pub bests-same : (updates : List Drawn) (id : List ℕ) (e other : Drawn) → IsFreeOfClashes updates → Contains (best_updates updates id) e → Contains (best_updates updates id) other → e ≡ other
 bests-same updates id e other free c d =
     best-same updates id e other free (IsBestOf-best updates id e c) (IsBestOf-best updates id other d)
+
+-- what is stored is one of the best updates of each id
+pub AreBest-stored : (updates elements : List Drawn) → AreStored updates elements → AreBest updates elements
+AreBest-stored updates elements h = record {
+  ordered = h.ordered;
+  each_id = λ id. AreStored-ids updates elements id h;
+  best = λ e c. AreStored-best updates elements e h c;
+}
+
+-- and without a clash one of the best updates of each id is what is stored
+pub AreStored-from_best : (updates chosen : List Drawn) → IsFreeOfClashes updates → AreBest updates chosen → AreStored updates chosen
+AreStored-from_best updates chosen free h = record { ordered = h.ordered; each = λ id. same id (element_of chosen id) (stored_of updates id) refl refl }
+  where
+    agree : (id : List ℕ) → is_some (element_of chosen id) ≡ is_some (stored_of updates id)
+    agree id = h.each_id id ∙ sym (is_some-stored updates id)
+
+    same : (id : List ℕ) (o o' : Option Drawn) → element_of chosen id ≡ o → stored_of updates id ≡ o' → o ≡ o'
+    same id None None k l = refl
+    same id None (Some f) k l = absurd (false≢true (sym (ap is_some k) ∙ agree id ∙ ap is_some l))
+    same id (Some e) None k l = absurd (false≢true (sym (ap is_some l) ∙ sym (agree id) ∙ ap is_some k))
+    same id (Some e) (Some f) k l =
+        let found = find-Some (is_of id) chosen e k in
+        let among = subst (λ i. Contains (best_updates updates i) e) (sym (same_id id e found.1)) (h.best e found.0) in
+        ap Some (bests-same updates id e f free among (stored-best updates id f l))
 
 -- a best update is one in each list of the same updates
 same-best : (updates others : List Drawn) (id : List ℕ) (e : Drawn) → HaveSameUpdates updates others → IsBestOf others id e → IsBestOf updates id e

@@ -1,6 +1,6 @@
 -- What is stored of a list of updates. Source: Excalidraw's reconcile; that among equal bests the first counts is this
 -- project's own.
-use Rattle.std.specs.Prelude.{◌≡◌, ℕ, List, Bool, true, not, ◌&&◌, ◌==◌, Option, Some, Contains, find, filter, map, bytes_eq, if◌then◌else◌}
+use Rattle.std.specs.Prelude.{◌≡◌, ℕ, List, Bool, true, not, ◌&&◌, ◌==◌, Option, Some, is_some, Contains, find, filter, map, bytes_eq, if◌then◌else◌}
 use Rattle.std.specs.List.{list_any}
 use Rattle.std.specs.Option.{option_map_or}
 use Rattle.frac_keys.specs.Rising.{are_rising}
@@ -63,3 +63,9 @@ IsFreeOfClashes updates =
 pub record HaveSameUpdates (updates others : List Drawn) : Type 0 where
   pub to : (e : Drawn) → Contains updates e → Contains others e
   pub back : (e : Drawn) → Contains others e → Contains updates e
+
+-- These elements are one of the best updates of each id, in the order of the ids.
+pub record AreBest (updates chosen : List Drawn) : Type 0 where
+  pub ordered : are_rising (ids_of chosen) ≡ true
+  pub each_id : (id : List ℕ) → is_some (element_of chosen id) ≡ list_any (is_of id) updates
+  pub best : (e : Drawn) → Contains chosen e → Contains (best_updates updates e.id) e

@@ -4,7 +4,7 @@ ghost use Rattle.std.specs.Prelude.{◌≡◌, ℕ, List, [], ◌∷◌, ◌++�
 ghost use Rattle.std.specs.List.{list_any};
 ghost use Rattle.frac_keys.specs.Rising.{are_rising};
 ghost use Rattle.elem.specs.Drawn.{Drawn};
-ghost use Rattle.elem_store.specs.Updates.{is_of, best_updates, element_of, ids_of, AreStored, HasTaken, IsFreeOfClashes, HaveSameUpdates};
+ghost use Rattle.elem_store.specs.Updates.{is_of, best_updates, element_of, ids_of, AreStored, HasTaken, IsFreeOfClashes, HaveSameUpdates, AreBest};
 
 /// The store of no updates has no element.
 pub fn empty_is_stored()
@@ -36,6 +36,17 @@ pub fn best_is_unique()
     ensures { (updates : List Drawn) (id : List ℕ) (e other : Drawn)
         → IsFreeOfClashes updates → Contains (best_updates updates id) e
         → Contains (best_updates updates id) other → e ≡ other }
+{}
+
+/// What is stored is one of the best updates of each id.
+pub fn stored_are_best()
+    ensures { (updates elements : List Drawn) → AreStored updates elements → AreBest updates elements }
+{}
+
+/// Where no updates clash, one of the best updates of each id is what is stored: there is no choice.
+pub fn best_are_stored()
+    ensures { (updates chosen : List Drawn)
+        → IsFreeOfClashes updates → AreBest updates chosen → AreStored updates chosen }
 {}
 
 /// The order and the repeats of updates don't count where none clash.
