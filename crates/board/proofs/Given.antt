@@ -1,6 +1,6 @@
-use Rattle.std.proofs.Common.{◌≡◌, ℕ, ◌≤◌, List, [], refl, ◌++◌, length, Option, Some, None, IsSome, arith, ap, sym, ◌∙◌, length-append}
+use Rattle.std.proofs.Common.{◌≡◌, ℕ, List, [], refl, ◌++◌, length, Option, Some, None, IsSome, arith, ap, length-append}
 use Rattle.board_io.specs.Ends.{Gave}
-use Rattle.board.specs.Merging.{GaveWithin, GaveTooMuch, ReadWhole}
+use Rattle.board.specs.Merging.{GaveWithin, GaveTooMuch}
 
 -- Where the content is told, what was given has one length.
 Gave-length : (before after : Option (List ℕ)) (x y : List ℕ) → IsSome before → Gave before after x → Gave before after y → length x ≡ length y

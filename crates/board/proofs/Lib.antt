@@ -1,1 +1,14 @@
+pub mod Answering
+pub mod Blanks
+pub mod Converging
+pub mod Found
 pub mod Given
+pub mod IndexKeys
+pub mod Lookups
+pub mod Others
+pub mod PlainElements
+pub mod PlainKinds
+pub mod PlainScenes
+pub mod Progress
+pub mod Refusals
+pub mod Scenes

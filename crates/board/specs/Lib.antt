@@ -1,3 +1,10 @@
+pub mod Causes
 pub mod Faults
+pub mod Input
+pub mod Layouts
+pub mod Loaded
+pub mod Members
 pub mod Merging
+pub mod Parts
+pub mod Plain
 pub mod Words

@@ -2,7 +2,12 @@
 #![tactic(auto)]
 
 mod board;
-mod plain;
+mod element;
+mod fields;
+pub mod laws;
+mod load;
+mod output;
+mod scene;
 mod status;
 #[cfg(test)]
 mod tests;
@@ -26,7 +31,7 @@ fn main(rt: HostRuntime) -> ExitCode {
             &mut notes,
             &mut ScriptLinks::new(alloc, List::new(alloc), List::new(alloc), List::new(alloc)),
         ),
-        Err(AllocError) => Fault::Memory.noted(&mut notes),
+        Err(AllocError) => Fault::Memory.noted(alloc, &mut notes),
     };
     ExitCode::from(status as u8)
 }

@@ -9,19 +9,33 @@ use std::env;
 use std::io::ErrorKind;
 use std::rt::Env;
 
+/// How a text is laid out.
+#[derive(Clone, Copy, Debug, PartialEq, Eq)]
+pub enum Layout {
+    /// Without white space.
+    Compact,
+    /// Each member and item on a line of its own, two spaces deeper than what holds it.
+    Pretty,
+}
+
 /// What the words ask for.
 #[derive(Clone, Copy, Debug, PartialEq, Eq)]
 pub enum Command {
-    /// To merge scenes.
-    Merge,
+    /// To merge scenes, in this layout.
+    Merge(Layout),
 }
 
-/// The command that these words ask for: `merge` alone.
+/// The command that these words ask for: `merge`, and `--pretty` behind it or nothing.
 pub fn asked(words: &[Bytes]) -> Option<Command>
     ensures { result ≡ asked words.now }
 {
     match words {
-        [word] if word.as_slice() == b"merge".as_slice() => Some(Command::Merge),
+        [word] if word.as_slice() == b"merge".as_slice() => Some(Command::Merge(Layout::Compact)),
+        [word, option]
+            if word.as_slice() == b"merge".as_slice()
+                && option.as_slice() == b"--pretty".as_slice() => {
+            Some(Command::Merge(Layout::Pretty))
+        }
         _ => None,
     }
 }
