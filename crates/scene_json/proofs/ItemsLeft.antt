@@ -1,15 +1,14 @@
 -- What is left of an array or an object while it is taken apart.
-use Rattle.std.proofs.Common.{◌≡◌, ◌-◌, ◌+◌, ◌≤◌, ◌<◌, ℕ, List, [], ◌∷◌, ◌++◌, length, take, drop, map, refl, sym, ap, subst, ◌∙◌, arith, append_assoc, length-append, length-drop, ◌≢◌, get_or, drop-cons, add-one, lit<}
-use Rattle.std.proofs.Math.Seq.{take-append_seam}
+use Rattle.std.proofs.Common.{◌≡◌, ◌-◌, ◌+◌, ◌≤◌, ◌<◌, ℕ, List, [], ◌∷◌, ◌++◌, length, take, drop, map, refl, sym, ap, subst, ◌∙◌, arith, append_assoc, length-append, length-drop, drop-drop, ◌≢◌, get_or, drop-cons, add-one, lit<}
+use Rattle.std.proofs.Math.Seq.{take-append_seam, drop-append_seam}
 use Rattle.std.proofs.lemmas.List.{map-id}
 use Rattle.scene_json.proofs.Strings.{heads-differ}
-use Rattle.scene_json.proofs.CompactLaws.{Value-deeper}
-use Rattle.scene_json.proofs.Reading.{begins_value, Head, tree-Head, head-apart, first-same, tail-same, closing-ends, closing-no-comma}
+use Rattle.scene_json.proofs.Reading.{begins_value, Head, tree-Head, head-apart, first-same, tail-same, closing-no-comma}
 use Rattle.std.specs.List.{AllByRecursion, join_with_byte}
-use Rattle.scene_json.specs.Tree.{Container, array, closing}
+use Rattle.scene_json.specs.Tree.{Container, array, object, closing}
 use Rattle.scene_json.specs.Compact.{array_text}
-use Rattle.scene_json.specs.Value.{IsCompact, Stands, Follows}
-use Rattle.scene_json.specs.Walk.{Compacted}
+use Rattle.scene_json.specs.Value.{IsCompact}
+use Rattle.scene_json.specs.Walk.{Compacted, IsEnd}
 
 -- All elements are those that were found and some more, whose texts stand here with the closing bracket.
 pub record IsLeft (c : Container) (X : Type 0) (text : X → List ℕ) (P : X → Type 0) (all found : List X) (bytes : List ℕ) : Type 0 where
@@ -22,16 +21,15 @@ pub record IsLeft (c : Container) (X : Type 0) (text : X → List ℕ) (P : X �
 abbrev pub AreItemsLeft : List (List ℕ) → List (List ℕ) → List ℕ → Type 0
 AreItemsLeft all found bytes = IsLeft array (List ℕ) (λ t. t) (IsCompact 127) all found bytes
 
--- A compact text that stands here is a value that stands here.
-pub Compacted-Stands : (bytes text rest : List ℕ) → Compacted bytes text rest → Stands bytes text rest
-Compacted-Stands bytes text rest h =
-    record { blank = []; value = text; parts = h.parts; space = refl; is = Value-deeper (omega arith) h.compact; ends = h.ends }
-
 -- What stands between two offsets is what stands before the rest.
-pub between-is : (bytes text : List ℕ) (at end : ℕ) → at ≤ end → end ≤ length bytes → drop at bytes ≡ text ++ drop end bytes → take (end - at) (drop at bytes) ≡ text
-between-is bytes text at end low high parts =
-    let count : end - at ≡ length text = omega (arith, simp length-append at (ap length parts), length-drop at bytes, length-drop end bytes) in
-    rw (parts, count, take-append_seam text (drop end bytes)) refl
+pub between-is : (bytes text rest : List ℕ) (at end : ℕ) → at ≤ length bytes → end ≡ length bytes - length rest → drop at bytes ≡ text ++ rest → (drop end bytes ≡ rest) × (take (end - at) (drop at bytes) ≡ text)
+between-is bytes text rest at end within is parts =
+    let size : length bytes - at ≡ length text + length rest = sym (length-drop at bytes) ∙ ap length parts ∙ length-append text rest in
+    let here : end ≡ at + length text = omega arith in
+    let count : end - at ≡ length text = omega arith in (
+      rw here (sym (drop-drop (length text) at bytes) ∙ ap (drop (length text)) parts ∙ drop-append_seam text rest),
+      rw (parts, count, take-append_seam text rest) refl,
+    )
 
 -- what follows the first of these texts in a container: the closing bracket, or a comma and the others
 abbrev pub after_item : Container → List (List ℕ) → List ℕ
@@ -42,14 +40,15 @@ pub items-split : (c : Container) (item : List ℕ) (more : List (List ℕ)) →
 items-split c item [] = refl
 items-split c item (next ∷ more) = append_assoc item (44 ∷ join_with_byte 44 (next ∷ more)) (closing c ∷ [])
 
-pub item-follows : (c : Container) (item : List ℕ) (more : List (List ℕ)) → Follows item (after_item c more)
-item-follows c item [] = λ _. closing-ends c
-item-follows c item (next ∷ more) = λ _. refl
+pub item-ends : (c : Container) (more : List (List ℕ)) → IsEnd (after_item c more)
+item-ends array [] = refl
+item-ends object [] = refl
+item-ends c (next ∷ more) = refl
 
 -- The element that is left first stands here.
 pub IsLeft-Compacted : {all found : List (List ℕ)} {bytes : List ℕ} → (l : AreItemsLeft all found bytes) → Compacted bytes l.item (after_item array (map (λ t. t) l.more))
 IsLeft-Compacted l =
-    record { compact = l.holds.0; parts = l.here ∙ items-split array l.item (map (λ t. t) l.more); ends = item-follows array l.item (map (λ t. t) l.more) }
+    record { compact = l.holds.0; parts = l.here ∙ items-split array l.item (map (λ t. t) l.more); ends = item-ends array (map (λ t. t) l.more) }
 
 module _ {c : Container} {X : Type 0} {text : X → List ℕ} {P : X → Type 0} {all found : List X} {bytes : List ℕ} (l : IsLeft c X text P all found bytes) where
   -- At the closing bracket it was the last.

@@ -22,12 +22,14 @@ pub mod Numbers
 mod OffsetRuns
 mod Onward
 pub mod Pairs
+mod Passing
 mod Places
 pub mod Quoting
 pub mod Reading
 mod Rests
 mod Rows
 mod Sequences
+pub mod Skipped
 pub mod Spread
 mod StringPlaces
 pub mod Strings

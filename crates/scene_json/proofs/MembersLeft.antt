@@ -11,7 +11,7 @@ use Rattle.scene_json.specs.Members.{pairs}
 use Rattle.scene_json.specs.declared.text.Member.{Member as Taken}
 use Rattle.scene_json.proofs.Forms.{quote-Quoted}
 use Rattle.scene_json.proofs.Strings.{heads-differ}
-use Rattle.scene_json.proofs.ItemsLeft.{IsLeft, after_item, items-split, item-follows}
+use Rattle.scene_json.proofs.ItemsLeft.{IsLeft, after_item, items-split, item-ends}
 
 -- what holds of each member
 abbrev pub IsMember : Member → Type 0
@@ -36,7 +36,7 @@ pub IsLeft-Quoted : {all found : List Member} {bytes : List ℕ} → (l : AreMem
 IsLeft-Quoted {all} {found} {bytes} l = quote-Quoted bytes l.item.0 (58 ∷ (l.item.1 ++ after_member l.more)) l.holds.0.0 (l.here ∙ members-split l.item l.more)
 
 pub IsLeft-Compacted : {all found : List Member} {bytes here : List ℕ} → (l : AreMembersLeft all found here) → bytes ≡ l.item.1 ++ after_member l.more → Compacted bytes l.item.1 (after_member l.more)
-IsLeft-Compacted l e = record { compact = l.holds.0.1; parts = e; ends = item-follows object l.item.1 (map member_text l.more) }
+IsLeft-Compacted l e = record { compact = l.holds.0.1; parts = e; ends = item-ends object (map member_text l.more) }
 
 -- Where the bracket is closed at once there is no member, and elsewhere there is one.
 pub closed-empty : (all : List Member) (bytes more : List ℕ) → bytes ≡ object_text all → drop 1 bytes ≡ 125 ∷ more → all ≡ []

@@ -18,6 +18,10 @@ is_opening b = b == 91 || b == 123
 abbrev pub is_closing : ℕ → Bool
 is_closing b = b == 93 || b == 125
 
+-- a byte that may stand behind a value in a container
+abbrev pub ends_value : ℕ → Bool
+ends_value b = b == comma || is_closing b
+
 -- How many spaces a line has from this byte on, in the layout: two more from the first one in a container on, two fewer
 -- from the bracket on that closes it, unless it is empty. This project's own.
 abbrev pub spaces_from : Bool → ℕ → ℕ → ℕ

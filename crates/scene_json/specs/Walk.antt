@@ -1,9 +1,10 @@
 -- What stands at the front of a text that is walked over: a string, what is left of a string, a literal, values.
-use Rattle.std.specs.Prelude.{◌≡◌, ◌⊎◌, ◌≤◌, ℕ, List, [], ◌∷◌, ◌++◌, drop, flat_map, map}
+use Rattle.std.specs.Prelude.{◌≡◌, ◌⊎◌, ◌≤◌, ℕ, List, [], ◌∷◌, ◌++◌, true, drop, flat_map, map}
 use Rattle.std.specs.List.{AllByRecursion, join_with_byte}
 use Rattle.scene_json.specs.Tree.{Piece, unit, IsPiece, piece_spelling, string_spelling, IsNumber, IsWord, Container, closing, Values, values_spelling, values_depth, AreGood}
 use Rattle.scene_json.specs.Compact.{content, piece_value, Member, members}
 use Rattle.scene_json.specs.Value.{IsCompact, Follows, Stands}
+use Rattle.scene_json.specs.Passes.{ends_value}
 
 -- A string for this text stands at the front; the rest follows it. RFC 8259, section 7.
 pub record Quoted (bytes text rest : List ℕ) : Type 0 where
@@ -54,8 +55,13 @@ pub record Filled (container : Container) (bytes : List ℕ) (values : Values) (
 abbrev pub items_text : Values → List ℕ
 items_text values = join_with_byte 44 (map (λ (member : Member). member.1) (members values)) ++ 93 ∷ []
 
--- A value that is its own compact text, and nests at most 127, stands at the front; the rest follows it.
+-- A comma or a closing bracket stands at the front.
+abbrev pub IsEnd : List ℕ → Type 0
+IsEnd [] = ⊥
+IsEnd (b ∷ bytes) = ends_value b ≡ true
+
+-- A value in a container that is its own compact text, and nests at most 127, stands at the front; the rest follows it.
 pub record Compacted (bytes text rest : List ℕ) : Type 0 where
   pub compact : IsCompact 127 text
   pub parts : bytes ≡ text ++ rest
-  pub ends : Follows text rest
+  pub ends : IsEnd rest

@@ -7,12 +7,13 @@ ghost use Rattle.scene_json.specs.Characters.{quote};
 ghost use Rattle.scene_json.specs.Compact.{Member as Pair, array_text, object_text};
 ghost use Rattle.scene_json.specs.Members.{pairs};
 ghost use Rattle.scene_json.specs.Parts.{AreMembers};
+ghost use Rattle.scene_json.specs.Passes.{ends_value};
 ghost use Rattle.scene_json.specs.Value.{IsCompact};
 ghost use Rattle.scene_json.specs.Walk.{Compacted};
 
 use crate::content::content_of;
-use crate::end::value_end;
 use crate::fault::Shape;
+use crate::nesting::after_string;
 use crate::text::{Member, Raw, Text};
 use board_io::{List, Stop};
 use std::alloc::{AllocError, Global};
@@ -116,15 +117,41 @@ fn members_from(alloc: Global, bytes: &[u8]) -> Result<Vec<Member>, AllocError>
 
 /// The offset after the compact text that stands at an offset.
 fn next_end(bytes: &[u8], at: usize) -> usize
-    requires within { at ≤ length bytes.now }
-    requires stands { (text rest : Items ℕ) × Compacted (drop at bytes.now) text rest }
+    requires { at ≤ length bytes.now }
     ensures within { (at ≤ result) × (result ≤ length bytes.now) }
     ensures end { (text rest : Items ℕ) → Compacted (drop at bytes.now) text rest → (drop result bytes.now ≡ rest) × (take (result - at) (drop at bytes.now) ≡ text) }
 {
-    match value_end(bytes, at) {
-        Ok(end) => end,
-        Err(_) => unreachable!(),
+    bytes.len() - after_value(&bytes[at..]).len()
+}
+
+/// What stands behind the compact text at the front: the first comma or closing bracket outside strings and brackets, and
+/// all that follows it.
+fn after_value(bytes: &[u8]) -> &[u8]
+    ensures within { length result.now ≤ length bytes.now }
+    ensures found { (text rest : Items ℕ) → Compacted bytes.now text rest → result.now ≡ rest }
+{
+    let mut level: u64 = 0;
+    let mut rest = bytes;
+    while let Some((byte, others)) = rest.split_first() {
+        if ends_value(*byte) && level == 0 {
+            return rest;
+        }
+        rest = others;
+        match *byte {
+            b'"' => rest = after_string(others),
+            b'[' | b'{' => level += 1,
+            b']' | b'}' => level -= 1,
+            _ => {}
+        }
     }
+    rest
+}
+
+/// Whether a value in a container may end before this byte.
+fn ends_value(byte: u8) -> bool
+    ensures { result ≡ ends_value byte }
+{
+    matches!(byte, b',' | b']' | b'}')
 }
 
 /// The value whose compact text stands between two offsets.

@@ -23,17 +23,11 @@ content_of-requires c =
     let l = c.loop-found.invariant.left (c.requires.0 ∷ c.requires.1) c.requires.2 c.requires.3 in
     (_, _, IsLeft-Quoted l)
 
-pub next_end-end-requires-clause-within : goal.next_end-end-requires-clause-within
-next_end-end-requires-clause-within c =
+pub next_end-end-requires : goal.next_end-end-requires
+next_end-end-requires c =
     let l = c.loop-found.invariant.left (c.requires.0 ∷ c.requires.1) c.requires.2 c.requires.3 in
     let named = c.in_ok-name.ensures.found _ _ (IsLeft-Quoted l) in
     omega (arith, inside-after c.args.bytes.now c.in_ok-name.colon named.1)
-
-pub next_end-end-requires-clause-stands : goal.next_end-end-requires-clause-stands
-next_end-end-requires-clause-stands c =
-    let l = c.loop-found.invariant.left (c.requires.0 ∷ c.requires.1) c.requires.2 c.requires.3 in
-    let named = c.in_ok-name.ensures.found _ _ (IsLeft-Quoted l) in
-    (_, _, IsLeft-Compacted l (drop-after c.args.bytes.now c.in_ok-name.colon named.1))
 
 pub raw_between-requires-clause-compact : goal.raw_between-requires-clause-compact
 raw_between-requires-clause-compact c =

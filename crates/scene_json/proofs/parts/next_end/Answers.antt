@@ -1,14 +1,12 @@
-use Rattle.std.proofs.Common.{List, ℕ, sym, ◌∙◌, ap, ◌++◌}
-use Rattle.scene_json.proofs.ItemsLeft.{Compacted-Stands, between-is}
+use Rattle.std.proofs.Common.{ℕ, List, ◌-◌, length, length-drop, drop, arith, sym, ap, subst}
+use Rattle.std.proofs.Math.Seq.{take_all}
+use Rattle.scene_json.specs.Walk.{Compacted}
+use Rattle.scene_json.proofs.ItemsLeft.{between-is}
 use Rattle.scene_json.proofs.parts.next_end.Goals as goal
 
-pub unreachable-requires : goal.unreachable-requires
-unreachable-requires c =
-    let stands = c.requires.stands in
-    c.in-Err.ensures.fault.faulty _ _ (Compacted-Stands _ stands.0 stands.1 stands.2)
-
 pub returns-clause-end : goal.returns-clause-end
-returns-clause-end c =
-    λ text rest here.
-    let same = c.in-Ok.ensures.only text rest (Compacted-Stands _ text rest here) in
-    (sym same, between-is c.args.bytes.now text c.args.at c.in-Ok.end c.in-Ok.ensures.within.0 c.in-Ok.ensures.within.1 (here.parts ∙ ap (λ (x : List ℕ). text ++ x) same))
+returns-clause-end c text rest here =
+    let bytes = c.args.bytes.now in
+    let whole = take_all (length bytes - c.args.at) (drop c.args.at bytes) (omega (arith, length-drop c.args.at bytes)) in
+    let found = c.after_value.ensures.found text rest (subst (λ (x : List ℕ). Compacted x text rest) (sym whole) here) in
+    between-is bytes text rest c.args.at _ c.requires (ap (λ (x : List ℕ). length bytes - length x) found) here.parts

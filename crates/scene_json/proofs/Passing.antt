@@ -1,0 +1,94 @@
+-- What a pass that counts brackets makes of the text of a value.
+use Rattle.std.proofs.Common.{◌≡◌, ℕ, ◌+◌, ◌≤◌, max, List, [], ◌∷◌, ◌++◌, Bool, true, false, not, ◌&&◌, ◌==◌, flat_map, refl, sym, ap, ◌∙◌, append_assoc, arith}
+use Rattle.std.specs.List.{list_all, AllByRecursion}
+use Rattle.std.proofs.lemmas.Bool.{and_parts}
+use Rattle.std.proofs.lemmas.Bool.Decides.{nat_tests}
+use Rattle.scene_json.specs.Characters.{is_space}
+use Rattle.scene_json.specs.Tree.{Piece, IsPiece, piece_spelling, string_spelling, Container, array, object, opening, closing, Label, unnamed, named, IsLabel, label_spelling, Tree, scalar, text, empty, filled, Values, last, next, spelling, values_spelling, IsGood, AreGood, depth, values_depth}
+use Rattle.scene_json.specs.Passes.{behind_string, is_opening, ends_value}
+use Rattle.scene_json.proofs.Behind.{pieces-behind}
+use Rattle.scene_json.proofs.Literals.{is_plain, list_all-each, literal-plain}
+use Rattle.scene_json.proofs.Reading.{regroup-last, regroup-next}
+
+-- a byte that is no quotation mark, no bracket and no comma
+abbrev pub is_inert : ℕ → Bool
+is_inert b = not (b == 34) && (not (is_opening b) && not (ends_value b))
+
+-- What a pass makes of the text from here on depends on how many brackets are open and on the most that were so far.
+pub record IsPass (X : Type 0) (f : ℕ → ℕ → List ℕ → X) : Type 0 where
+  pub quotes : (level most : ℕ) (bs : List ℕ) → level ≤ most → f level most (34 ∷ bs) ≡ f level most (behind_string false bs)
+  pub opens : (c : Container) (level most : ℕ) (bs : List ℕ) → f level most (opening c ∷ bs) ≡ f (level + 1) (max most (level + 1)) bs
+  pub closes : (c : Container) (level most : ℕ) (bs : List ℕ) → level + 1 ≤ most → f (level + 1) most (closing c ∷ bs) ≡ f level most bs
+  pub parts : (level most : ℕ) (bs : List ℕ) → level + 1 ≤ most → f (level + 1) most (44 ∷ bs) ≡ f (level + 1) most bs
+  pub others : (b level most : ℕ) (bs : List ℕ) → is_inert b ≡ true → level ≤ most → f level most (b ∷ bs) ≡ f level most bs
+
+plain-inert : (b : ℕ) → is_plain b ≡ true → is_inert b ≡ true
+plain-inert b h = grind (arith, nat_tests)
+
+space-inert : (b : ℕ) → is_space b ≡ true → is_inert b ≡ true
+space-inert b h = grind (arith, nat_tests)
+
+module _ {X : Type 0} {f : ℕ → ℕ → List ℕ → X} (p : IsPass X f) where
+  inert-steps : (xs : List ℕ) (level most : ℕ) (bs : List ℕ) → list_all is_inert xs ≡ true → level ≤ most → f level most (xs ++ bs) ≡ f level most bs
+  inert-steps [] level most bs inert h = refl
+  inert-steps (x ∷ xs) level most bs inert h =
+      let both = and_parts (is_inert x) (list_all is_inert xs) inert in
+      p.others x level most (xs ++ bs) both.0 h ∙ inert-steps xs level most bs both.1 h
+
+  blank-steps : (xs : List ℕ) (level most : ℕ) (bs : List ℕ) → list_all is_space xs ≡ true → level ≤ most → f level most (xs ++ bs) ≡ f level most bs
+  blank-steps xs level most bs blank h = inert-steps xs level most bs (list_all-each is_space is_inert space-inert xs blank) h
+
+  string-steps : (ps : List Piece) (level most : ℕ) (bs : List ℕ) → AllByRecursion IsPiece ps → level ≤ most → f level most (string_spelling ps ++ bs) ≡ f level most bs
+  string-steps ps level most bs good h =
+      ap (λ x. f level most (34 ∷ x)) (append_assoc (flat_map piece_spelling ps) (34 ∷ []) bs)
+      ∙ p.quotes level most (flat_map piece_spelling ps ++ 34 ∷ bs) h
+      ∙ ap (f level most) (pieces-behind ps bs good)
+
+  label-steps : (c : Container) (l : Label) (level most : ℕ) (bs : List ℕ) → IsLabel c l → level ≤ most → f level most (label_spelling l ++ bs) ≡ f level most bs
+  label-steps array (unnamed before) level most bs good h = blank-steps before level most bs good h
+  label-steps array (named before name between after) level most bs good h = absurd good
+  label-steps object (unnamed before) level most bs good h = absurd good
+  label-steps object (named before name between after) level most bs good h =
+      ap (f level most) (regroup-next before (string_spelling name) between 58 after bs)
+      ∙ blank-steps before level most _ good.0 h
+      ∙ string-steps name level most _ good.1 h
+      ∙ blank-steps between level most _ good.2 h
+      ∙ p.others 58 level most (after ++ bs) refl h
+      ∙ blank-steps after level most bs good.3 h
+
+  -- over a value the pass sees the value's depth, and is as deep behind it as before
+  mutual
+    pub tree-steps : (t : Tree) (level most more : ℕ) (bs : List ℕ) → IsGood t → level ≤ most → more ≡ max most (level + depth t) → f level most (spelling t ++ bs) ≡ f level more bs
+    tree-steps (scalar literal) level most more bs good h e =
+        let same : more ≡ most = omega arith in
+        inert-steps literal level most bs (list_all-each is_plain is_inert plain-inert literal (literal-plain literal good)) h ∙ ap (λ m. f level m bs) (sym same)
+    tree-steps (text pieces) level most more bs good h e =
+        let same : more ≡ most = omega arith in
+        string-steps pieces level most bs good h ∙ ap (λ m. f level m bs) (sym same)
+    tree-steps (empty c blank) level most more bs good h e =
+        let same : more ≡ max most (level + 1) = omega arith in
+        p.opens c level most ((blank ++ closing c ∷ []) ++ bs)
+        ∙ ap (f (level + 1) (max most (level + 1))) (append_assoc blank (closing c ∷ []) bs)
+        ∙ blank-steps blank (level + 1) (max most (level + 1)) (closing c ∷ bs) good (omega arith)
+        ∙ p.closes c level (max most (level + 1)) bs (omega arith)
+        ∙ ap (λ m. f level m bs) (sym same)
+    tree-steps (filled c values) level most more bs good h e =
+        p.opens c level most ((values_spelling values ++ closing c ∷ []) ++ bs)
+        ∙ ap (f (level + 1) (max most (level + 1))) (append_assoc (values_spelling values) (closing c ∷ []) bs)
+        ∙ values-steps c values level (max most (level + 1)) more (closing c ∷ bs) good (omega arith) (omega arith)
+        ∙ p.closes c level more bs (omega arith)
+
+    values-steps : (c : Container) (vs : Values) (level most more : ℕ) (bs : List ℕ) → AreGood c vs → level + 1 ≤ most → more ≡ max most (level + 1 + values_depth vs) → f (level + 1) most (values_spelling vs ++ bs) ≡ f (level + 1) more bs
+    values-steps c (last label value blank) level most more bs good h e =
+        ap (f (level + 1) most) (regroup-last (label_spelling label) (spelling value) blank bs)
+        ∙ label-steps c label (level + 1) most _ good.0 h
+        ∙ tree-steps value (level + 1) most more _ good.1 h e
+        ∙ blank-steps blank (level + 1) more bs good.2 (omega arith)
+    values-steps c (next label value blank values) level most more bs good h e =
+        let here = max most (level + 1 + depth value) in
+        ap (f (level + 1) most) (regroup-next (label_spelling label) (spelling value) blank 44 (values_spelling values) bs)
+        ∙ label-steps c label (level + 1) most _ good.0 h
+        ∙ tree-steps value (level + 1) most here _ good.1 h refl
+        ∙ blank-steps blank (level + 1) here _ good.2 (omega arith)
+        ∙ p.parts level here (values_spelling values ++ bs) (omega arith)
+        ∙ values-steps c values level here more bs good.3 (omega arith) (omega arith)
