@@ -60,8 +60,8 @@ texts-compact (t ∷ ts) (e ∷ es) all =
     (Value-deeper (lit≤ tt) (subst (IsCompact 120) (sym all.0.spelled) (object-compact 119 all.0.members all.0.are)), texts-compact ts es all.1)
 
 -- ---- the members of a scene
-found-all : (texts : List (List ℕ)) → AreFound (scene_members texts) (scene_members texts)
-found-all texts = all-found (scene_members texts) (IsDistinct-from_count nat_list_eq_equiv _ refl)
+found-all : (texts : List (List ℕ)) → AreFound (scene_members (array_text texts)) (scene_members (array_text texts))
+found-all texts = all-found (scene_members (array_text texts)) (IsDistinct-from_count nat_list_eq_equiv _ refl)
 
 two : decimal 2 ≡ codes "2"
 unfolding digits
@@ -73,23 +73,23 @@ pub record Looks (ms : List Pair) (texts : List (List ℕ)) : Type 0 where
   pub elements : value_at (codes "elements") ms ≡ Some (array_text texts)
   pub known : (name : List ℕ) → is_scene_name name ≡ false → value_at name ms ≡ None
 
-looks : (ms : List Pair) (texts : List (List ℕ)) → AreSameMembers ms (scene_members texts) → Looks ms texts
+looks : (ms : List Pair) (texts : List (List ℕ)) → AreSameMembers ms (scene_members (array_text texts)) → Looks ms texts
 looks ms texts same =
-    let found = found-in ms (scene_members texts) (scene_members texts) same (found-all texts) in
+    let found = found-in ms (scene_members (array_text texts)) (scene_members (array_text texts)) same (found-all texts) in
     record {
       bare = record {
         headed = record { kind = found.0; version = found.1.0 ∙ ap Some two; source = found.1.1.0 };
         unset = record { state = found.1.1.1.1.0; files = found.1.1.1.1.1.0 };
       };
       elements = found.1.1.1.0;
-      known = λ name fails. same name ∙ value_at-none name (scene_members texts) fails;
+      known = λ name fails. same name ∙ value_at-none name (scene_members (array_text texts)) fails;
     }
 
-same-from : (ms : List Pair) (texts : List (List ℕ)) → Looks ms texts → AreSameMembers ms (scene_members texts)
+same-from : (ms : List Pair) (texts : List (List ℕ)) → Looks ms texts → AreSameMembers ms (scene_members (array_text texts))
 same-from ms texts look name =
-    let found : AreFound ms (scene_members texts) =
+    let found : AreFound ms (scene_members (array_text texts)) =
     (look.bare.headed.kind, (look.bare.headed.version ∙ ap Some (sym two), (look.bare.headed.source, (look.elements, (look.bare.unset.state, (look.bare.unset.files, tt)))))) in
-    same-at ms (scene_members texts) name found (look.known name)
+    same-at ms (scene_members (array_text texts)) name found (look.known name)
 
 -- ---- the scene that the members make
 -- the members are those of this value, however they were told

@@ -74,15 +74,15 @@ ArePlainTexts [] (e ∷ elements) = ⊥
 ArePlainTexts (text ∷ texts) [] = ⊥
 ArePlainTexts (text ∷ texts) (e ∷ elements) = IsPlainText text e × ArePlainTexts texts elements
 
--- the members of a scene whose elements have these texts
-abbrev pub scene_members : List (List ℕ) → List Pair
-scene_members texts =
+-- the members of a scene whose `elements` have this text
+abbrev pub scene_members : List ℕ → List Pair
+scene_members elements =
     (codes "type", quote (codes "excalidraw")) ∷ (codes "version", decimal 2) ∷ (codes "source", null_word)
-    ∷ (codes "elements", array_text texts) ∷ (codes "appState", object_text []) ∷ (codes "files", object_text []) ∷ []
+    ∷ (codes "elements", elements) ∷ (codes "appState", object_text []) ∷ (codes "files", object_text []) ∷ []
 
 -- the text of the scene of these elements
 unfoldable pub scene_text : List Drawn → List ℕ
-scene_text elements = object_text (scene_members (map element_text elements))
+scene_text elements = object_text (scene_members (array_text (map element_text elements)))
 
 -- The text of an object that has the members of a scene, in whatever order, with these plain elements.
 pub record IsPlainScene (text : List ℕ) (elements : List Drawn) : Type 0 where
@@ -91,4 +91,4 @@ pub record IsPlainScene (text : List ℕ) (elements : List Drawn) : Type 0 where
   pub members : List Pair
   pub are : AreMembers 127 members
   pub spelled : text ≡ object_text members
-  pub same : AreSameMembers members (scene_members texts)
+  pub same : AreSameMembers members (scene_members (array_text texts))

@@ -1,15 +1,13 @@
 //! The text of a merged scene.
 
 ghost use Rattle.std.specs.Prelude.{◌≡◌, [], ◌++◌, ℕ, List as Items, IfOk, map};
-ghost use Rattle.scene_json.specs.Characters.{quote};
 ghost use Rattle.scene_json.specs.Compact.{array_text, object_text};
-ghost use Rattle.scene_json.specs.Members.{pair_of};
 ghost use Rattle.scene_json.specs.Value.{IsCompact};
 ghost use Rattle.elem.specs.Texts.{element_text};
 ghost use Rattle.view.specs.Shown.{live_elements, shown, HaveRisingKeys};
 ghost use Rattle.board.specs.Faults.{newline};
 ghost use Rattle.board.specs.Layouts.{IsLaidOut};
-ghost use Rattle.board.specs.Plain.{scene_text};
+ghost use Rattle.board.specs.Plain.{scene_members, scene_text};
 
 use crate::words::Layout;
 use board_io::{Bytes, List};
@@ -19,16 +17,15 @@ use scene_json::{Member, Raw, Text, pretty, raw_array, raw_null, raw_object, raw
 use std::alloc::{AllocError, Global};
 use view::view_of;
 
-/// The text of the scene that a board shows of its store, in this layout, and a newline. The store is dropped as soon as
-/// its view is made.
+/// The text of the scene that a board shows of its store, in this layout, and a newline.
+#[tactic(auto, unfolding(crate::specs::Plain::scene_text))]
 pub(crate) fn merged_text(alloc: Global, store: Store, layout: Layout) -> Result<Bytes, AllocError>
     ensures text { IfOk result (λ bytes. (text : Items ℕ) × IsLaidOut layout (scene_text (shown (live_elements store))) text
         × (bytes ≡ text ++ newline)) }
     ensures rise { IfOk result (λ _. HaveRisingKeys (shown (live_elements store))) }
 {
-    let view = view_of(alloc, &store)?;
-    drop(store);
-    let scene = scene_raw(alloc, view.elements())?;
+    let elements = shown_raw(alloc, store)?;
+    let scene = scene_raw(alloc, elements)?;
     let mut text = match layout {
         Layout::Compact => Bytes::from_slice(alloc, scene.as_bytes())?,
         Layout::Pretty => pretty(alloc, &scene)?,
@@ -37,16 +34,30 @@ pub(crate) fn merged_text(alloc: Global, store: Store, layout: Layout) -> Result
     Ok(text)
 }
 
-/// The scene of these elements.
-fn scene_raw(alloc: Global, elements: &[Element]) -> Result<Raw, AllocError>
-    ensures { IfOk result (λ raw. raw ≡ scene_text elements.now) }
+/// The array of the elements that a board shows of its store. The store is dropped as soon as its view is made, and the
+/// view with the last of its elements' texts.
+fn shown_raw(alloc: Global, store: Store) -> Result<Raw, AllocError>
+    ensures text { IfOk result (λ raw. raw ≡ array_text (map element_text (shown (live_elements store)))) }
+    ensures nests { IfOk result (IsCompact 121) }
+    ensures rise { IfOk result (λ _. HaveRisingKeys (shown (live_elements store))) }
 {
-    let kind = member(alloc, "type", string(alloc, "excalidraw")?)?;
-    let version = member(alloc, "version", raw_whole(alloc, 2)?)?;
-    let source = member(alloc, "source", raw_null(alloc)?)?;
-    let elements = member(alloc, "elements", elements_raw(alloc, elements)?)?;
-    let state = member(alloc, "appState", empty_object(alloc)?)?;
-    let files = member(alloc, "files", empty_object(alloc)?)?;
+    let view = view_of(alloc, &store)?;
+    drop(store);
+    elements_raw(alloc, view.elements())
+}
+
+/// The scene of this array of elements.
+fn scene_raw(alloc: Global, elements: Raw) -> Result<Raw, AllocError>
+    requires { IsCompact 121 elements }
+    ensures { IfOk result (λ raw. raw ≡ object_text (scene_members elements)) }
+{
+    let program = Text::from_str(alloc, "excalidraw")?;
+    let kind = Member::named(alloc, "type", raw_text(alloc, &program)?)?;
+    let version = Member::named(alloc, "version", raw_whole(alloc, 2)?)?;
+    let source = Member::named(alloc, "source", raw_null(alloc)?)?;
+    let elements = Member::named(alloc, "elements", elements)?;
+    let state = Member::named(alloc, "appState", empty_object(alloc)?)?;
+    let files = Member::named(alloc, "files", empty_object(alloc)?)?;
     let members = vec![in alloc; kind, version, source, elements, state, files]?;
     raw_object(alloc, &List::from_vec(members))
 }
@@ -69,29 +80,4 @@ fn elements_raw(alloc: Global, elements: &[Element]) -> Result<Raw, AllocError>
         items.push(element_raw(alloc, e)?)?;
     }
     raw_array(alloc, &List::from_vec(items))
-}
-
-/// A member of this name.
-fn member(alloc: Global, name: &str, value: Raw) -> Result<Member, AllocError>
-    ensures { IfOk result (λ member. pair_of member ≡ (name.now, value)) }
-{
-    Ok(Member {
-        name: text(alloc, name)?,
-        value,
-    })
-}
-
-/// The string of these characters.
-fn string(alloc: Global, characters: &str) -> Result<Raw, AllocError>
-    ensures text { IfOk result (λ raw. raw ≡ quote characters.now) }
-    ensures nests { IfOk result (IsCompact 0) }
-{
-    raw_text(alloc, &text(alloc, characters)?)
-}
-
-/// The text of these characters.
-fn text(alloc: Global, characters: &str) -> Result<Text, AllocError>
-    ensures { IfOk result (λ text. text ≡ characters.now) }
-{
-    Ok(Text::read(alloc, characters.as_bytes())?.unwrap())
 }

@@ -14,7 +14,7 @@ ghost use Rattle.elem.specs.Texts.{kind_name, truth_text, text_or_null, bound_te
 use crate::element::Element;
 use crate::kind::Kind;
 use crate::parts::Binding;
-use crate::values::{key_raw, kind_raw, listing_raw, member, text_raw, texts_raw};
+use crate::values::{key_raw, kind_raw, listing_raw, text_raw, texts_raw};
 use board_io::List;
 use scene_json::{Member, Raw, raw_null, raw_object, raw_text, raw_truth, raw_whole};
 use std::alloc::{AllocError, Global};
@@ -44,8 +44,8 @@ fn identity_members(alloc: Global, e: &Element) -> Result<Vec<Member>, AllocErro
         ≡ (codes "id", quote e.now.id) ∷ (codes "type", quote (kind_name e.now.kind)) ∷ []) }
     ensures nest { IfOk result (λ members. All (λ member. IsCompact 119 member.value) members.items) }
 {
-    let id = member(alloc, "id", raw_text(alloc, &e.id)?)?;
-    let kind = member(alloc, "type", kind_raw(alloc, &e.kind)?)?;
+    let id = Member::named(alloc, "id", raw_text(alloc, &e.id)?)?;
+    let kind = Member::named(alloc, "type", kind_raw(alloc, &e.kind)?)?;
     Ok(vec![in alloc; id, kind]?)
 }
 
@@ -56,9 +56,9 @@ fn stamp_members(alloc: Global, e: &Element) -> Result<Vec<Member>, AllocError>
         ∷ (codes "updated", decimal e.now.updated) ∷ []) }
     ensures nest { IfOk result (λ members. All (λ member. IsCompact 119 member.value) members.items) }
 {
-    let version = member(alloc, "version", raw_whole(alloc, e.version)?)?;
-    let nonce = member(alloc, "versionNonce", raw_whole(alloc, e.nonce)?)?;
-    let updated = member(alloc, "updated", raw_whole(alloc, e.updated)?)?;
+    let version = Member::named(alloc, "version", raw_whole(alloc, e.version)?)?;
+    let nonce = Member::named(alloc, "versionNonce", raw_whole(alloc, e.nonce)?)?;
+    let updated = Member::named(alloc, "updated", raw_whole(alloc, e.updated)?)?;
     Ok(vec![in alloc; version, nonce, updated]?)
 }
 
@@ -68,8 +68,8 @@ fn state_members(alloc: Global, e: &Element) -> Result<Vec<Member>, AllocError>
         ≡ (codes "isDeleted", truth_text e.now.deleted) ∷ (codes "index", text_or_null e.now.index) ∷ []) }
     ensures nest { IfOk result (λ members. All (λ member. IsCompact 119 member.value) members.items) }
 {
-    let deleted = member(alloc, "isDeleted", raw_truth(alloc, e.deleted)?)?;
-    let index = member(alloc, "index", key_raw(alloc, &e.index)?)?;
+    let deleted = Member::named(alloc, "isDeleted", raw_truth(alloc, e.deleted)?)?;
+    let index = Member::named(alloc, "index", key_raw(alloc, &e.index)?)?;
     Ok(vec![in alloc; deleted, index]?)
 }
 
@@ -80,9 +80,9 @@ fn link_members(alloc: Global, e: &Element) -> Result<Vec<Member>, AllocError>
         ∷ (codes "boundElements", array_text (map bound_text e.now.bound)) ∷ []) }
     ensures nest { IfOk result (λ members. All (λ member. IsCompact 119 member.value) members.items) }
 {
-    let groups = member(alloc, "groupIds", texts_raw(alloc, &e.groups)?)?;
-    let frame = member(alloc, "frameId", text_raw(alloc, &e.frame)?)?;
-    let bound = member(alloc, "boundElements", listing_raw(alloc, &e.bound)?)?;
+    let groups = Member::named(alloc, "groupIds", texts_raw(alloc, &e.groups)?)?;
+    let frame = Member::named(alloc, "frameId", text_raw(alloc, &e.frame)?)?;
+    let bound = Member::named(alloc, "boundElements", listing_raw(alloc, &e.bound)?)?;
     Ok(vec![in alloc; groups, frame, bound]?)
 }
 
@@ -93,12 +93,18 @@ fn own_members(alloc: Global, e: &Element) -> Result<Vec<Member>, AllocError>
 {
     let mut members = Vec::new(alloc);
     match &e.kind {
-        Kind::Text => members.push(member(alloc, "containerId", text_raw(alloc, &e.container)?)?)?,
+        Kind::Text => members.push(Member::named(
+            alloc,
+            "containerId",
+            text_raw(alloc, &e.container)?,
+        )?)?,
         Kind::Arrow => {
-            members.push(member(alloc, "startBinding", binding_raw(alloc, &e.start_binding)?)?)?;
-            members.push(member(alloc, "endBinding", binding_raw(alloc, &e.end_binding)?)?)?;
+            let start = binding_raw(alloc, &e.start_binding)?;
+            let end = binding_raw(alloc, &e.end_binding)?;
+            members.push(Member::named(alloc, "startBinding", start)?)?;
+            members.push(Member::named(alloc, "endBinding", end)?)?;
         }
-        Kind::Image => members.push(member(alloc, "fileId", text_raw(alloc, &e.file)?)?)?,
+        Kind::Image => members.push(Member::named(alloc, "fileId", text_raw(alloc, &e.file)?)?)?,
         _ => {}
     }
     Ok(members)
@@ -113,7 +119,7 @@ fn binding_raw(alloc: Global, binding: &Option<Binding>) -> Result<Raw, AllocErr
     let Some(binding) = binding else {
         return raw_null(alloc);
     };
-    let target = member(alloc, "elementId", raw_text(alloc, &binding.target)?)?;
+    let target = Member::named(alloc, "elementId", raw_text(alloc, &binding.target)?)?;
     let mut rest = binding.rest.try_clone_with(Member::try_clone)?.into_vec();
     let mut members = vec![in alloc; target]?;
     members.append(&mut rest)?;

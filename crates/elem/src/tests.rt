@@ -4,7 +4,7 @@ ghost use Rattle.std.specs.Prelude.{◌≡◌, ◌≢◌, [], map, All, IfOk};
 ghost use Rattle.scene_json.specs.Value.{IsCompact};
 ghost use Rattle.elem.specs.Facts.{IsBinding, IsKind, names};
 
-use crate::values::{member, quoted, text};
+use crate::values::quoted;
 use crate::{Binding, BoundRef, Element, Kind, Role, beats, element_raw, same, same_but_stamp};
 use board_io::List;
 use scene_json::{Member, Raw, Text, raw_null, raw_truth, raw_whole};
@@ -19,7 +19,7 @@ fn bare(alloc: Global, id: &str, kind: Kind) -> Result<Element, AllocError>
     ensures { IfOk result (λ e. e.kind ≡ kind) }
 {
     Ok(Element {
-        id: text(alloc, id)?,
+        id: Text::from_str(alloc, id)?,
         kind,
         version: 1,
         nonce: 0,
@@ -58,7 +58,7 @@ fn rest(alloc: Global, rows: &[(&str, &str)]) -> Result<List<Member>, AllocError
 {
     let mut members = Vec::new(alloc);
     for row in rows {
-        members.push(member(alloc, row.0, literal(alloc, row.1)?)?)?;
+        members.push(Member::named(alloc, row.0, literal(alloc, row.1)?)?)?;
     }
     Ok(List::from_vec(members))
 }
@@ -68,7 +68,7 @@ fn binding(alloc: Global, target: &str) -> Result<Binding, AllocError>
     ensures { IfOk result IsBinding }
 {
     Ok(Binding {
-        target: text(alloc, target)?,
+        target: Text::from_str(alloc, target)?,
         rest: rest(alloc, &[("above", "null"), ("gap", "4")])?,
     })
 }
@@ -100,32 +100,32 @@ fn rectangle(alloc: Global) -> Result<Element, AllocError> {
 }
 
 fn hexagon(alloc: Global) -> Result<Element, AllocError> {
-    bare(alloc, "h1", Kind::Other(text(alloc, "hexagon")?))
+    bare(alloc, "h1", Kind::Other(Text::from_str(alloc, "hexagon")?))
 }
 
 fn label(alloc: Global) -> Result<Element, AllocError> {
     let mut label = bare(alloc, "t1", Kind::Text)?;
-    label.container = Some(text(alloc, "b1")?);
+    label.container = Some(Text::from_str(alloc, "b1")?);
     label.deleted = true;
     Ok(label)
 }
 
 fn image(alloc: Global) -> Result<Element, AllocError> {
     let mut image = bare(alloc, "p1", Kind::Image)?;
-    image.file = Some(text(alloc, "7b0c")?);
+    image.file = Some(Text::from_str(alloc, "7b0c")?);
     image.updated = 1718000005000;
     Ok(image)
 }
 
 /// A list of one group.
 fn group(alloc: Global) -> Result<List<Text>, AllocError> {
-    let group = text(alloc, "g\"1")?;
+    let group = Text::from_str(alloc, "g\"1")?;
     Ok(List::from_vec(vec![in alloc; group]?))
 }
 
 /// A listing of one text.
 fn listing(alloc: Global) -> Result<List<BoundRef>, AllocError> {
-    let id = text(alloc, "t1")?;
+    let id = Text::from_str(alloc, "t1")?;
     let role = Role::Text;
     Ok(List::from_vec(vec![in alloc; BoundRef { id, role }]?))
 }

@@ -3,7 +3,6 @@
 ghost use Rattle.std.specs.Prelude.{◌≡◌, ℕ, [], ◌∷◌, map, codes, IfOk};
 ghost use Rattle.scene_json.specs.Characters.{quote};
 ghost use Rattle.scene_json.specs.Compact.{array_text};
-ghost use Rattle.scene_json.specs.Members.{pair_of};
 ghost use Rattle.scene_json.specs.Value.{IsCompact};
 ghost use Rattle.elem.specs.Texts.{text_or_null, kind_name, role_name, bound_text};
 
@@ -13,16 +12,6 @@ use board_io::List;
 use frac_keys::Key;
 use scene_json::{Member, Raw, Text, raw_array, raw_null, raw_object, raw_text};
 use std::alloc::{AllocError, Global};
-
-/// A member of this name.
-pub(crate) fn member(alloc: Global, name: &str, value: Raw) -> Result<Member, AllocError>
-    ensures { IfOk result (λ member. pair_of member ≡ (name.now, value)) }
-{
-    Ok(Member {
-        name: text(alloc, name)?,
-        value,
-    })
-}
 
 /// The text of a kind's name.
 pub(crate) fn kind_raw(alloc: Global, kind: &Kind) -> Result<Raw, AllocError>
@@ -97,8 +86,8 @@ fn entry_raw(alloc: Global, entry: &BoundRef) -> Result<Raw, AllocError>
     ensures text { IfOk result (λ raw. raw ≡ bound_text entry.now) }
     ensures nests { IfOk result (IsCompact 1) }
 {
-    let id = member(alloc, "id", raw_text(alloc, &entry.id)?)?;
-    let role = member(alloc, "type", role_raw(alloc, entry.role)?)?;
+    let id = Member::named(alloc, "id", raw_text(alloc, &entry.id)?)?;
+    let role = Member::named(alloc, "type", role_raw(alloc, entry.role)?)?;
     raw_object(alloc, &List::from_vec(vec![in alloc; id, role]?))
 }
 
@@ -118,14 +107,7 @@ pub(crate) fn quoted(alloc: Global, characters: &str) -> Result<Raw, AllocError>
     ensures text { IfOk result (λ raw. raw ≡ quote characters.now) }
     ensures nests { IfOk result (IsCompact 0) }
 {
-    raw_text(alloc, &text(alloc, characters)?)
-}
-
-/// The text of these characters.
-pub(crate) fn text(alloc: Global, characters: &str) -> Result<Text, AllocError>
-    ensures { IfOk result (λ text. text ≡ characters.now) }
-{
-    Ok(Text::read(alloc, characters.as_bytes())?.unwrap())
+    raw_text(alloc, &Text::from_str(alloc, characters)?)
 }
 
 /// The text of a key, whose bytes are letters and digits.

@@ -61,6 +61,13 @@ impl Text {
         }))
     }
 
+    /// The text of these characters.
+    pub fn from_str(alloc: Global, characters: &str) -> Result<Text, AllocError>
+        ensures { IfOk result (λ text. text ≡ characters.now) }
+    {
+        Ok(Text::read(alloc, characters.as_bytes())?.unwrap())
+    }
+
     /// The bytes, which are UTF-8.
     pub fn as_bytes(&self) -> &[u8]
         ensures value { result.now ≡ self.now }
@@ -115,6 +122,17 @@ impl Raw {
 }
 
 impl Member {
+    ghost use Rattle.std.specs.Prelude.{◌≡◌, IfOk};
+    ghost use Rattle.scene_json.specs.Members.{pair_of};
+
+    /// The member of this name with this value.
+    pub fn named(alloc: Global, name: &str, value: Raw) -> Result<Member, AllocError>
+        ensures { IfOk result (λ member. pair_of member ≡ (name.now, value)) }
+    {
+        let name = Text::from_str(alloc, name)?;
+        Ok(Member { name, value })
+    }
+
     /// An equal member.
     pub fn try_clone(&self) -> Result<Member, AllocError>
         ensures { IfOk result (λ copy. copy ≡ self.now) }
