@@ -30,6 +30,7 @@ mod Rests
 mod Rows
 mod Sequences
 pub mod Skipped
+pub mod Spellings
 pub mod Spread
 mod StringPlaces
 pub mod Strings

@@ -1,3 +1,4 @@
+pub mod Alike
 pub mod Characters
 pub mod Compact
 pub mod Faults

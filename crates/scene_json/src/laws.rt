@@ -1,7 +1,12 @@
 //! Laws on texts, for all bytes. They do nothing when they run.
 
-ghost use Rattle.std.specs.Prelude.{◌≡◌, ℕ, List};
-ghost use Rattle.scene_json.specs.Value.{Stands};
+ghost use Rattle.std.specs.Prelude.{◌≡◌, ℕ, List, [], ◌∷◌, ◌++◌, true, bytes_eq};
+ghost use Rattle.std.specs.List.{list_any};
+ghost use Rattle.scene_json.specs.Alike.{AreAlike};
+ghost use Rattle.scene_json.specs.Compact.{Member, compact, collapsed, object_text};
+ghost use Rattle.scene_json.specs.Parts.{names_of};
+ghost use Rattle.scene_json.specs.Tree.{Tree};
+ghost use Rattle.scene_json.specs.Value.{Value, Stands};
 ghost use Rattle.scene_json.specs.Faults.{IsFaultOf};
 ghost use Rattle.scene_json.specs.declared.fault.JsonFault.{JsonFault};
 
@@ -15,4 +20,22 @@ pub fn value_is_unique()
 pub fn first_fault_is_unique()
     ensures { (bytes : List ℕ) (at : ℕ) (fault other : JsonFault)
         → IsFaultOf bytes at fault → IsFaultOf bytes at other → fault ≡ other }
+{}
+
+/// A text that is one value is read whole, and its compact text is read as itself.
+pub fn value_is_read_whole()
+    ensures whole { (bytes text : List ℕ) → Value 128 bytes text → Stands bytes text [] }
+    ensures compact { (bytes text : List ℕ) → Value 128 bytes text → Stands text text [] }
+{}
+
+/// White space outside strings and the spelling of characters play no part in the compact text.
+pub fn spelling_plays_no_part()
+    ensures { (tree other : Tree) → AreAlike tree other → compact tree ≡ compact other }
+{}
+
+/// The earlier values of a repeated name play no part in the compact text.
+pub fn earlier_values_play_no_part()
+    ensures { (before behind : List Member) (name value other : List ℕ)
+        → list_any (bytes_eq name) (names_of behind) ≡ true
+        → object_text (collapsed (before ++ (name, value) ∷ behind)) ≡ object_text (collapsed (before ++ (name, other) ∷ behind)) }
 {}
