@@ -1,15 +1,18 @@
 //! However updates are ordered, grouped or repeated, they are merged to one text.
 
 use super::runs::is_merged;
-use super::texts::{Drawing, R1, scene, scenes};
+use super::texts::{Drawing, RECTANGLE, scene, scenes};
 use std::test::Fail;
 
-const FIRST: Drawing = Drawing { x: "5.0", ..R1 };
+const FIRST: Drawing = Drawing {
+    x: "5.0",
+    ..RECTANGLE
+};
 
 const SECOND: Drawing = Drawing {
     id: "r2",
     index: "a1",
-    ..R1
+    ..RECTANGLE
 };
 
 #[test]

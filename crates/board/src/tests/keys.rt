@@ -1,7 +1,7 @@
 //! Indices of what is printed.
 
 use super::runs::is_merged;
-use super::texts::{Drawing, R1, scene};
+use super::texts::{Drawing, RECTANGLE, scene};
 use std::alloc::{AllocError, Global};
 use std::process::Abort;
 use std::test::Fail;
@@ -13,7 +13,11 @@ type Indices<'a> = &'a [(&'static str, &'static str)];
 fn row(alloc: Global, indices: Indices) -> Result<String, AllocError> {
     let mut drawings = Vec::new(alloc);
     for (id, index) in indices {
-        drawings.push(Drawing { id, index, ..R1 })?;
+        drawings.push(Drawing {
+            id,
+            index,
+            ..RECTANGLE
+        })?;
     }
     scene(alloc, drawings.as_slice())
 }

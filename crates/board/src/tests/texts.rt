@@ -16,7 +16,7 @@ pub(super) struct Drawing {
 }
 
 /// The rectangle `r1`.
-pub(super) const R1: Drawing = Drawing {
+pub(super) const RECTANGLE: Drawing = Drawing {
     kind: "rectangle",
     id: "r1",
     index: "a0",

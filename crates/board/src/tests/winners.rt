@@ -1,7 +1,7 @@
 //! Which of the updates of one element counts.
 
 use super::runs::{Case, NO_FAULT, is_merged};
-use super::texts::{Drawing, EMPTY, R1, SCENE, scene};
+use super::texts::{Drawing, EMPTY, RECTANGLE, SCENE, scene};
 use crate::status::Status;
 use std::alloc::{AllocError, Global};
 use std::process::Abort;
@@ -37,13 +37,13 @@ fn the_higher_version_and_then_the_lower_nonce_wins(rt: HostRuntime) -> Result<(
             version,
             nonce,
             x: "1",
-            ..R1
+            ..RECTANGLE
         };
         let loser = Drawing {
             version: lost_version,
             nonce: lost_nonce,
             x: "9",
-            ..R1
+            ..RECTANGLE
         };
         let text = scene(alloc, &[winner])?;
         let lost = scene(alloc, &[loser])?;
@@ -59,15 +59,15 @@ fn the_index_and_the_kind_of_the_winner_count(rt: HostRuntime) -> Result<(), Fai
         kind: "ellipse",
         index: "a3",
         version: 2,
-        ..R1
+        ..RECTANGLE
     };
     let other = Drawing {
         kind: "diamond",
         id: "r2",
         index: "a2",
-        ..R1
+        ..RECTANGLE
     };
-    let one = scene(alloc, &[R1, other])?;
+    let one = scene(alloc, &[RECTANGLE, other])?;
     let two = scene(alloc, &[winner])?;
     let text = scene(alloc, &[other, winner])?;
     are_merged(&rt, alloc, one.as_str(), two.as_str(), text.as_str())?;
@@ -91,7 +91,7 @@ fn a_deleted_winner_is_not_printed(rt: HostRuntime) -> Result<(), Fail> {
             &[Drawing {
                 version,
                 nonce,
-                ..R1
+                ..RECTANGLE
             }],
         )?;
         let deleted = scene(
@@ -100,7 +100,7 @@ fn a_deleted_winner_is_not_printed(rt: HostRuntime) -> Result<(), Fail> {
                 version: deleted_version,
                 nonce: deleted_nonce,
                 deleted: true,
-                ..R1
+                ..RECTANGLE
             }],
         )?;
         let text = if counts { live.as_str() } else { EMPTY };
@@ -113,16 +113,19 @@ fn a_deleted_winner_is_not_printed(rt: HostRuntime) -> Result<(), Fail> {
 #[test]
 fn the_first_of_clashing_updates_wins(rt: HostRuntime) -> Result<(), Fail> {
     let alloc = rt.alloc();
-    let other = Drawing { x: "7", ..R1 };
+    let other = Drawing {
+        x: "7",
+        ..RECTANGLE
+    };
     let deleted = Drawing {
         deleted: true,
-        ..R1
+        ..RECTANGLE
     };
-    let first = scene(alloc, &[R1])?;
+    let first = scene(alloc, &[RECTANGLE])?;
     let second = scene(alloc, &[other])?;
     let gone = scene(alloc, &[deleted])?;
-    let both = scene(alloc, &[R1, other])?;
-    let turned = scene(alloc, &[other, R1])?;
+    let both = scene(alloc, &[RECTANGLE, other])?;
+    let turned = scene(alloc, &[other, RECTANGLE])?;
     let rows = [
         (format!(in alloc; "{first}{second}")?, false),
         (format!(in alloc; "{second}{first}")?, true),
@@ -148,7 +151,10 @@ fn the_first_of_clashing_updates_wins(rt: HostRuntime) -> Result<(), Fail> {
 #[test]
 fn pieces_of_every_size_are_read_and_written(rt: HostRuntime) -> Result<(), Fail> {
     let alloc = rt.alloc();
-    let winner = Drawing { version: 2, ..R1 };
+    let winner = Drawing {
+        version: 2,
+        ..RECTANGLE
+    };
     let text = scene(alloc, &[winner])?;
     let input = format!(in alloc; "{SCENE}{text}")?;
     let output = format!(in alloc; "{text}\n")?;
