@@ -1,6 +1,6 @@
 //! Texts, and the compact texts of values.
 
-ghost use Rattle.std.specs.Prelude.{◌≡◌, IfOk, MatchOption};
+ghost use Rattle.std.specs.Prelude.{◌≡◌, ◌-◌, ◌≤◌, take, drop, length, IfOk, MatchOption};
 ghost use Rattle.std.specs.Str.{IsUtf8};
 ghost use Rattle.scene_json.specs.Value.{IsCompact};
 
@@ -129,6 +129,28 @@ impl Raw {
     {
         Ok(Raw {
             bytes: self.bytes.try_clone()?,
+        })
+    }
+
+    /// The value whose compact text stands between two offsets of this one's. No byte is copied.
+    pub(crate) fn cut(&self, start: usize, end: usize) -> Result<Raw, AllocError>
+        requires within { (start ≤ end) × (end ≤ length self.now) }
+        requires compact { IsCompact 128 (take (end - start) (drop start self.now)) }
+        ensures { IfOk result (λ raw. raw ≡ take (end - start) (drop start self.now)) }
+    {
+        Ok(Raw {
+            bytes: self.bytes.cut(start, end)?,
+        })
+    }
+
+    /// The text that stands between two offsets of the compact text. No byte is copied.
+    pub(crate) fn cut_text(&self, start: usize, end: usize) -> Result<Text, AllocError>
+        requires within { (start ≤ end) × (end ≤ length self.now) }
+        requires utf8 { IsUtf8 (take (end - start) (drop start self.now)) }
+        ensures { IfOk result (λ text. text ≡ take (end - start) (drop start self.now)) }
+    {
+        Ok(Text {
+            bytes: self.bytes.cut(start, end)?,
         })
     }
 
