@@ -14,23 +14,23 @@ use crate::text::{Member, Raw, Text};
 use board_io::List;
 use std::alloc::{AllocError, Global};
 
-/// `null`.
-pub fn raw_null(alloc: Global) -> Result<Raw, AllocError>
+/// `null`. It takes no memory.
+pub fn raw_null(_alloc: Global) -> Result<Raw, AllocError>
     ensures word { IfOk result (λ raw. raw ≡ null_word) }
     ensures nests { IfOk result (IsCompact 0) }
 {
-    Ok(Raw::from_compact(Vec::from_slice(alloc, b"null")?))
+    Ok(Raw::fixed("null"))
 }
 
-/// `true` or `false`.
-pub fn raw_truth(alloc: Global, truth: bool) -> Result<Raw, AllocError>
+/// `true` or `false`. It takes no memory.
+pub fn raw_truth(_alloc: Global, truth: bool) -> Result<Raw, AllocError>
     ensures word { IfOk result (λ raw. raw ≡ (if truth then true_word else false_word)) }
     ensures nests { IfOk result (IsCompact 0) }
 {
     if truth {
-        Ok(Raw::from_compact(Vec::from_slice(alloc, b"true")?))
+        Ok(Raw::fixed("true"))
     } else {
-        Ok(Raw::from_compact(Vec::from_slice(alloc, b"false")?))
+        Ok(Raw::fixed("false"))
     }
 }
 
