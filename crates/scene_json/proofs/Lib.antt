@@ -25,6 +25,7 @@ mod Onward
 pub mod Pairs
 mod Passing
 mod Places
+pub mod Quotes
 pub mod Quoting
 pub mod Reading
 mod Rests

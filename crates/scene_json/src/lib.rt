@@ -22,6 +22,7 @@ mod scanning;
 mod sequence;
 mod stretch;
 mod text;
+mod texts;
 
 pub use build::{raw_array, raw_null, raw_object, raw_text, raw_truth, raw_whole};
 pub use end::skip_space;
@@ -33,3 +34,4 @@ pub use parts::{items, members, text_of};
 pub use scalar::{GREATEST_WHOLE, is_null, truth_of, whole_of};
 pub use scanning::scan;
 pub use text::{Member, Raw, Text};
+pub use texts::texts_of;
