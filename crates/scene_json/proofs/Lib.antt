@@ -14,6 +14,7 @@ pub mod ItemsLeft
 pub mod Laid
 mod Limits
 pub mod Literals
+pub mod Lookups
 mod Machines
 pub mod MembersLeft
 mod Moves
@@ -24,6 +25,7 @@ mod Onward
 pub mod Pairs
 mod Passing
 mod Places
+pub mod Quotes
 pub mod Quoting
 pub mod Reading
 mod Rests
