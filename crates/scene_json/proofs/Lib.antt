@@ -33,6 +33,7 @@ pub mod Skipped
 pub mod Spellings
 pub mod Spread
 mod StringPlaces
+mod Stretches
 pub mod Strings
 pub mod Tried
 pub mod Turns

@@ -1,5 +1,5 @@
 -- How a value is spelled, and the earlier values of its repeated names, play no part in its compact text.
-use Rattle.std.proofs.Common.{◌≡◌, ℕ, List, [], ◌∷◌, Bool, true, false, not, ◌||◌, bytes_eq, filter, map, refl, sym, ap, ap₂, subst, ◌∙◌, inl, inr, append-nil}
+use Rattle.std.proofs.Common.{◌≡◌, ℕ, List, [], ◌∷◌, true, false, not, bytes_eq, filter, map, refl, sym, ap, ap₂, ◌∙◌, inl, inr, append-nil}
 use Rattle.std.specs.List.{list_any}
 use Rattle.std.proofs.lemmas.Bool.{cases_Bool}
 use Rattle.std.proofs.lemmas.Map.Views.{any-filter_same}

@@ -1,5 +1,5 @@
 -- What each byte does to the machine that reads a value. This project's own, over the grammar of RFC 8259.
-use Rattle.std.specs.Prelude.{◌≡◌, ℕ, ◌+◌, ◌-◌, Option, Some, None, List, [], ◌∷◌, length, drop, is_none, Bool, true, false, not, ◌&&◌, ◌||◌, ◌==◌, nat_lt, nat_le, if◌then◌else◌}
+use Rattle.std.specs.Prelude.{◌≡◌, ℕ, ◌+◌, ◌-◌, Option, Some, None, List, [], ◌∷◌, length, drop, is_none, is_some, Bool, true, false, not, ◌&&◌, ◌||◌, ◌==◌, nat_lt, nat_le, if◌then◌else◌}
 use Rattle.scene_json.specs.Characters.{is_space, is_digit, is_hex}
 use Rattle.scene_json.specs.Tree.{Container, array, object, closing, letter_meaning}
 use Rattle.scene_json.specs.Value.{extends_number}
@@ -233,6 +233,10 @@ led_on r None = Refuse
 abbrev pub led_move : Role → ℕ → Move
 led_move r b = led_on r (tail_led b)
 
+-- an ASCII character that stands in a string as it is
+abbrev pub is_bare : ℕ → Bool
+is_bare b = nat_le 0x20 b && (nat_lt b 0x80 && (not (b == 34) && not (b == 92)))
+
 -- between two characters of a string
 abbrev pub plain_move : Role → ℕ → Move
 plain_move r b =
@@ -279,6 +283,27 @@ moved After top b = after_move top b
 moved (Quoted r place) top b = string_move r place b
 moved (Number part) top b = number_move part top b
 moved (Word letters) top b = word_move letters b
+
+-- where an ASCII character that stands in a string as it is leaves the mode as it is
+abbrev pub keeps_bare : Mode → Bool
+keeps_bare (Quoted r Plain) = true
+keeps_bare m = false
+
+-- where a digit does
+abbrev pub keeps_digits : Mode → Bool
+keeps_digits (Number Whole) = true
+keeps_digits (Number Fraction) = true
+keeps_digits (Number Exponent) = true
+keeps_digits m = false
+
+-- where white space does
+abbrev pub keeps_space : Mode → Option Bracket → Bool
+keeps_space mode.Value top = true
+keeps_space Name top = true
+keeps_space Colon top = true
+keeps_space Fresh top = is_some top
+keeps_space After top = is_some top
+keeps_space m top = false
 
 -- What comes of a byte: a mode and the open brackets, the innermost first; the value has ended before this byte; or no
 -- value goes on with it.

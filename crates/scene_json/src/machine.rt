@@ -2,15 +2,18 @@
 //!
 //! Its state is a mode and the brackets that are open. It takes no memory and can be kept between calls.
 
-ghost use Rattle.std.specs.Prelude.{◌≡◌, ◌↔◌, IsTrue, []};
+ghost use Rattle.std.specs.Prelude.{◌≡◌, ◌↔◌, ◌-◌, ◌≤◌, IsTrue, [], take, drop, length};
+ghost use Rattle.std.specs.List.{AllByRecursion};
 ghost use Rattle.scene_json.specs.Characters.{is_space, is_hex};
 ghost use Rattle.scene_json.specs.Value.{extends_number};
 ghost use Rattle.scene_json.specs.Machine.{is_closing, after_comma, after_string, value_begun, value_move, fresh_move, name_begun, name_move, colon_move, after_move, plain_move, led_move, escape_move, hex_move, sequence_move, string_move, number_move, first_letter, letters_after, word_move, moved, string_fault, bracket_fault, fault_of, top, step, ended, Stepped};
+ghost use Rattle.scene_json.specs.declared.machine.Move.TheVariants.{To};
 
 use crate::brackets::{Bracket, Brackets};
 use crate::fault::JsonFault;
 use crate::number::Part;
 use crate::sequence::Tail;
+use crate::stretch::stretch_end;
 
 /// What a string is for.
 #[derive(Clone, Copy)]
@@ -126,6 +129,15 @@ impl Machine {
             Move::Refuse => return Step::Refused,
         }
         Step::On
+    }
+
+    /// Where a stretch from `at` on ends whose bytes all leave the machine as it is.
+    pub(crate) fn stretch_end(&self, bytes: &[u8], at: usize) -> usize
+        requires { at ≤ length bytes.now }
+        ensures within { (at ≤ result) × (result ≤ length bytes.now) }
+        ensures stays { AllByRecursion (λ b. moved self.now.mode (top self.now.brackets) b ≡ To self.now.mode) (take (result - at) (drop at bytes.now)) }
+    {
+        stretch_end(self.mode, self.brackets.top(), bytes, at)
     }
 
     /// The value may end here: white space would end it too.
