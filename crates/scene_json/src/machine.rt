@@ -159,6 +159,7 @@ impl Machine {
 }
 
 /// What a byte does in this mode, where `top` is the innermost open bracket.
+#[inline(always)]
 pub(crate) fn moved(mode: Mode, top: Option<Bracket>, byte: u8) -> Move
     ensures { result ≡ moved mode top byte }
 {
@@ -370,6 +371,7 @@ fn sequence_move(role: Role, length: u8, tail: Tail, byte: u8) -> Move
     }
 }
 
+#[inline(always)]
 fn number_move(part: Part, top: Option<Bracket>, byte: u8) -> Move
     ensures { result ≡ number_move part top byte }
 {
