@@ -14,7 +14,7 @@ use Rattle.scene_json.proofs.Machines.{run, start, run-append}
 use Rattle.scene_json.proofs.Ends.{take_one, ended_stands, refused_faulty, done_stands, undone_faulty}
 use Rattle.scene_json.proofs.Places.{told}
 use Rattle.scene_json.proofs.Reading.{Stands-once}
-use Rattle.scene_json.proofs.Stretches.{stay_run}
+use Rattle.scene_json.proofs.Stays.{stay_run}
 
 -- a front of two parts
 take-plus : (n k : ℕ) (xs : List ℕ) → take (n + k) xs ≡ take n xs ++ take k (drop n xs)

@@ -1,4 +1,5 @@
 -- What each byte does to the machine that reads a value. This project's own, over the grammar of RFC 8259.
+-- Only contracts of private functions cite this.
 use Rattle.std.specs.Prelude.{◌≡◌, ℕ, ◌+◌, ◌-◌, Option, Some, None, List, [], ◌∷◌, length, drop, is_none, is_some, Bool, true, false, not, ◌&&◌, ◌||◌, ◌==◌, nat_lt, nat_le, if◌then◌else◌}
 use Rattle.scene_json.specs.Characters.{is_space, is_digit, is_hex}
 use Rattle.scene_json.specs.Tree.{Container, array, object, closing, letter_meaning}
@@ -149,8 +150,8 @@ container_of Square = array
 container_of Curly = object
 
 -- this byte closes the bracket
-abbrev pub is_closing : Bracket → ℕ → Bool
-is_closing bracket b = b == closing (container_of bracket)
+abbrev pub closes_bracket : Bracket → ℕ → Bool
+closes_bracket bracket b = b == closing (container_of bracket)
 
 -- what must come after a comma
 abbrev pub after_comma : Bracket → Mode
@@ -162,7 +163,7 @@ abbrev pub after_move : Option Bracket → ℕ → Move
 after_move None b = End
 after_move (Some bracket) b =
     if is_space b then To After
-    else (if is_closing bracket b then Close
+    else (if closes_bracket bracket b then Close
     else (if b == 44 then To (after_comma bracket)
     else Refuse))
 
@@ -216,7 +217,7 @@ first_move Curly b = name_begun b
 abbrev pub fresh_move : Option Bracket → ℕ → Move
 fresh_move None b = End
 fresh_move (Some bracket) b =
-    if is_space b then To Fresh else (if is_closing bracket b then Close else first_move bracket b)
+    if is_space b then To Fresh else (if closes_bracket bracket b then Close else first_move bracket b)
 
 -- ---- strings
 -- what comes behind a string

@@ -34,10 +34,10 @@ pub(crate) fn value_end(bytes: &[u8], at: usize) -> Result<usize, JsonFault>
     ensures fault { IfErr result (IsFirstFault bytes.now at) }
 {
     let mut machine = Machine::new();
-    let mut next = machine.stretch_end(bytes, at);
+    let mut next = machine.stay_end(bytes, at);
     while next < bytes.len() {
         match machine.step(bytes[next]) {
-            Step::On => next = machine.stretch_end(bytes, next + 1),
+            Step::On => next = machine.stay_end(bytes, next + 1),
             Step::Ended => return Ok(next),
             Step::Refused => return Err(machine.fault(Some(bytes[next]), next)),
         }

@@ -19,7 +19,7 @@ mod samples;
 mod scalar;
 mod scanning;
 mod sequence;
-mod stretch;
+mod staying;
 mod text;
 
 pub use build::{raw_array, raw_null, raw_object, raw_text, raw_truth, raw_whole};

@@ -26,19 +26,19 @@ returns-in-Refused-clause-fault c =
 
 pub loop-next-init : goal.loop-next-init
 loop-next-init c =
-    let within = c.stretch_end-next.ensures.within in
+    let within = c.stay_end-next.ensures.within in
     let none : c.args.at - c.args.at ≡ 0 = omega arith in
     let begun : run 128 start (take (c.args.at - c.args.at) (drop c.args.at c.args.bytes.now)) ≡ state c.new-machine.result.mode c.new-machine.result.brackets =
     rw (none, c.new-machine.ensures.mode, c.new-machine.ensures.brackets) refl in
     record {
       low = within.0;
       high = within.1;
-      runs = stayed c.args.bytes.now c.args.at c.args.at (omega arith) c.new-machine.result.mode c.new-machine.result.brackets begun c.stretch_end-next.result within.0 c.stretch_end-next.ensures.stays;
+      runs = stayed c.args.bytes.now c.args.at c.args.at (omega arith) c.new-machine.result.mode c.new-machine.result.brackets begun c.stay_end-next.result within.0 c.stay_end-next.ensures.stays;
     }
 
 pub loop-next-preserved : goal.loop-next-preserved
 loop-next-preserved c =
-    let within = c.stretch_end-next-in-On.ensures.within in
+    let within = c.stay_end-next-in-On.ensures.within in
     let read : run 128 start (take (c.loop-next.next + 1 - c.args.at) (drop c.args.at c.args.bytes.now)) ≡ state c.step.new.self.mode c.step.new.self.brackets =
     read_on c.args.bytes.now c.args.at c.loop-next.next c.loop-next.invariant.low c.loop-next.machine.mode c.loop-next.machine.brackets c.loop-next.invariant.runs
     (state c.step.new.self.mode c.step.new.self.brackets) c.loop-next-test.true c.in-On.ensures in
@@ -47,7 +47,7 @@ loop-next-preserved c =
       high = within.1;
       runs =
           stayed c.args.bytes.now c.args.at (c.loop-next.next + 1) (omega (arith, c.loop-next.invariant.low)) c.step.new.self.mode c.step.new.self.brackets read
-          c.stretch_end-next-in-On.result within.0 c.stretch_end-next-in-On.ensures.stays;
+          c.stay_end-next-in-On.result within.0 c.stay_end-next-in-On.ensures.stays;
     }
 
 pub returns-then-is_done-clause-found : goal.returns-then-is_done-clause-found

@@ -2,8 +2,8 @@ use Rattle.std.proofs.Common.{◌≡◌, sym, ◌∙◌}
 use Rattle.scene_json.specs.Characters.{is_space, is_digit}
 use Rattle.scene_json.specs.Machine.{is_bare, moved}
 use Rattle.scene_json.specs.declared.machine.Move.TheVariants.{To}
-use Rattle.scene_json.proofs.Stretches.{bare_stays, digit_stays, space_stays, passed_within, passed_all}
-use Rattle.scene_json.proofs.stretch.stretch_end.Goals as goal
+use Rattle.scene_json.proofs.Stays.{bare_stays, digit_stays, space_stays, passed_within, passed_all}
+use Rattle.scene_json.proofs.staying.stay_end.Goals as goal
 
 pub returns-then-keeps_bare-clause-within : goal.returns-then-keeps_bare-clause-within
 returns-then-keeps_bare-clause-within c = passed_within is_bare c.args.bytes.now c.args.at c.skip_bare.result c.requires c.skip_bare.ensures

@@ -13,7 +13,7 @@ use crate::number::Part;
 
 /// Where a stretch from `at` on ends whose bytes all leave the mode as it is: plain characters of a string, digits of a
 /// number, white space.
-pub(crate) fn stretch_end(mode: Mode, top: Option<Bracket>, bytes: &[u8], at: usize) -> usize
+pub(crate) fn stay_end(mode: Mode, top: Option<Bracket>, bytes: &[u8], at: usize) -> usize
     requires { at ≤ length bytes.now }
     ensures within { (at ≤ result) × (result ≤ length bytes.now) }
     ensures stays { AllByRecursion (λ b. moved mode top b ≡ To mode) (take (result - at) (drop at bytes.now)) }
