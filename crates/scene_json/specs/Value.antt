@@ -81,7 +81,7 @@ pub record IsStray (bytes : List ℕ) (n : ℕ) : Type 0 where
   pub longest : IsLongest bytes n
   pub inside : IsInString (take n bytes)
   pub byte : ℕ
-  pub is : slice_get bytes n ≡ Some byte
+  pub read : slice_get bytes n ≡ Some byte
   pub begins_none : (c : ℕ) (more : List ℕ) → IsScalar c → encode_utf8 c ≡ byte ∷ more → ⊥
 
 abbrev pub IsBadUtf8 : List ℕ → ℕ → Type 0

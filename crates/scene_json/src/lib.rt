@@ -20,6 +20,7 @@ mod samples;
 mod scalar;
 mod scanning;
 mod sequence;
+mod staying;
 mod stretch;
 mod text;
 mod texts;

@@ -1,5 +1,5 @@
 use Rattle.scene_json.proofs.Spellings.{alike-compact}
-use Rattle.scene_json.proofs.laws.spelling_plays_no_part.Goals as goal
+use Rattle.scene_json.proofs.laws.spelling_and_earlier_values_play_no_part.Goals as goal
 
 pub returns : goal.returns
 returns c = alike-compact
