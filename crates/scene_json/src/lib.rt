@@ -21,10 +21,13 @@ mod scanning;
 mod sequence;
 mod text;
 
-pub use build::{raw_array, raw_null, raw_object, raw_text, raw_truth, raw_whole};
+pub use build::{
+    push_member, push_quote, push_quoted, push_whole, raw_array, raw_null, raw_object, raw_of,
+    raw_text, raw_truth, raw_whole,
+};
 pub use end::skip_space;
 pub use fault::{JsonFault, Shape};
-pub use layout::pretty;
+pub use layout::{pretty, push_line, push_pretty};
 pub use nesting::depth_of;
 pub use parts::{items, members, text_of};
 pub use scalar::{GREATEST_WHOLE, is_null, truth_of, whole_of};

@@ -3,7 +3,7 @@ use Rattle.std.proofs.lemmas.List.{take_rest}
 use Rattle.std.proofs.lemmas.Grind.{common_steps}
 use Rattle.scene_json.specs.Characters.{quoted_byte}
 use Rattle.scene_json.proofs.Quoting.{quoted-step, quoted-None}
-use Rattle.scene_json.proofs.build.push_quoted.Goals as goal
+use Rattle.scene_json.proofs.build.push_escaped.Goals as goal
 
 pub loop-plain-preserved : goal.loop-plain-preserved
 loop-plain-preserved c =
