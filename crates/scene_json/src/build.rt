@@ -126,6 +126,7 @@ pub fn push_quoted(out: &mut Vec<u8>, characters: &str) -> Result<(), AllocError
 }
 
 /// Appends a number in digits. After want of memory a part of it may stand there.
+#[tactic(auto, using(crate::proofs::CompactLaws::decimal_nests))]
 pub fn push_whole(out: &mut Vec<u8>, number: u64) -> Result<(), AllocError>
     ensures ok { OnOk result (out.new.items ≡ out.old.items ++ decimal number) }
     ensures nests { IsCompact 0 (decimal number) }
