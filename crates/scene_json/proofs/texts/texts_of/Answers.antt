@@ -30,7 +30,8 @@ returns c =
     let all : AreQuotes c.as_slice-item-items.result.now c.loop-item.texts.items =
     rw (← take_all c.loop-item.item-index c.as_slice-item-items.result.now (omega arith)) c.loop-item.invariant in
     let made = quotes-texts c.as_slice-item-items.result.now c.loop-item.texts.items all in
-    rw c.from_vec.ensures
-    (((made.0, spelled ∙ ap array_text (sym c.as_slice-item-items.ensures ∙ made.1))),
-    λ others h. sym (quotes-only c.as_slice-item-items.result.now c.loop-item.texts.items others all h.0
-      (c.as_slice-item-items.ensures ∙ only (map quote others) (quotes-compact others h.0) h.1)))
+    rw c.from_vec.ensures (
+      ((made.0, spelled ∙ ap array_text (sym c.as_slice-item-items.ensures ∙ made.1))),
+      λ others h. sym (quotes-only c.as_slice-item-items.result.now c.loop-item.texts.items others all h.0
+          (c.as_slice-item-items.ensures ∙ only (map quote others) (quotes-compact others h.0) h.1)),
+    )
