@@ -16,7 +16,7 @@ bytes_eq-same a = (bytes_eq-Decides a a).1 refl
 pub bytes_eq-apart : (a b : List ℕ) → (a ≡ b → ⊥) → bytes_eq a b ≡ false
 bytes_eq-apart a b h = false_from_ne_true (bytes_eq a b) (λ e. h (bytes_eq-true a b e))
 
-bytes_eq-flip : (a b : List ℕ) → bytes_eq a b ≡ false → bytes_eq b a ≡ false
+pub bytes_eq-flip : (a b : List ℕ) → bytes_eq a b ≡ false → bytes_eq b a ≡ false
 bytes_eq-flip a b h = bytes_eq-apart b a (λ e. false≢true (sym h ∙ (rw e (bytes_eq-same a))))
 
 abbrev pub name_of : Member → List ℕ

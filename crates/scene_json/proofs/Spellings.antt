@@ -9,12 +9,9 @@ use Rattle.scene_json.specs.Compact.{Member, label_name, compact, members, array
 use Rattle.scene_json.specs.Parts.{names_of}
 use Rattle.scene_json.specs.Value.{Value, Stands}
 use Rattle.scene_json.specs.Alike.{AreAlike, AreItemsAlike, AreLastAlike, value_names, first_names, last_named}
-use Rattle.scene_json.proofs.Collapsed.{bytes_eq-true, bytes_eq-same, bytes_eq-apart}
+use Rattle.scene_json.proofs.Collapsed.{bytes_eq-true, bytes_eq-same, bytes_eq-flip}
 
 -- ---- members, each name once: its first place, its last value
-flip : (a b : List ℕ) → bytes_eq a b ≡ false → bytes_eq b a ≡ false
-flip a b e = bytes_eq-apart b a (λ same. let t : bytes_eq a b ≡ true = rw same (bytes_eq-same a) in cc)
-
 -- the name with its last value
 abbrev member_at : List Member → List ℕ → Member
 member_at ms name = (name, last_value name [] ms)
@@ -24,7 +21,7 @@ others_at : (name value : List ℕ) (ms : List Member) (names : List (List ℕ))
 others_at name value ms [] = refl
 others_at name value ms (n ∷ ns) = elim (cases_Bool (bytes_eq name n)) [
   | inl e ↦ rw e (others_at name value ms ns)
-  | inr e ↦ rw (e, flip name n e) (ap (λ (rest : List Member). (n, last_value n [] ms) ∷ rest) (others_at name value ms ns))
+  | inr e ↦ rw (e, bytes_eq-flip name n e) (ap (λ (rest : List Member). (n, last_value n [] ms) ∷ rest) (others_at name value ms ns))
 ]
 
 collapsed-at : (ms : List Member) → collapsed ms ≡ map (member_at ms) (first_names (names_of ms))
@@ -73,7 +70,7 @@ any-first_names name (n ∷ ns) = elim (cases_Bool (bytes_eq name n)) [
 ]
   where
     kept : bytes_eq name n ≡ false → (k : List ℕ) → bytes_eq name k ≡ true → not (bytes_eq n k) ≡ true
-    kept e k same = rw (← bytes_eq-true name k same, flip name n e) refl
+    kept e k same = rw (← bytes_eq-true name k same, bytes_eq-flip name n e) refl
 
 -- the value of the name's only member, seen from the other object
 seen : (name : List ℕ) (tree : Tree) (ws : Values) (n e : List ℕ) → bytes_eq n name ≡ true → list_any (bytes_eq n) (names_of (members ws)) ≡ true

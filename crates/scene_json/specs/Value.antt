@@ -43,7 +43,7 @@ pub record Begins (limit : ℕ) (bytes : List ℕ) : Type 0 where
   pub text : List ℕ
   pub parts : bytes ++ more ≡ blank ++ value
   pub space : is_blank blank ≡ true
-  pub is : Value limit value text
+  pub reads : Value limit value text
 
 -- the longest stretch at the front that some continuation makes a value has this length
 pub record IsLongest (bytes : List ℕ) (n : ℕ) : Type 0 where
