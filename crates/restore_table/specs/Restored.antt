@@ -54,3 +54,9 @@ pub record AreRestored (members restored : List Pair) : Type 0 where
   pub gone : value_at old_name restored ≡ None
   pub listing : value_at listing_name restored ≡ listing_at ids members
   pub others : (name : List ℕ) → name ≢ old_name → name ≢ listing_name → value_at name restored ≡ filled_at name members
+
+-- Each member of the table is there, and is null only if that is its default; and there is no old listing.
+pub record LackNothing (members : List Pair) : Type 0 where
+  pub gone : value_at old_name members ≡ None
+  pub there : (name default : List ℕ) → value_at name defaults ≡ Some default →
+      (value : List ℕ) × (value_at name members ≡ Some value) × (value ≡ null_word → default ≡ null_word)

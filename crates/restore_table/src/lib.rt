@@ -1,6 +1,7 @@
 //! The members that every element has, and what each is where it isn't given.
 #![tactic(auto)]
 
+pub mod laws;
 mod legacy;
 mod restoring;
 mod table;
