@@ -14,6 +14,7 @@ pub mod ItemsLeft
 pub mod Laid
 mod Limits
 pub mod Literals
+pub mod Lookups
 mod Machines
 pub mod MembersLeft
 mod Moves

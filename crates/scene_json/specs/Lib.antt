@@ -5,8 +5,10 @@ pub mod Faults
 pub mod Layout
 pub mod Machine
 pub mod Members
+pub mod Named
 pub mod Parts
 pub mod Passes
+pub mod TheOne
 pub mod Tree
 pub mod Value
 pub mod Walk

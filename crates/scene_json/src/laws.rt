@@ -1,9 +1,10 @@
 //! Laws on texts, for all bytes. They do nothing when they run.
 
-ghost use Rattle.std.specs.Prelude.{◌≡◌, ℕ, List, [], ◌∷◌, ◌++◌, true, bytes_eq};
-ghost use Rattle.std.specs.List.{list_any};
+ghost use Rattle.std.specs.Prelude.{◌≡◌, ℕ, List, [], ◌∷◌, ◌++◌, true, bytes_eq, IsPermutation};
+ghost use Rattle.std.specs.List.{list_any, IsDistinct};
 ghost use Rattle.scene_json.specs.Alike.{AreAlike};
 ghost use Rattle.scene_json.specs.Compact.{Member, compact, collapsed, object_text};
+ghost use Rattle.scene_json.specs.Named.{AreSameMembers, HaveRisingNames};
 ghost use Rattle.scene_json.specs.Parts.{names_of};
 ghost use Rattle.scene_json.specs.Tree.{Tree};
 ghost use Rattle.scene_json.specs.Value.{Value, Stands};
@@ -38,4 +39,17 @@ pub fn earlier_values_play_no_part()
     ensures { (before behind : List Member) (name value other : List ℕ)
         → list_any (bytes_eq name) (names_of behind) ≡ true
         → object_text (collapsed (before ++ (name, value) ∷ behind)) ≡ object_text (collapsed (before ++ (name, other) ∷ behind)) }
+{}
+
+/// The order of members of distinct names plays no part in what is found by a name.
+pub fn order_of_members_plays_no_part()
+    ensures { (members others : List Member)
+        → IsDistinct bytes_eq (names_of members) → IsPermutation members others → AreSameMembers members others }
+{}
+
+/// Members whose names rise have distinct names, and are told by what is found by each name.
+pub fn rising_members_are_unique()
+    ensures distinct { (members : List Member) → HaveRisingNames members → IsDistinct bytes_eq (names_of members) }
+    ensures unique { (members others : List Member)
+        → HaveRisingNames members → HaveRisingNames others → AreSameMembers members others → members ≡ others }
 {}

@@ -10,6 +10,7 @@ mod fault;
 pub mod laws;
 mod layout;
 mod machine;
+mod named;
 mod nesting;
 mod number;
 mod order;
@@ -25,6 +26,7 @@ pub use build::{raw_array, raw_null, raw_object, raw_text, raw_truth, raw_whole}
 pub use end::skip_space;
 pub use fault::{JsonFault, Shape};
 pub use layout::pretty;
+pub use named::{has_value, is_one_of, shaped, text_named, truth_named, value_named, whole_named};
 pub use nesting::depth_of;
 pub use parts::{items, members, text_of};
 pub use scalar::{GREATEST_WHOLE, is_null, truth_of, whole_of};

@@ -1,0 +1,89 @@
+//! Members of an object by their names.
+
+ghost use Rattle.std.specs.Prelude.{◌≡◌, ◌↔◌, ◌≤◌, ℕ, List as Items, Bool, Some, IfOk, IsTrue, if◌then◌else◌, decimal, option_copied, bytes_eq};
+ghost use Rattle.std.specs.List.{list_any};
+ghost use Rattle.std.specs.Str.{IsUtf8};
+ghost use Rattle.scene_json.specs.Characters.{quote};
+ghost use Rattle.scene_json.specs.Members.{pairs};
+ghost use Rattle.scene_json.specs.Named.{value_at};
+ghost use Rattle.scene_json.specs.TheOne.{IsTheOne};
+ghost use Rattle.scene_json.specs.Tree.{true_word, false_word};
+
+use crate::fault::Shape;
+use crate::parts::text_of;
+use crate::scalar::{GREATEST_WHOLE, truth_of, whole_of};
+use crate::text::{Member, Raw, Text};
+use board_io::{List, Stop};
+use std::alloc::{AllocError, Global};
+
+/// The value of the first member with this name, if there is one. It takes no memory.
+pub fn value_named<'a>(members: &'a List<Member>, name: &str) -> Option<&'a Raw>
+    ensures { option_copied result ≡ value_at name.now (pairs members.now) }
+{
+    for member in members.as_slice() {
+        if name.as_bytes() == member.name.as_bytes() {
+            return Some(&member.value);
+        }
+    }
+    None
+}
+
+/// Whether the first member with this name has the value of this compact text. It takes no memory.
+pub fn has_value(members: &List<Member>, name: &str, text: &str) -> bool
+    ensures { IsTrue result ↔ (value_at name.now (pairs members.now) ≡ Some text.now) }
+{
+    match value_named(members, name) {
+        Some(value) => value.as_bytes() == text.as_bytes(),
+        None => false,
+    }
+}
+
+/// The whole number that the member with this name is, if it is one. It takes no memory.
+pub fn whole_named(members: &List<Member>, name: &str) -> Option<u64>
+    ensures { IsTheOne
+        (λ (n : ℕ). (n ≤ GREATEST_WHOLE) × (value_at name.now (pairs members.now) ≡ Some (decimal n))) result }
+{
+    whole_of(value_named(members, name)?)
+}
+
+/// The truth that the member with this name is, if it is one. It takes no memory.
+pub fn truth_named(members: &List<Member>, name: &str) -> Option<bool>
+    ensures { IsTheOne (λ (truth : Bool).
+        value_at name.now (pairs members.now) ≡ Some (if truth then true_word else false_word)) result }
+{
+    truth_of(value_named(members, name)?)
+}
+
+/// The text that the member with this name is a string of, if it is one.
+pub fn text_named(
+    alloc: Global,
+    members: &List<Member>,
+    name: &str,
+) -> Result<Option<Text>, AllocError>
+    ensures { IfOk result (IsTheOne
+        (λ (text : Items ℕ). IsUtf8 text × (value_at name.now (pairs members.now) ≡ Some (quote text)))) }
+{
+    let Some(value) = value_named(members, name) else {
+        return Ok(None);
+    };
+    shaped(text_of(alloc, value))
+}
+
+/// What was found, or none where the value is of another form.
+pub fn shaped<T>(found: Result<T, Stop<Shape>>) -> Result<Option<T>, AllocError>
+    ensures found { (x : T) → result ≡ Ok (Some x) → found ≡ Ok x }
+    ensures none { result ≡ Ok None → found ≡ Err (Stop.Fault (record {})) }
+{
+    match found {
+        Ok(found) => Ok(Some(found)),
+        Err(Stop::Fault(Shape)) => Ok(None),
+        Err(Stop::Memory) => Err(AllocError),
+    }
+}
+
+/// Whether the name is one of these. It takes no memory.
+pub fn is_one_of(name: &[u8], names: &[&str]) -> bool
+    ensures { result ≡ list_any (λ known. bytes_eq name.now known.now) names.now }
+{
+    names.iter().any(|known| name == known.as_bytes())
+}
