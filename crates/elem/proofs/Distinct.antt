@@ -95,7 +95,7 @@ names_of-own e Iframe = refl
 names_of-own e Embeddable = refl
 names_of-own e (Other name) = refl
 
-names_of-header : (e : Drawn) → names_of (header_members e) ≡ header_names ++ own_names e.kind
+pub names_of-header : (e : Drawn) → names_of (header_members e) ≡ header_names ++ own_names e.kind
 names_of-header e = ap (λ own. header_names ++ own) (names_of-own e e.kind)
 
 not_header : (kind : Kind) (ys : List (List ℕ)) → AllByRecursion (λ y. is_header kind y ≡ false) ys → AllByRecursion (λ y. list_any (bytes_eq y) (header_names ++ own_names kind) ≡ false) ys
