@@ -1,12 +1,12 @@
 //! Laws on texts, for all bytes. They do nothing when they run.
 
-ghost use Rattle.std.specs.Prelude.{◌≡◌, ℕ, List, [], bytes_eq, IsPermutation};
+ghost use Rattle.std.specs.Prelude.{◌≡◌, ◌≤◌, ℕ, List, [], bytes_eq, IsPermutation};
 ghost use Rattle.std.specs.List.{IsDistinct};
 ghost use Rattle.scene_json.specs.Alike.{AreAlike};
 ghost use Rattle.scene_json.specs.Compact.{Member, compact};
 ghost use Rattle.scene_json.specs.Named.{AreSameMembers, HaveRisingNames};
 ghost use Rattle.scene_json.specs.Parts.{names_of};
-ghost use Rattle.scene_json.specs.Tree.{Tree};
+ghost use Rattle.scene_json.specs.Tree.{Tree, spelling, IsGood, depth};
 ghost use Rattle.scene_json.specs.Value.{Value, Stands};
 ghost use Rattle.scene_json.specs.Faults.{IsFaultOf};
 ghost use Rattle.scene_json.specs.declared.fault.JsonFault.{JsonFault};
@@ -32,7 +32,9 @@ pub fn value_is_read_whole()
 /// White space outside strings, the spelling of characters and the earlier values of repeated names, at any depth, play
 /// no part in the compact text.
 pub fn spelling_and_earlier_values_play_no_part()
-    ensures { (tree other : Tree) → AreAlike tree other → compact tree ≡ compact other }
+    ensures trees { (tree other : Tree) → AreAlike tree other → compact tree ≡ compact other }
+    ensures texts { (tree other : Tree) → IsGood tree → IsGood other → depth tree ≤ 128 → depth other ≤ 128
+        → AreAlike tree other → (text : List ℕ) × Stands (spelling tree) text [] × Stands (spelling other) text [] }
 {}
 
 /// The order of members of distinct names plays no part in what is found by a name.
