@@ -1,3 +1,4 @@
+pub mod Appended
 mod Backward
 pub mod Behind
 mod Closers

@@ -11,8 +11,8 @@ returns-in_err-place c =
     let past : length c.args.self.now ≤ c.args.i = omega (arith, count, c.deref.ensures.len, s.places.ok.0, c.in_err-place.ensures.lookup.3) in
     rw c.from_residual.ensures (sym (slice_get_past c.args.self.now c.args.i past))
 
-pub returns : goal.returns
-returns c =
+pub returns-clause-element : goal.returns-clause-element
+returns-clause-element c =
     let s = c.self.inside in
     let read = c.in_ok-place.ensures.lookup in
     get-read s.elements.items s.places.items c.args.i c.in_ok-place.field-0.now c.index.result.now c.self.invariant.within
