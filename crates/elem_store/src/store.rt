@@ -52,10 +52,18 @@ impl Store {
         let mut updates = updates.into_vec();
         updates.sort_by(|e, other| e.id.cmp(&other.id))?;
         let mut store = Store::new(alloc);
-        for e in updates {
-            store.take(e).map_err(|(_, error)| error)?;
-        }
+        store.take_each(updates)?;
         Ok(store)
+    }
+
+    /// Takes the updates in their order.
+    fn take_each(&mut self, elements: Vec<Element>) -> Result<(), AllocError>
+        ensures { OnOk result ((updates : Items Drawn) → AreStored updates self.old → AreStored (updates ++ elements.items) self.new) }
+    {
+        for e in elements {
+            self.take(e).map_err(|(_, error)| error)?;
+        }
+        Ok(())
     }
 
     /// Stores the element where its id is new or it beats the stored one, and tells whether it did. For want of memory
