@@ -47,3 +47,4 @@ pub mod MembersLeft
 pub mod Pairs
 pub mod Lookups
 pub mod Quotes
+pub mod Appended
