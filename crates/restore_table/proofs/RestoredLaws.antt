@@ -1,5 +1,5 @@
 -- Restored members.
-use Rattle.std.proofs.Common.{◌≡◌, ◌≢◌, ℕ, List, [], ◌∷◌, Bool, true, false, Option, Some, None, bytes_eq, map, refl, sym, subst, ap, ◌∙◌, inl, inr}
+use Rattle.std.proofs.Common.{◌≡◌, ◌≢◌, ℕ, List, [], ◌∷◌, false, Option, Some, None, bytes_eq, map, refl, sym, subst, ap, ◌∙◌, inl, inr}
 use Rattle.std.specs.List.Sorted.{IsPermutation}
 use Rattle.std.proofs.lemmas.Bool.{both_ways, cases_Bool, cond-true, cond-false}
 use Rattle.std.proofs.lemmas.Option.{none-some}

@@ -1,5 +1,5 @@
 -- The rows of the table: their names rise, and their defaults are compact texts.
-use Rattle.std.proofs.Common.{length, get_or, drop, map, bytes_eq, Some, ◌≡◌, ◌≢◌, ◌<◌, ℕ, zero, suc, List, [], ◌∷◌, Bool, true, ◌&&◌, None, codes, nat_cmp, is_lt, refl, sym, append-nil, inl, inr, Ordering, arith, IsUtf8}
+use Rattle.std.proofs.Common.{length, get_or, drop, map, bytes_eq, Some, ◌≡◌, ◌≢◌, ◌<◌, ℕ, zero, suc, List, [], ◌∷◌, Bool, true, ◌&&◌, None, codes, nat_cmp, is_lt, refl, sym, append-nil, inl, inr, Ordering, arith}
 use Rattle.std.specs.Cmp.Lexicographic.{slice_cmp}
 use Rattle.std.specs.List.{AllByRecursion, list_all}
 use Rattle.std.specs.Prelude.{nat_lt}
@@ -11,10 +11,10 @@ use Rattle.std.proofs.lemmas.Str.{IsUtf8-from_ascii}
 use Rattle.scene_json.specs.Characters.{quote, is_digit}
 use Rattle.scene_json.specs.Compact.{Member as Pair, array_text}
 use Rattle.scene_json.specs.Named.{value_at, HaveRisingNames}
-use Rattle.scene_json.specs.Tree.{null_word, false_word, IsNumber}
+use Rattle.scene_json.specs.Tree.{null_word, false_word}
 use Rattle.scene_json.specs.Value.{IsCompact}
 use Rattle.scene_json.proofs.CompactLaws.{quote-compact, literal-compact, array-compact}
-use Rattle.scene_json.proofs.Lookups.{IsBelow, IsBelow-less, rising_from, rising_none, rising_parts}
+use Rattle.scene_json.proofs.Lookups.{IsBelow-less, rising_from, rising_none, rising_parts}
 use Rattle.restore_table.specs.declared.table.Row.{Row}
 use Rattle.restore_table.specs.Merged.{row_pair}
 use Rattle.restore_table.specs.Table.{defaults}

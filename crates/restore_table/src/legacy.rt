@@ -8,7 +8,7 @@ ghost use Rattle.scene_json.specs.Members.{pairs};
 ghost use Rattle.scene_json.specs.TheOne.{IsTheOne};
 ghost use Rattle.scene_json.specs.Value.{IsCompact};
 ghost use Rattle.restore_table.specs.Merged.{AreUpdated, AreOldIds};
-ghost use Rattle.restore_table.specs.Restored.{arrow_text, listing_text};
+ghost use Rattle.restore_table.specs.Restored.{arrow_text, listing_name, listing_text};
 
 use board_io::List;
 use scene_json::{Member, Raw, Text, raw_array, raw_object, raw_text, texts_of, value_named};
@@ -45,7 +45,7 @@ fn with_listing(
     listing: Raw,
 ) -> Result<Vec<Member>, AllocError>
     ensures { IfOk result (λ all. pairs all.items
-        ≡ filter (is_other (codes "boundElements")) (pairs members.items) ++ (codes "boundElements", listing) ∷ []) }
+        ≡ filter (is_other listing_name) (pairs members.items) ++ (listing_name, listing) ∷ []) }
 {
     let mut all = without(members, LISTING);
     all.push(Member::named(alloc, LISTING, listing)?)?;

@@ -1,8 +1,4 @@
 -- The items nest once.
-use Rattle.std.proofs.Common.{All, arith}
-use Rattle.std.proofs.lemmas.List.Elements.{All-weaker}
-use Rattle.scene_json.specs.Value.{IsCompact}
-use Rattle.scene_json.proofs.CompactLaws.{Value-deeper}
 use Rattle.restore_table.proofs.legacy.arrows_raw.Goals as goal
 
 pub returns-clause-nests : goal.returns-clause-nests

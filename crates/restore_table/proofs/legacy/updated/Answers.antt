@@ -3,7 +3,7 @@ use Rattle.std.proofs.Common.{◌≡◌, ℕ, Vec, Global, All, List, [], ◌∷
 use Rattle.std.specs.List.{IsDistinct}
 use Rattle.std.specs.Option.{option_map}
 use Rattle.std.proofs.lemmas.Result.{IfOk-weaker}
-use Rattle.scene_json.specs.Compact.{Member as Pair, is_other}
+use Rattle.scene_json.specs.Compact.{is_other}
 use Rattle.scene_json.specs.Members.{pairs}
 use Rattle.scene_json.specs.Parts.{names_of}
 use Rattle.scene_json.specs.TheOne.{IsTheOne}

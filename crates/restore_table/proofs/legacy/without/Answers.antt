@@ -1,5 +1,5 @@
 -- What is kept are the members that the test keeps.
-use Rattle.std.proofs.Common.{◌≡◌, ℕ, List, [], ◌∷◌, Bool, not, map, filter, bytes_eq, refl, ap, ◌∙◌, rules, cond, true, false}
+use Rattle.std.proofs.Common.{◌≡◌, ℕ, List, [], ◌∷◌, not, filter, bytes_eq, refl, ap, ◌∙◌, rules, cond, true, false}
 use Rattle.std.proofs.lemmas.Fn.{filter_same}
 use Rattle.scene_json.specs.Compact.{is_other}
 use Rattle.scene_json.specs.Members.{pairs, pair_of}

@@ -1,10 +1,10 @@
-use Rattle.std.proofs.Common.{◌≡◌, ℕ, ◌≤◌, List, All, bytes_eq, map, nat_cmp, is_lt, rules, arith, sym, subst, ap, ◌∙◌, Bool}
+-- The sort makes the names rise, and the table is merged between them.
+use Rattle.std.proofs.Common.{bytes_eq, nat_cmp, is_lt, rules, subst, ap, ◌∙◌, Bool}
 use Rattle.std.specs.Cmp.Lexicographic.{slice_cmp, nat_list_cmp_total}
 use Rattle.std.specs.List.{IsDistinct}
-use Rattle.std.specs.List.Sorted.{IsSortedBy, IsPermutation}
+use Rattle.std.specs.List.Sorted.{IsSortedBy}
 use Rattle.std.proofs.lemmas.List.Sorted.{ranks_by, answers_always, All-permutation, IsPermutation-map}
 use Rattle.scene_json.specs.Members.{pairs, pair_of}
-use Rattle.scene_json.specs.Parts.{names_of}
 use Rattle.scene_json.specs.Value.{IsCompact}
 use Rattle.scene_json.specs.declared.text.Member.{Member}
 use Rattle.scene_json.proofs.Lookups.{distinct_moved, rising_from_sort}

@@ -1,3 +1,4 @@
+-- The default of the row that is found is that of its name.
 use Rattle.std.proofs.Common.{◌∙◌, sym, ap, arith, bytes_eq, Some}
 use Rattle.scene_json.specs.Named.{value_at}
 use Rattle.restore_table.proofs.Rows.{row-found}
