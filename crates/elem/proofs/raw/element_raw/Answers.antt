@@ -19,9 +19,12 @@ returns-clause-text c = c.raw_of.ensures ∙ written (goal.at.returns-clause-tex
 pub returns-clause-sorted : goal.returns-clause-sorted
 unfolding element_members
 returns-clause-sorted c =
-    let e = c.args.e.now in
-    (element_members e, c.raw_of.ensures ∙ written (goal.at.returns-clause-sorted c).In_ok-push_element,
-      IsPermutation-sorted (header_members e ++ pairs e.rest), c.in_ok-push_element.ensures.rise)
+    let e = c.args.e.now in (
+      element_members e,
+      c.raw_of.ensures ∙ written (goal.at.returns-clause-sorted c).In_ok-push_element,
+      IsPermutation-sorted (header_members e ++ pairs e.rest),
+      c.in_ok-push_element.ensures.rise,
+    )
 
 pub returns-clause-nests : goal.returns-clause-nests
 returns-clause-nests c =
