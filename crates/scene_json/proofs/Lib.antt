@@ -24,6 +24,8 @@ mod Onward
 pub mod Pairs
 mod Passing
 mod Places
+mod Placing
+mod QuotedNames
 pub mod Quoting
 pub mod Reading
 mod Rests
@@ -39,3 +41,4 @@ pub mod Turns
 mod Unrolled
 mod ValueRuns
 pub mod Walks
+mod Writing

@@ -7,6 +7,7 @@ pub mod Machine
 pub mod Members
 pub mod Parts
 pub mod Passes
+pub mod Places
 pub mod Stretches
 pub mod Tree
 pub mod Value

@@ -2,15 +2,16 @@ use Rattle.std.proofs.Common.{◌≡◌, ◌<◌, ◌≤◌, ◌+◌, ◌-◌, �
 use Rattle.std.proofs.lemmas.Bool.{eqb-false}
 use Rattle.std.proofs.lemmas.Result.{IfOk-weaker}
 use Rattle.std.proofs.lemmas.List.Sums.{prefix_len-le-length}
-use Rattle.indexmap.specs.IndexMap.{insert_entry}
-use Rattle.scene_json.specs.Characters.{is_space}
+use Rattle.scene_json.specs.Characters.{is_space, quote}
 use Rattle.scene_json.specs.Tree.{Values, array, object}
 use Rattle.scene_json.specs.Compact.{object_text}
 use Rattle.scene_json.specs.Value.{IsCompact}
-use Rattle.scene_json.specs.Walk.{AppendsValue, Filled, Literal, items_text}
+use Rattle.scene_json.specs.Walk.{AppendsValue, Filled, Literal, Quoted, items_text}
 use Rattle.scene_json.proofs.CompactLaws.{Value-compact}
-use Rattle.scene_json.proofs.Walks.{At-Stands, At-Literal, stands-skip}
-use Rattle.scene_json.proofs.Turns.{items-turn, items-stands, members-name, members-value, members-turn, at-inside, stands-inside, container-inside, empty-of, filled-of, array-items, collapsed-some, appends-behind}
+use Rattle.scene_json.proofs.Walks.{At-Stands, At-Literal, At-String, stands-skip}
+use Rattle.scene_json.proofs.Contents.{front}
+use Rattle.scene_json.proofs.Writing.{Written, Wrote, Step, step, written-starts}
+use Rattle.scene_json.proofs.Turns.{items-turn, items-stands, at-inside, stands-inside, container-inside, empty-of, filled-of, array-items, collapsed-some, appends-behind}
 use Rattle.scene_json.proofs.compacting.+compact.Goals as goal
 
 -- ---- values
@@ -21,9 +22,10 @@ pub push_compact-bounds-bytes-start : goal.push_compact-bounds-bytes-start
 push_compact-bounds-bytes-start t c =
     at-inside c.args.bytes.now c.skip_space-start.result (stands-skip c.args.bytes.now c.args.at c.skip_space-start.result c.requires.2 c.skip_space-start.ensures)
 
-pub push_compact-push_string-requires-clause-stands : goal.push_compact-push_string-requires-clause-stands
-push_compact-push_string-requires-clause-stands t c =
-    (_, _, At-Stands (stands-skip c.args.bytes.now c.args.at c.skip_space-start.result c.requires.2 c.skip_space-start.ensures))
+pub push_compact-push_string-requires : goal.push_compact-push_string-requires
+push_compact-push_string-requires t c =
+    let s = At-String (stands-skip c.args.bytes.now c.args.at c.skip_space-start.result c.requires.2 c.skip_space-start.ensures) (front c.args.bytes.now c.skip_space-start.result c.in-34.is) in
+    (s.content, _, s.quoted)
 
 pub push_compact-push_array-requires : goal.push_compact-push_array-requires
 push_compact-push_array-requires t c =
@@ -44,7 +46,14 @@ push_compact-push_literal-requires t c = (
 
 pub push_compact-returns-in-34-clause-ok : goal.push_compact-returns-in-34-clause-ok
 push_compact-returns-in-34-clause-ok t c =
-    IfOk-weaker _ _ _ (λ end. appends-behind c.args.bytes.now c.args.at c.skip_space-start.result end c.args.out.now.items c.push_string.new.out.items c.skip_space-start.ensures) c.push_string.ensures.ok
+    let step : (end : ℕ) → ((text rest : List ℕ) → Quoted (drop c.skip_space-start.result c.args.bytes.now) text rest →
+    (c.push_string.new.out.items ≡ c.args.out.now.items ++ quote text) × (drop end c.args.bytes.now ≡ rest)) →
+    AppendsValue c.args.bytes.now c.args.at end c.args.out.now.items c.push_string.new.out.items =
+    λ end all text rest stands.
+    let s = At-String (stands-skip c.args.bytes.now c.args.at c.skip_space-start.result stands c.skip_space-start.ensures) (front c.args.bytes.now c.skip_space-start.result c.in-34.is) in
+    let done = all s.content rest s.quoted in
+    (done.0 ∙ ap (λ x. c.args.out.now.items ++ x) s.means, done.1) in
+    IfOk-weaker _ _ _ step c.push_string.ensures.ok
 
 pub push_compact-returns-in-91-clause-ok : goal.push_compact-returns-in-91-clause-ok
 push_compact-returns-in-91-clause-ok t c =
@@ -137,68 +146,9 @@ push_object-returns-then-bytes-first-eq125-clause-ok t c text rest stands =
     let e = empty-of object c.args.bytes.now c.args.at c.skip_space-first.result stands c.requires.first c.skip_space-first.ensures c.if-bytes-first-eq125.true in
     (c.in_ok-extend_from_slice.ensures.items ∙ ap (λ s. c.args.out.now.items ++ s) e.0, e.1)
 
-pub push_object-collapsed_members-requires : goal.push_object-collapsed_members-requires
-push_object-collapsed_members-requires t c =
+pub push_object-push_members-requires : goal.push_object-push_members-requires
+push_object-push_members-requires t c =
     let inside = container-inside object c.args.bytes.now c.args.at c.skip_space-first.result c.requires.stands.2 c.requires.first c.skip_space-first.ensures in
     let smaller : 3 * (length c.args.bytes.now - (c.args.at + 1)) + 2 < t = omega arith in
     let f = filled-of object c.args.bytes.now c.args.at c.skip_space-first.result c.requires.stands.2 c.requires.first c.skip_space-first.ensures c.if-bytes-first-eq125.false in
     (smaller, (f.0, _, f.1))
-
-pub push_object-push_members-requires : goal.push_object-push_members-requires
-push_object-push_members-requires t c =
-    let f = filled-of object c.args.bytes.now c.args.at c.skip_space-first.result c.requires.stands.2 c.requires.first c.skip_space-first.ensures c.if-bytes-first-eq125.false in
-    rw (c.in_ok-members.ensures.ok f.0 _ f.1).0 (collapsed-some f.0)
-
-pub push_object-returns-clause-ok : goal.push_object-returns-clause-ok
-push_object-returns-clause-ok t c text rest stands =
-    let f = filled-of object c.args.bytes.now c.args.at c.skip_space-first.result stands c.requires.first c.skip_space-first.ensures c.if-bytes-first-eq125.false in
-    let found = c.in_ok-members.ensures.ok f.0 rest f.1 in
-    (c.in_ok-push_members.ensures ∙ ap (λ ms. c.args.out.now.items ++ object_text ms) found.0 ∙ ap (λ s. c.args.out.now.items ++ s) f.2, found.1)
-
-pub collapsed_members-content_of-requires : goal.collapsed_members-content_of-requires
-collapsed_members-content_of-requires t c =
-    members-name c.args.bytes.now c.args.at c.loop-members.next c.skip_space.result c.loop-members.invariant c.requires.2 c.skip_space.ensures
-
-pub collapsed_members-overflow_add-skip_space : goal.collapsed_members-overflow_add-skip_space
-collapsed_members-overflow_add-skip_space t c =
-    omega (arith, c.in_ok-name.ensures.within.1, c.skip_space-in-loop-members.ensures, prefix_len-le-length is_space (drop c.in_ok-name.colon c.args.bytes.now), length-drop c.in_ok-name.colon c.args.bytes.now)
-
-pub collapsed_members-push_compact-requires : goal.collapsed_members-push_compact-requires
-collapsed_members-push_compact-requires t c =
-    let value = members-value _ _ _ _ _ _ _ c.loop-members.invariant c.requires.2 c.skip_space.ensures c.in_ok-name.ensures.found c.skip_space-in-loop-members.ensures in
-    let smaller : 3 * (length c.args.bytes.now - (c.skip_space-in-loop-members.result + 1)) + 1 < t =
-    omega (arith, c.loop-members.invariant.begun, c.in_ok-name.ensures.within.0, value.0) in
-    (smaller, value.1)
-
-pub collapsed_members-from_compact-requires : goal.collapsed_members-from_compact-requires
-collapsed_members-from_compact-requires t c =
-    let value = members-value _ _ _ _ _ _ _ c.loop-members.invariant c.requires.2 c.skip_space.ensures c.in_ok-name.ensures.found c.skip_space-in-loop-members.ensures in
-    let wrote = c.in_ok-end.ensures.ok _ _ value.1.2 in
-    subst (IsCompact 128) (sym (wrote.0 ∙ ap (λ s. s ++ value.1.0) c.new-value.ensures.items)) (Value-compact value.1.2.is)
-
-pub collapsed_members-bounds-bytes-mark : goal.collapsed_members-bounds-bytes-mark
-collapsed_members-bounds-bytes-mark t c =
-    (members-turn _ _ _ _ _ _ _ _ _ _ _ _ _ c.loop-members.invariant c.skip_space.ensures c.in_ok-name.ensures.found c.skip_space-in-loop-members.ensures c.new-value.ensures.items c.in_ok-end.ensures.ok
-    c.skip_space-mark.ensures refl _ _ c.requires.2).0
-
-pub collapsed_members-overflow_add-next : goal.collapsed_members-overflow_add-next
-collapsed_members-overflow_add-next t c =
-    omega (arith, c.in_ok-end.ensures.within.1, c.skip_space-mark.ensures, prefix_len-le-length is_space (drop c.in_ok-end.end c.args.bytes.now), length-drop c.in_ok-end.end c.args.bytes.now)
-
-pub collapsed_members-returns-then-bytes-mark-eq125-clause-ok : goal.collapsed_members-returns-then-bytes-mark-eq125-clause-ok
-collapsed_members-returns-then-bytes-mark-eq125-clause-ok t c values rest f =
-    let turn = members-turn _ _ _ _ _ _ _ _ _ _ _ _ _ c.loop-members.invariant c.skip_space.ensures c.in_ok-name.ensures.found c.skip_space-in-loop-members.ensures c.new-value.ensures.items c.in_ok-end.ensures.ok
-    c.skip_space-mark.ensures (c.in_ok-insert.ensures.entries ∙ ap (λ v. insert_entry bytes_eq c.loop-members.members.entries c.in_ok-name.name v) c.from_compact.ensures) values rest f in
-    ⊎_elim (λ h. (h.1, h.2)) (λ h. absurd (eqb-false 125 44 refl (sym c.if-bytes-mark-eq125.true ∙ h.0))) turn.1
-
-pub collapsed_members-loop-members-preserved : goal.collapsed_members-loop-members-preserved
-collapsed_members-loop-members-preserved t c =
-    let turn = members-turn _ _ _ _ _ _ _ _ _ _ _ _ _ c.loop-members.invariant c.skip_space.ensures c.in_ok-name.ensures.found c.skip_space-in-loop-members.ensures c.new-value.ensures.items c.in_ok-end.ensures.ok
-    c.skip_space-mark.ensures (c.in_ok-insert.ensures.entries ∙ ap (λ v. insert_entry bytes_eq c.loop-members.members.entries c.in_ok-name.name v) c.from_compact.ensures) in
-    let inside : c.skip_space-mark.result < length c.args.bytes.now = (turn _ _ c.requires.2).0 in
-    let forward : c.args.at ≤ c.skip_space-mark.result + 1 = omega (arith, c.loop-members.invariant.begun, c.in_ok-name.ensures.within.0, c.in_ok-end.ensures.within.0) in
-    record {
-      begun = forward;
-      within = omega arith;
-      split = λ vs rest f. ⊎_elim (λ h. absurd (c.if-bytes-mark-eq125.false h.0)) (λ h. h.1) (turn vs rest f).1;
-    }
