@@ -7,6 +7,8 @@ use Rattle.scene_json.specs.Characters.{is_space, quote}
 use Rattle.scene_json.specs.Tree.{Values, object}
 use Rattle.scene_json.specs.Compact.{Member, content, compact, members, label_name}
 use Rattle.scene_json.specs.Places.{cut, entry, entries, IsWithin, AreWithin, quoted, joined}
+use Rattle.std.proofs.lemmas.Bool.{eqb-false}
+use Rattle.scene_json.specs.Value.{Stands}
 use Rattle.scene_json.specs.Walk.{Quoted, Filled, AppendsValue}
 use Rattle.scene_json.specs.declared.collapsing.Span.{Span}
 use Rattle.scene_json.specs.declared.collapsing.Place.{Place}
@@ -28,7 +30,11 @@ entries-append bytes more (p ∷ ps) within =
     (entries-append bytes more ps (All-tail (λ (q : Place). IsWithin (length bytes) q.name × IsWithin (length bytes) q.value) p ps within))
 
 pub AreWithin-more : (size more : ℕ) (places : List Place) → size ≤ more → AreWithin size places → AreWithin more places
-AreWithin-more size more places grows within = All-weaker _ _ (λ (p : Place) (h : IsWithin size p.name × IsWithin size p.value). ((h.0.0, omega (arith, h.0.1)), (h.1.0, omega (arith, h.1.1)))) places within
+AreWithin-more size more places grows within =
+    let P : Place → Type 0 = λ p. IsWithin size p.name × IsWithin size p.value in
+    let Q : Place → Type 0 = λ p. IsWithin more p.name × IsWithin more p.value in
+    let wider : (p : Place) → P p → Q p = λ p h. ((h.0.0, omega (arith, h.0.1)), (h.1.0, omega (arith, h.1.1))) in
+    All-weaker P Q wider places within
 
 -- what was written last
 cut-at : (before s after : List ℕ) (start end : ℕ) → start ≡ length before → end ≡ length (before ++ s) → cut ((before ++ s) ++ after) (record { start = start; end = end }) ≡ s
@@ -69,6 +75,8 @@ pub record Step (bytes : List ℕ) (place mark closed : ℕ) (out behind named s
   pub others : List Member
   pub wrote : done ++ joined 44 others ≡ out ++ joined mark (map quoted (members left))
   pub placed : entries done (placed_at places behind named signed done) ++ others ≡ entries out places ++ map quoted (members left)
+  pub longer : length out ≤ length done
+  pub fits : AreWithin (length done) (placed_at places behind named signed done)
   pub goes : ((get_or bytes closed 0 ≡ 125) × (others ≡ []) × (drop (closed + 1) bytes ≡ rest))
       ⊎ ((get_or bytes closed 0 ≡ 44) × ((more : Values) × Filled object (drop (closed + 1) bytes) more rest × (others ≡ map quoted (members more))))
 
@@ -105,11 +113,21 @@ step bytes place mark start colon sign end closed out behind named signed done p
     let put : (others : List Member) → map quoted (members left) ≡ pair ∷ others → entries done (places ++ new ∷ []) ++ others ≡ entries out places ++ map quoted (members left) =
     λ others mine. ap (λ ms. ms ++ others) (map-append (entry done) places (new ∷ []) ∙ ap₂ (λ (ms : List Member) (x : Member). ms ++ x ∷ []) old here)
     ∙ append_assoc (entries out places) (pair ∷ []) others ∙ ap (λ ms. entries out places ++ ms) (sym mine) in
+    let grows : (length out ≤ length behind) × (length behind ≤ length named) × (length named ≤ length signed) × (length signed ≤ length done) = (
+      omega (arith, ap length w.marked, length-append out (mark ∷ [])),
+      omega (arith, ap length n.0, length-append behind N),
+      omega (arith, ap length w.colons, length-append named (58 ∷ [])),
+      omega (arith, ap length a.0, length-append signed V),
+    ) in
+    let more : length out ≤ length done = omega (arith, grows) in
+    let P : Place → Type 0 = λ p. IsWithin (length done) p.name × IsWithin (length done) p.value in
+    let fits : AreWithin (length done) (places ++ new ∷ []) =
+    All-push P places new (AreWithin-more (length out) (length done) places more within) ((grows.1, omega (arith, grows)), (grows.3, omega arith)) in
     let label : quote (label_name t.label) ≡ N = ap (λ l. quote (label_name l)) g.is in
     ⊎_elim
     (λ h.
     let mine : map quoted (members left) ≡ pair ∷ [] = ap (map quoted) h.2 ∙ ap (λ (x : List ℕ). let q : Member = (x, V) in q ∷ []) label in
-    record { inside = inside-after bytes closed m; others = []; wrote = wrote [] mine; placed = put [] mine; goes = inl (byte ∙ h.0, refl, after ∙ h.1) })
+    record { inside = inside-after bytes closed m; others = []; wrote = wrote [] mine; placed = put [] mine; longer = more; fits = fits; goes = inl (byte ∙ h.0, refl, after ∙ h.1) })
     (λ h.
     let others = map quoted (members h.1.0) in
     let mine : map quoted (members left) ≡ pair ∷ others = ap (map quoted) h.1.2 ∙ ap (λ (x : List ℕ). let q : Member = (x, V) in q ∷ others) label in
@@ -118,6 +136,69 @@ step bytes place mark start colon sign end closed out behind named signed done p
       others = others;
       wrote = wrote others mine;
       placed = put others mine;
+              longer = more;
+              fits = fits;
       goes = inr (byte ∙ h.0, (h.1.0, subst (λ x. Filled object x h.1.0 rest) (sym after) h.1.1, refl));
     })
     t.goes
+
+-- where the name and the value of the member stand that comes next
+pub name-stands : (bytes : List ℕ) (place start : ℕ) (left : Values) (rest : List ℕ) → Filled object (drop place bytes) left rest →
+    start ≡ place + prefix_len is_space (drop place bytes) → (text after : List ℕ) × Quoted (drop start bytes) text after
+name-stands bytes place start left rest f is = let g = field f in (content g.name, g.between ++ 58 ∷ value_part g, field-quoted bytes place start g is)
+
+pub value-stands : (bytes : List ℕ) (place start colon sign : ℕ) (behind named : List ℕ) → start ≡ place + prefix_len is_space (drop place bytes) →
+    ((text rest : List ℕ) → Quoted (drop start bytes) text rest → (named ≡ behind ++ quote text) × (drop colon bytes ≡ rest)) →
+    sign ≡ colon + prefix_len is_space (drop colon bytes) → (left : Values) (rest : List ℕ) → Filled object (drop place bytes) left rest →
+    (sign < length bytes) × ((text after : List ℕ) × Stands (drop (sign + 1) bytes) text after)
+value-stands bytes place start colon sign behind named space name blank left rest f =
+    let g = field f in
+    let n = name (content g.name) (g.between ++ 58 ∷ value_part g) (field-quoted bytes place start g space) in
+    let e : drop sign bytes ≡ 58 ∷ value_part g = skip-to bytes colon sign g.between (58 ∷ value_part g) g.labelled.2 refl n.1 blank in
+    (inside-after bytes sign e, (compact g.turn.value, g.turn.blank ++ g.turn.mark ∷ g.turn.tail, field-value bytes sign g e))
+
+-- the places by the lengths that were taken
+pub placed-same : (places : List Place) (before name colon out : List ℕ) (a b c d : ℕ) → a ≡ length before → b ≡ length name → c ≡ length colon → d ≡ length out →
+    places ++ record { name = record { start = a; end = b }; value = record { start = c; end = d } } ∷ [] ≡ placed_at places before name colon out
+placed-same places before name colon out a b c d e f g h = rw (e, f, g, h) refl
+
+-- one member more, and the last one
+pub written-more : (bytes : List ℕ) (at place mark start colon sign end closed : ℕ) (before out behind named signed done : List ℕ) (places : List Place) →
+    Written bytes at place mark before out places → Wrote bytes place mark start colon sign end closed out behind named signed done →
+    (vs : Values) (rest : List ℕ) → Filled object (drop at bytes) vs rest → at ≤ closed → (get_or bytes closed 0 ≡ 125 → ⊥) →
+    Written bytes at (closed + 1) 44 before done (placed_at places behind named signed done)
+written-more bytes at place mark start colon sign end closed before out behind named signed done places loop w values behind_all filled forward open =
+    let turn : (vs : Values) (rest : List ℕ) (f : Filled object (drop at bytes) vs rest) → Step bytes place mark closed out behind named signed done places (loop.split vs rest f).0 rest =
+    λ vs rest f. step bytes place mark start colon sign end closed out behind named signed done places loop.placed w (loop.split vs rest f).0 rest (loop.split vs rest f).1 in
+    let one = turn values behind_all filled in
+    record {
+      begun = omega arith;
+      within = omega (arith, one.inside);
+      placed = one.fits;
+      split = λ vs rest f.
+          let s = loop.split vs rest f in
+          let t = turn vs rest f in
+          ⊎_elim (λ h. absurd (open h.0)) (λ h. (
+            h.1.0,
+            h.1.1,
+            ap (λ ms. done ++ joined 44 ms) (sym h.1.2) ∙ t.wrote ∙ s.2,
+            ap (λ ms. entries done (placed_at places behind named signed done) ++ ms) (sym h.1.2) ∙ t.placed ∙ s.3,
+          )) t.goes;
+    }
+
+pub written-all : (bytes : List ℕ) (at place mark start colon sign end closed : ℕ) (before out behind named signed done last : List ℕ) (places : List Place) →
+    Written bytes at place mark before out places → Wrote bytes place mark start colon sign end closed out behind named signed done →
+    last ≡ done ++ 125 ∷ [] → get_or bytes closed 0 ≡ 125 → (vs : Values) (rest : List ℕ) → Filled object (drop at bytes) vs rest →
+    (last ≡ before ++ joined 123 (map quoted (members vs))) × (entries last (placed_at places behind named signed done) ≡ map quoted (members vs)) × (drop (closed + 1) bytes ≡ rest)
+written-all bytes at place mark start colon sign end closed before out behind named signed done last places loop w pushed closes vs rest f =
+    let s = loop.split vs rest f in
+    let t = step bytes place mark start colon sign end closed out behind named signed done places loop.placed w s.0 rest s.1 in
+    let all = placed_at places behind named signed done in
+    ⊎_elim
+        (λ h. (
+          pushed ∙ ap (λ ms. done ++ joined 44 ms) (sym h.1) ∙ t.wrote ∙ s.2,
+          ap (λ l. entries l all) pushed ∙ entries-append done (125 ∷ []) all t.fits ∙ sym (append-nil (entries done all)) ∙ ap (λ ms. entries done all ++ ms) (sym h.1) ∙ t.placed ∙ s.3,
+          h.2,
+        ))
+        (λ h. absurd (eqb-false 125 44 refl (sym closes ∙ h.0)))
+        t.goes
