@@ -167,7 +167,7 @@ pub written-more : (bytes : List ℕ) (at place mark start colon sign end closed
     Written bytes at place mark before out places → Wrote bytes place mark start colon sign end closed out behind named signed done →
     (vs : Values) (rest : List ℕ) → Filled object (drop at bytes) vs rest → at ≤ closed → (get_or bytes closed 0 ≡ 125 → ⊥) →
     Written bytes at (closed + 1) 44 before done (placed_at places behind named signed done)
-written-more bytes at place mark start colon sign end closed before out behind named signed done places loop w values behind_all filled forward open =
+written-more bytes at place mark start colon sign end closed before out behind named signed done places loop w values behind_all filled forward goes_on =
     let turn : (vs : Values) (rest : List ℕ) (f : Filled object (drop at bytes) vs rest) → Step bytes place mark closed out behind named signed done places (loop.split vs rest f).0 rest =
     λ vs rest f. step bytes place mark start colon sign end closed out behind named signed done places loop.placed w (loop.split vs rest f).0 rest (loop.split vs rest f).1 in
     let one = turn values behind_all filled in
@@ -178,7 +178,7 @@ written-more bytes at place mark start colon sign end closed before out behind n
       split = λ vs rest f.
           let s = loop.split vs rest f in
           let t = turn vs rest f in
-          ⊎_elim (λ h. absurd (open h.0)) (λ h. (
+          ⊎_elim (λ h. absurd (goes_on h.0)) (λ h. (
             h.1.0,
             h.1.1,
             ap (λ ms. done ++ joined 44 ms) (sym h.1.2) ∙ t.wrote ∙ s.2,
