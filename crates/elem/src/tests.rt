@@ -52,7 +52,7 @@ fn literal(alloc: Global, value: &str) -> Result<Raw, AllocError>
 }
 
 /// Members of these names and values.
-fn rest(alloc: Global, rows: &[(&'static str, &str)]) -> Result<List<Member>, AllocError>
+fn rest(alloc: Global, rows: &[(&str, &str)]) -> Result<List<Member>, AllocError>
     ensures names { IfOk result (λ list. names list ≡ map (λ row. row.0.now) rows.now) }
     ensures nest { IfOk result (λ list. All (λ member. IsCompact 0 member.value) list) }
 {

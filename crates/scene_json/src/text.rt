@@ -169,11 +169,11 @@ impl Member {
     ghost use Rattle.std.specs.Prelude.{◌≡◌, IfOk};
     ghost use Rattle.scene_json.specs.Members.{pair_of};
 
-    /// The member of this name with this value. It takes no memory.
-    pub fn named(_alloc: Global, name: &'static str, value: Raw) -> Result<Member, AllocError>
+    /// The member of this name with this value.
+    pub fn named(alloc: Global, name: &str, value: Raw) -> Result<Member, AllocError>
         ensures { IfOk result (λ member. pair_of member ≡ (name.now, value)) }
     {
-        let name = Text::fixed(name);
+        let name = Text::from_str(alloc, name)?;
         Ok(Member { name, value })
     }
 
