@@ -136,8 +136,8 @@ step bytes place mark start colon sign end closed out behind named signed done p
       others = others;
       wrote = wrote others mine;
       placed = put others mine;
-              longer = more;
-              fits = fits;
+      longer = more;
+      fits = fits;
       goes = inr (byte ∙ h.0, (h.1.0, subst (λ x. Filled object x h.1.0 rest) (sym after) h.1.1, refl));
     })
     t.goes
@@ -195,10 +195,10 @@ written-all bytes at place mark start colon sign end closed before out behind na
     let t = step bytes place mark start colon sign end closed out behind named signed done places loop.placed w s.0 rest s.1 in
     let all = placed_at places behind named signed done in
     ⊎_elim
-        (λ h. (
-          pushed ∙ ap (λ ms. done ++ joined 44 ms) (sym h.1) ∙ t.wrote ∙ s.2,
-          ap (λ l. entries l all) pushed ∙ entries-append done (125 ∷ []) all t.fits ∙ sym (append-nil (entries done all)) ∙ ap (λ ms. entries done all ++ ms) (sym h.1) ∙ t.placed ∙ s.3,
-          h.2,
-        ))
-        (λ h. absurd (eqb-false 125 44 refl (sym closes ∙ h.0)))
-        t.goes
+    (λ h. (
+      pushed ∙ ap (λ ms. done ++ joined 44 ms) (sym h.1) ∙ t.wrote ∙ s.2,
+      ap (λ l. entries l all) pushed ∙ entries-append done (125 ∷ []) all t.fits ∙ sym (append-nil (entries done all)) ∙ ap (λ ms. entries done all ++ ms) (sym h.1) ∙ t.placed ∙ s.3,
+      h.2,
+    ))
+    (λ h. absurd (eqb-false 125 44 refl (sym closes ∙ h.0)))
+    t.goes

@@ -179,7 +179,7 @@ push_members-overflow_add-next t c =
 pub push_members-bounds-bytes-closed : goal.push_members-bounds-bytes-closed
 push_members-bounds-bytes-closed t c =
     let w : Wrote c.args.bytes.now c.loop-places.next c.loop-places.mark c.skip_space.result c.in_ok-colon.colon c.skip_space-in-loop-places.result c.in_ok-end.end c.skip_space-closed.result
-        c.loop-places.out.items c.push.new.self.items c.push_string.new.out.items c.push-in-loop-places.new.self.items c.push_compact.new.out.items = record {
+    c.loop-places.out.items c.push.new.self.items c.push_string.new.out.items c.push-in-loop-places.new.self.items c.push_compact.new.out.items = record {
       marked = c.in_ok-push.ensures.items;
       space = c.skip_space.ensures;
       name = c.in_ok-colon.ensures.ok;
@@ -194,7 +194,7 @@ push_members-bounds-bytes-closed t c =
 pub push_members-returns-then-bytes-closed-eq125-clause-ok : goal.push_members-returns-then-bytes-closed-eq125-clause-ok
 push_members-returns-then-bytes-closed-eq125-clause-ok t c =
     let w : Wrote c.args.bytes.now c.loop-places.next c.loop-places.mark c.skip_space.result c.in_ok-colon.colon c.skip_space-in-loop-places.result c.in_ok-end.end c.skip_space-closed.result
-        c.loop-places.out.items c.push.new.self.items c.push_string.new.out.items c.push-in-loop-places.new.self.items c.push_compact.new.out.items = record {
+    c.loop-places.out.items c.push.new.self.items c.push_string.new.out.items c.push-in-loop-places.new.self.items c.push_compact.new.out.items = record {
       marked = c.in_ok-push.ensures.items;
       space = c.skip_space.ensures;
       name = c.in_ok-colon.ensures.ok;
@@ -205,10 +205,10 @@ push_members-returns-then-bytes-closed-eq125-clause-ok t c =
     } in
     let placed : c.push-in-loop-places-2.new.self.items ≡ placed_at c.loop-places.places.items c.push.new.self.items c.push_string.new.out.items c.push-in-loop-places.new.self.items c.push_compact.new.out.items =
     c.in_ok-push-3.ensures.items ∙ placed-same c.loop-places.places.items c.push.new.self.items c.push_string.new.out.items c.push-in-loop-places.new.self.items c.push_compact.new.out.items _ _ _ _
-        (c.len-name_start.ensures ∙ (let e : vec_len c.push.new.self ≡ length c.push.new.self.items = omega arith in e))
-        (c.len-name_end.ensures ∙ (let e : vec_len c.push_string.new.out ≡ length c.push_string.new.out.items = omega arith in e))
-        (c.len-value_start.ensures ∙ (let e : vec_len c.push-in-loop-places.new.self ≡ length c.push-in-loop-places.new.self.items = omega arith in e))
-        (c.len.ensures ∙ (let e : vec_len c.push_compact.new.out ≡ length c.push_compact.new.out.items = omega arith in e)) in
+    (c.len-name_start.ensures ∙ (let e : vec_len c.push.new.self ≡ length c.push.new.self.items = omega arith in e))
+    (c.len-name_end.ensures ∙ (let e : vec_len c.push_string.new.out ≡ length c.push_string.new.out.items = omega arith in e))
+    (c.len-value_start.ensures ∙ (let e : vec_len c.push-in-loop-places.new.self ≡ length c.push-in-loop-places.new.self.items = omega arith in e))
+    (c.len.ensures ∙ (let e : vec_len c.push_compact.new.out ≡ length c.push_compact.new.out.items = omega arith in e)) in
     let all = written-all c.args.bytes.now c.args.at c.loop-places.next c.loop-places.mark c.skip_space.result c.in_ok-colon.colon c.skip_space-in-loop-places.result c.in_ok-end.end c.skip_space-closed.result c.args.out.now.items c.loop-places.out.items c.push.new.self.items c.push_string.new.out.items c.push-in-loop-places.new.self.items c.push_compact.new.out.items c.push-then-bytes-closed-eq125.new.self.items c.loop-places.places.items c.loop-places.invariant w
     c.in_ok-push-4.ensures.items c.if-bytes-closed-eq125.true in
     λ vs rest f. let h = all vs rest f in (h.0, ap (entries c.push-then-bytes-closed-eq125.new.self.items) placed ∙ h.1, h.2)
@@ -216,7 +216,7 @@ push_members-returns-then-bytes-closed-eq125-clause-ok t c =
 pub push_members-returns-then-bytes-closed-eq125-clause-placed : goal.push_members-returns-then-bytes-closed-eq125-clause-placed
 push_members-returns-then-bytes-closed-eq125-clause-placed t c =
     let w : Wrote c.args.bytes.now c.loop-places.next c.loop-places.mark c.skip_space.result c.in_ok-colon.colon c.skip_space-in-loop-places.result c.in_ok-end.end c.skip_space-closed.result
-        c.loop-places.out.items c.push.new.self.items c.push_string.new.out.items c.push-in-loop-places.new.self.items c.push_compact.new.out.items = record {
+    c.loop-places.out.items c.push.new.self.items c.push_string.new.out.items c.push-in-loop-places.new.self.items c.push_compact.new.out.items = record {
       marked = c.in_ok-push.ensures.items;
       space = c.skip_space.ensures;
       name = c.in_ok-colon.ensures.ok;
@@ -227,10 +227,10 @@ push_members-returns-then-bytes-closed-eq125-clause-placed t c =
     } in
     let placed : c.push-in-loop-places-2.new.self.items ≡ placed_at c.loop-places.places.items c.push.new.self.items c.push_string.new.out.items c.push-in-loop-places.new.self.items c.push_compact.new.out.items =
     c.in_ok-push-3.ensures.items ∙ placed-same c.loop-places.places.items c.push.new.self.items c.push_string.new.out.items c.push-in-loop-places.new.self.items c.push_compact.new.out.items _ _ _ _
-        (c.len-name_start.ensures ∙ (let e : vec_len c.push.new.self ≡ length c.push.new.self.items = omega arith in e))
-        (c.len-name_end.ensures ∙ (let e : vec_len c.push_string.new.out ≡ length c.push_string.new.out.items = omega arith in e))
-        (c.len-value_start.ensures ∙ (let e : vec_len c.push-in-loop-places.new.self ≡ length c.push-in-loop-places.new.self.items = omega arith in e))
-        (c.len.ensures ∙ (let e : vec_len c.push_compact.new.out ≡ length c.push_compact.new.out.items = omega arith in e)) in
+    (c.len-name_start.ensures ∙ (let e : vec_len c.push.new.self ≡ length c.push.new.self.items = omega arith in e))
+    (c.len-name_end.ensures ∙ (let e : vec_len c.push_string.new.out ≡ length c.push_string.new.out.items = omega arith in e))
+    (c.len-value_start.ensures ∙ (let e : vec_len c.push-in-loop-places.new.self ≡ length c.push-in-loop-places.new.self.items = omega arith in e))
+    (c.len.ensures ∙ (let e : vec_len c.push_compact.new.out ≡ length c.push_compact.new.out.items = omega arith in e)) in
     let s = c.loop-places.invariant.split _ _ c.requires.2 in
     let one = step c.args.bytes.now c.loop-places.next c.loop-places.mark c.skip_space.result c.in_ok-colon.colon c.skip_space-in-loop-places.result c.in_ok-end.end c.skip_space-closed.result c.loop-places.out.items c.push.new.self.items c.push_string.new.out.items c.push-in-loop-places.new.self.items c.push_compact.new.out.items c.loop-places.places.items c.loop-places.invariant.placed w s.0 _ s.1 in
     let longer : length c.push_compact.new.out.items ≤ length c.push-then-bytes-closed-eq125.new.self.items =
@@ -240,7 +240,7 @@ push_members-returns-then-bytes-closed-eq125-clause-placed t c =
 pub push_members-loop-places-preserved : goal.push_members-loop-places-preserved
 push_members-loop-places-preserved t c =
     let w : Wrote c.args.bytes.now c.loop-places.next c.loop-places.mark c.skip_space.result c.in_ok-colon.colon c.skip_space-in-loop-places.result c.in_ok-end.end c.skip_space-closed.result
-        c.loop-places.out.items c.push.new.self.items c.push_string.new.out.items c.push-in-loop-places.new.self.items c.push_compact.new.out.items = record {
+    c.loop-places.out.items c.push.new.self.items c.push_string.new.out.items c.push-in-loop-places.new.self.items c.push_compact.new.out.items = record {
       marked = c.in_ok-push.ensures.items;
       space = c.skip_space.ensures;
       name = c.in_ok-colon.ensures.ok;
@@ -251,10 +251,10 @@ push_members-loop-places-preserved t c =
     } in
     let placed : c.push-in-loop-places-2.new.self.items ≡ placed_at c.loop-places.places.items c.push.new.self.items c.push_string.new.out.items c.push-in-loop-places.new.self.items c.push_compact.new.out.items =
     c.in_ok-push-3.ensures.items ∙ placed-same c.loop-places.places.items c.push.new.self.items c.push_string.new.out.items c.push-in-loop-places.new.self.items c.push_compact.new.out.items _ _ _ _
-        (c.len-name_start.ensures ∙ (let e : vec_len c.push.new.self ≡ length c.push.new.self.items = omega arith in e))
-        (c.len-name_end.ensures ∙ (let e : vec_len c.push_string.new.out ≡ length c.push_string.new.out.items = omega arith in e))
-        (c.len-value_start.ensures ∙ (let e : vec_len c.push-in-loop-places.new.self ≡ length c.push-in-loop-places.new.self.items = omega arith in e))
-        (c.len.ensures ∙ (let e : vec_len c.push_compact.new.out ≡ length c.push_compact.new.out.items = omega arith in e)) in
+    (c.len-name_start.ensures ∙ (let e : vec_len c.push.new.self ≡ length c.push.new.self.items = omega arith in e))
+    (c.len-name_end.ensures ∙ (let e : vec_len c.push_string.new.out ≡ length c.push_string.new.out.items = omega arith in e))
+    (c.len-value_start.ensures ∙ (let e : vec_len c.push-in-loop-places.new.self ≡ length c.push-in-loop-places.new.self.items = omega arith in e))
+    (c.len.ensures ∙ (let e : vec_len c.push_compact.new.out ≡ length c.push_compact.new.out.items = omega arith in e)) in
     let forward : c.args.at ≤ c.skip_space-closed.result = omega (arith, c.loop-places.invariant.begun, c.in_ok-colon.ensures.within.0, c.in_ok-end.ensures.within.0) in
     subst (Written c.args.bytes.now c.args.at (c.skip_space-closed.result + 1) 44 c.args.out.now.items c.push_compact.new.out.items) (sym placed)
     (written-more c.args.bytes.now c.args.at c.loop-places.next c.loop-places.mark c.skip_space.result c.in_ok-colon.colon c.skip_space-in-loop-places.result c.in_ok-end.end c.skip_space-closed.result c.args.out.now.items c.loop-places.out.items c.push.new.self.items c.push_string.new.out.items c.push-in-loop-places.new.self.items c.push_compact.new.out.items c.loop-places.places.items c.loop-places.invariant w _ _ c.requires.2 forward c.if-bytes-closed-eq125.false)
