@@ -107,7 +107,7 @@ object-compact limit (m ∷ ms) h = let all = fields limit m ms h.named h.valued
 }
 
 -- the names of an object are texts
-members-utf8 : (vs : Values) → AreGood object vs → AllByRecursion (λ (m : Member). IsUtf8 m.0) (members vs)
+pub members-utf8 : (vs : Values) → AreGood object vs → AllByRecursion (λ (m : Member). IsUtf8 m.0) (members vs)
 members-utf8 (last (unnamed before) value blank) good = absurd good.0
 members-utf8 (last (named before name between after) value blank) good = (content-utf8 name good.0.1, tt)
 members-utf8 (next (unnamed before) value blank values) good = absurd good.0

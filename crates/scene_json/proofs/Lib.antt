@@ -48,3 +48,6 @@ pub mod Pairs
 pub mod Lookups
 pub mod Quotes
 pub mod Appended
+mod Placing
+mod QuotedNames
+mod Writing

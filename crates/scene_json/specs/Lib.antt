@@ -8,6 +8,7 @@ pub mod Members
 pub mod Named
 pub mod Parts
 pub mod Passes
+pub mod Places
 pub mod Stretches
 pub mod TheOne
 pub mod Tree

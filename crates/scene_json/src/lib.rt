@@ -3,6 +3,7 @@
 
 mod brackets;
 mod build;
+mod collapsing;
 mod compacting;
 mod content;
 mod end;
