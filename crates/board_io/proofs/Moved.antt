@@ -2,7 +2,13 @@ use Rattle.std.proofs.Common.{◌≡◌, ℕ, ◌+◌, ◌-◌, ◌≤◌, List,
 use Rattle.std.proofs.lemmas.List.{take-take, take-append-drop, drop-drop}
 use Rattle.std.proofs.lemmas.Grind.{common_steps}
 use Rattle.std.specs.Option.{option_map}
-use Rattle.board_io.specs.Ends.{Gave, Took}
+
+-- What a source gave and a sink took, said of the contents alone.
+abbrev pub Gave : Option (List ℕ) → Option (List ℕ) → List ℕ → Type 0
+Gave before after bytes = before ≡ option_map (λ rest. bytes ++ rest) after
+
+abbrev pub Took : Option (List ℕ) → Option (List ℕ) → List ℕ → Type 0
+Took before after bytes = after ≡ option_map (λ held. held ++ bytes) before
 
 -- What two reads give is given one after the other.
 pub Gave-more : (first middle last : Option (List ℕ)) (x y : List ℕ) → Gave first middle x → Gave middle last y → Gave first last (x ++ y)

@@ -1,5 +1,6 @@
-use Rattle.std.specs.Prelude.{ℕ, ◌-◌, Bool, ◌&&◌, nat_lt, nat_le, List, length, min}
+use Rattle.std.specs.Prelude.{ℕ, ◌-◌, Bool, ◌&&◌, nat_lt, nat_le, List, Some, length, min}
 use Rattle.board_io.specs.CallNumbers.{CallNumbers}
+use Rattle.board_io.specs.Ends.{SourceEnd, SinkEnd}
 
 -- A source over memory: the bytes still to come, how many of them a read gives at most, its reads, and how many of
 -- them failed. This project's own.
@@ -8,6 +9,10 @@ pub record MemSourceState : Type 0 where
   pub chunk : ℕ
   pub reads : CallNumbers
   pub faults : ℕ
+
+-- what is seen of it: it tells all bytes still to come
+abbrev pub source_end : MemSourceState → SourceEnd
+source_end source = record { left = Some source.left; faults = source.faults }
 
 -- how many bytes a read that doesn't fail gives into a buffer of this length
 abbrev pub given_count : MemSourceState → ℕ → ℕ
@@ -21,6 +26,10 @@ pub record MemSinkState : Type 0 where
   pub room : ℕ
   pub writes : CallNumbers
   pub faults : ℕ
+
+-- what is seen of it: it tells all bytes that it took
+abbrev pub sink_end : MemSinkState → SinkEnd
+sink_end sink = record { held = Some sink.held; faults = sink.faults }
 
 -- whether the piece has a byte and the sink has no room for it
 abbrev pub is_full : MemSinkState → List ℕ → Bool

@@ -4,7 +4,7 @@ ghost use Rattle.std.specs.Prelude.{◌≡◌, ◌+◌, ◌<◌, ◌≤◌, ◌+
 ghost use Rattle.board_io.specs.Counts.{one_more, Rose};
 ghost use Rattle.board_io.specs.CallNumbers.{from_first, is_listed, after_call};
 ghost use Rattle.board_io.specs.Ends.{Gave, Took, IsAtEnd};
-ghost use Rattle.board_io.specs.Memory.{given_count, taken_count, is_full};
+ghost use Rattle.board_io.specs.Memory.{source_end, sink_end, given_count, taken_count, is_full};
 
 use crate::bytes::Bytes;
 use crate::calls::Calls;
@@ -53,9 +53,7 @@ impl MemSource {
 }
 
 impl Source for MemSource {
-    ghost left = { λ s. Some s.left };
-
-    ghost faults = { λ s. s.faults };
+    ghost seen = { source_end };
 
     fn read(&mut self, buf: &mut [u8]) -> Result<usize, Failed>
         ensures fails { is_err result ≡ is_listed self.old.reads }
@@ -71,8 +69,8 @@ impl Source for MemSource {
         }) }
 
         ensures bound { IfOk result (λ n. n ≤ length buf.new) }
-        ensures given { IfOk result (λ n. Gave (Some self.old.left) (Some self.new.left) (take n buf.new)) }
-        ensures end { IfOk result (λ n. n ≡ 0 → 0 < length buf.old → IsAtEnd (Some self.new.left)) }
+        ensures given { IfOk result (λ n. Gave (source_end self.old) (source_end self.new) (take n buf.new)) }
+        ensures end { IfOk result (λ n. n ≡ 0 → 0 < length buf.old → IsAtEnd (source_end self.new)) }
         ensures failed { OnErr result (Rose self.old.faults self.new.faults) }
         ensures unmoved { OnErr result (Some self.new.left ≡ Some self.old.left) }
         ensures counted { self.old.faults ≤ self.new.faults }
@@ -150,9 +148,7 @@ impl MemSink {
 }
 
 impl Sink for MemSink {
-    ghost held = { λ s. Some s.held };
-
-    ghost faults = { λ s. s.faults };
+    ghost seen = { sink_end };
 
     fn write(&mut self, piece: &[u8]) -> Result<usize, Failed>
         ensures fails { is_err result ≡ (is_listed self.old.writes || is_full self.old piece.now) }
@@ -168,7 +164,7 @@ impl Sink for MemSink {
 
         ensures bound { IfOk result (λ n. n ≤ length piece.now) }
         ensures some { IfOk result (λ n. 0 < length piece.now → 0 < n) }
-        ensures taken { IfOk result (λ n. Took (Some self.old.held) (Some self.new.held) (take n piece.now)) }
+        ensures taken { IfOk result (λ n. Took (sink_end self.old) (sink_end self.new) (take n piece.now)) }
         ensures failed { OnErr result (Rose self.old.faults self.new.faults) }
         ensures unmoved { OnErr result (Some self.new.held ≡ Some self.old.held) }
         ensures counted { self.old.faults ≤ self.new.faults }

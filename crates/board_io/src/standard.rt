@@ -2,7 +2,7 @@
 
 ghost use Rattle.std.specs.Prelude.{◌≡◌, ◌<◌, ◌≤◌, IfOk, OnOk, OnErr, length, take};
 ghost use Rattle.board_io.specs.Counts.{one_more, Rose};
-ghost use Rattle.board_io.specs.Ends.{Gave, Took, IsAtEnd, untold};
+ghost use Rattle.board_io.specs.Ends.{Gave, Took, IsAtEnd, untold_source, untold_sink};
 
 use crate::ends::{Sink, Source};
 use crate::stop::Failed;
@@ -37,19 +37,17 @@ impl<R: Read> StdSource<R> {
 }
 
 impl<R: Read> Source for StdSource<R> {
-    ghost left = { λ _. untold };
-
-    ghost faults = { λ s. s };
+    ghost seen = { untold_source };
 
     fn read(&mut self, buf: &mut [u8]) -> Result<usize, Failed>
         ensures same { OnOk result (self.new ≡ self.old) }
         ensures one_more { OnErr result (self.new ≡ one_more self.old) }
 
         ensures bound { IfOk result (λ n. n ≤ length buf.new) }
-        ensures given { IfOk result (λ n. Gave untold untold (take n buf.new)) }
-        ensures end { IfOk result (λ n. n ≡ 0 → 0 < length buf.old → IsAtEnd untold) }
+        ensures given { IfOk result (λ n. Gave (untold_source self.old) (untold_source self.new) (take n buf.new)) }
+        ensures end { IfOk result (λ n. n ≡ 0 → 0 < length buf.old → IsAtEnd (untold_source self.new)) }
         ensures failed { OnErr result (Rose self.old self.new) }
-        ensures unmoved { OnErr result (untold ≡ untold) }
+        ensures unmoved { OnErr result ((untold_source self.new).left ≡ (untold_source self.old).left) }
         ensures counted { self.old ≤ self.new }
     {
         let read = read_retrying(&mut self.inner, buf);
@@ -100,9 +98,7 @@ impl<W: Write> StdSink<W> {
 }
 
 impl<W: Write> Sink for StdSink<W> {
-    ghost held = { λ _. untold };
-
-    ghost faults = { λ s. s };
+    ghost seen = { untold_sink };
 
     fn write(&mut self, piece: &[u8]) -> Result<usize, Failed>
         ensures same { OnOk result (self.new ≡ self.old) }
@@ -110,9 +106,9 @@ impl<W: Write> Sink for StdSink<W> {
 
         ensures bound { IfOk result (λ n. n ≤ length piece.now) }
         ensures some { IfOk result (λ n. 0 < length piece.now → 0 < n) }
-        ensures taken { IfOk result (λ n. Took untold untold (take n piece.now)) }
+        ensures taken { IfOk result (λ n. Took (untold_sink self.old) (untold_sink self.new) (take n piece.now)) }
         ensures failed { OnErr result (Rose self.old self.new) }
-        ensures unmoved { OnErr result (untold ≡ untold) }
+        ensures unmoved { OnErr result ((untold_sink self.new).held ≡ (untold_sink self.old).held) }
         ensures counted { self.old ≤ self.new }
     {
         let written = write_retrying(&mut self.inner, piece);

@@ -32,16 +32,16 @@ pub fn read_all<S: Source>(
     limit: usize,
 ) -> Result<Bytes, Stop<ReadError>>
     requires { limit < 4294967295 }
-    ensures given { IfOk result (λ all. Gave (S.left source.old) (S.left source.new) all) }
+    ensures given { IfOk result (λ all. Gave (S.seen source.old) (S.seen source.new) all) }
     ensures within { IfOk result (λ all. length all ≤ limit) }
-    ensures end { OnOk result (IsAtEnd (S.left source.new)) }
-    ensures failed { result ≡ Err (Stop.Fault ReadError.Failed) → Rose (S.faults source.old) (S.faults source.new) }
+    ensures end { OnOk result (IsAtEnd (S.seen source.new)) }
+    ensures failed { result ≡ Err (Stop.Fault ReadError.Failed) → Rose (S.seen source.old).faults (S.seen source.new).faults }
     ensures failed_within { result ≡ Err (Stop.Fault ReadError.Failed)
-        → (some : List ℕ) × (length some ≤ limit) × Gave (S.left source.old) (S.left source.new) some }
+        → (some : List ℕ) × (length some ≤ limit) × Gave (S.seen source.old) (S.seen source.new) some }
     ensures too_long { result ≡ Err (Stop.Fault ReadError.TooLong)
-        → (some : List ℕ) × (length some ≡ limit + 1) × Gave (S.left source.old) (S.left source.new) some }
-    ensures memory { OnErr result ((some : List ℕ) × (length some ≤ limit + 1) × Gave (S.left source.old) (S.left source.new) some) }
-    ensures counted { S.faults source.old ≤ S.faults source.new }
+        → (some : List ℕ) × (length some ≡ limit + 1) × Gave (S.seen source.old) (S.seen source.new) some }
+    ensures memory { OnErr result ((some : List ℕ) × (length some ≤ limit + 1) × Gave (S.seen source.old) (S.seen source.new) some) }
+    ensures counted { (S.seen source.old).faults ≤ (S.seen source.new).faults }
 {
     let mut all = Vec::new(alloc);
     let mut piece = empty_piece(alloc)?;
@@ -62,13 +62,13 @@ fn append_next<S: Source>(
 ) -> Result<usize, Stop<ReadError>>
     ensures bound { IfOk result (λ n. n ≤ length piece.new) }
     ensures appended { IfOk result (λ n. all.new.items ≡ all.old.items ++ take n piece.new) }
-    ensures given { IfOk result (λ n. Gave (S.left source.old) (S.left source.new) (take n piece.new)) }
-    ensures end { IfOk result (λ n. n ≡ 0 → 0 < length piece.old → IsAtEnd (S.left source.new)) }
-    ensures failed { result ≡ Err (Stop.Fault ReadError.Failed) → Rose (S.faults source.old) (S.faults source.new) }
-    ensures unmoved { result ≡ Err (Stop.Fault ReadError.Failed) → S.left source.new ≡ S.left source.old }
+    ensures given { IfOk result (λ n. Gave (S.seen source.old) (S.seen source.new) (take n piece.new)) }
+    ensures end { IfOk result (λ n. n ≡ 0 → 0 < length piece.old → IsAtEnd (S.seen source.new)) }
+    ensures failed { result ≡ Err (Stop.Fault ReadError.Failed) → Rose (S.seen source.old).faults (S.seen source.new).faults }
+    ensures unmoved { result ≡ Err (Stop.Fault ReadError.Failed) → (S.seen source.new).left ≡ (S.seen source.old).left }
     ensures other { result ≢ Err (Stop.Fault ReadError.TooLong) }
-    ensures stopped { OnErr result ((n : ℕ) × (n ≤ length piece.old) × Gave (S.left source.old) (S.left source.new) (take n piece.new)) }
-    ensures counted { S.faults source.old ≤ S.faults source.new }
+    ensures stopped { OnErr result ((n : ℕ) × (n ≤ length piece.old) × Gave (S.seen source.old) (S.seen source.new) (take n piece.new)) }
+    ensures counted { (S.seen source.old).faults ≤ (S.seen source.new).faults }
 {
     match source.read(piece) {
         Ok(n) => {
@@ -89,10 +89,10 @@ fn empty_piece(alloc: Global) -> Result<Vec<u8>, AllocError>
 /// Writes all bytes. `Failed` comes only where the sink's count of faults rose; a first part of the bytes is out then.
 /// It takes no memory.
 pub fn write_all<K: Sink>(sink: &mut K, bytes: &[u8]) -> Result<(), Failed>
-    ensures ok { OnOk result (Took (K.held sink.old) (K.held sink.new) bytes.now) }
-    ensures failed { OnErr result (Rose (K.faults sink.old) (K.faults sink.new)) }
-    ensures part { OnErr result ((n : ℕ) × (n ≤ length bytes.now) × Took (K.held sink.old) (K.held sink.new) (take n bytes.now)) }
-    ensures counted { K.faults sink.old ≤ K.faults sink.new }
+    ensures ok { OnOk result (Took (K.seen sink.old) (K.seen sink.new) bytes.now) }
+    ensures failed { OnErr result (Rose (K.seen sink.old).faults (K.seen sink.new).faults) }
+    ensures part { OnErr result ((n : ℕ) × (n ≤ length bytes.now) × Took (K.seen sink.old) (K.seen sink.new) (take n bytes.now)) }
+    ensures counted { (K.seen sink.old).faults ≤ (K.seen sink.new).faults }
 {
     let mut out = 0;
     while out < bytes.len() {

@@ -34,7 +34,7 @@ apart_from_rising : (name : List ℕ) (ms : List Pair) → AllByRecursion (λ (m
 apart_from_rising name [] h = tt
 apart_from_rising name (m ∷ ms) h = (bytes_eq-less name m.0 h.0, apart_from_rising name ms h.1)
 
-IsDistinct-rising : (ms : List Pair) → IsRising ms → IsDistinct bytes_eq (names_of ms)
+pub IsDistinct-rising : (ms : List Pair) → IsRising ms → IsDistinct bytes_eq (names_of ms)
 unfolding IsDistinct
 IsDistinct-rising [] rise = tt
 IsDistinct-rising (m ∷ ms) rise = (apart_from_rising m.0 ms rise.0, IsDistinct-rising ms rise.1)
@@ -45,7 +45,7 @@ IsDistinct-names members rise =
     subst (IsDistinct bytes_eq) (names-pairs members)
     (IsDistinct-rising (pairs members) (IsRising-from (pairs members) (ap are_rising (names-pairs members) ∙ rise)))
 
-AllByRecursion-append : {X : Type 0} (P : X → Type 0) (xs ys : List X) → AllByRecursion P xs → AllByRecursion P ys → AllByRecursion P (xs ++ ys)
+pub AllByRecursion-append : {X : Type 0} (P : X → Type 0) (xs ys : List X) → AllByRecursion P xs → AllByRecursion P ys → AllByRecursion P (xs ++ ys)
 AllByRecursion-append P [] ys left right = right
 AllByRecursion-append P (x ∷ xs) ys left right = (left.0, AllByRecursion-append P xs ys left.1 right)
 
@@ -65,7 +65,7 @@ IsDistinct-append (x ∷ xs) ys left right apart =
     (AllByRecursion-append _ xs ys left.0 (first_apart x xs ys apart), IsDistinct-append xs ys left.1 right (others_apart x xs ys apart))
 
 -- ---- the header names of a kind
-IsDistinct-header : (kind : Kind) → IsDistinct bytes_eq (header_names ++ own_names kind)
+pub IsDistinct-header : (kind : Kind) → IsDistinct bytes_eq (header_names ++ own_names kind)
 IsDistinct-header Rectangle = IsDistinct-from_count nat_list_eq_equiv _ refl
 IsDistinct-header Diamond = IsDistinct-from_count nat_list_eq_equiv _ refl
 IsDistinct-header Ellipse = IsDistinct-from_count nat_list_eq_equiv _ refl

@@ -2,6 +2,8 @@ pub mod Distinct
 pub mod FormsOnce
 pub mod Once
 pub mod KeyTexts
+mod Headers
+mod Merging
 pub mod OrderLaws
 mod Rows
 pub mod Saying

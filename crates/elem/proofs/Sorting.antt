@@ -179,27 +179,3 @@ risen m (n ∷ ns) h =
 pub IsRising-from : (ms : List Pair) → are_rising (names_of ms) ≡ true → IsRising ms
 IsRising-from [] h = tt
 IsRising-from (m ∷ ms) h = risen m ms h
-
--- ---- members that a sort gave
-IsSortedBy-tail : {X : Type 0} (lt : X → X → Bool) (x y : X) (xs : List X) → IsSortedBy lt (x ∷ y ∷ xs) → IsSortedBy lt (y ∷ xs)
-IsSortedBy-tail lt x y xs up k d low high =
-    let next : suc k + 1 ≡ suc (k + 1) = omega arith in
-    let met = up (suc k) d (omega arith) (omega arith) in
-    rw next at met
-
-pub IsRising-from_sort : (vs : List Member) → IsSortedBy (λ (a : Member) (b : Member). bytes_less a.name b.name) vs → IsDistinct bytes_eq (names vs) → IsRising (pairs vs)
-unfolding IsDistinct
-IsRising-from_sort [] up apart = tt
-IsRising-from_sort (v ∷ []) up apart = (tt, tt)
-IsRising-from_sort (v ∷ w ∷ vs) up apart =
-    let first = bytes_less-turned v.name w.name apart.0.0 (up 0 v (omega arith) (omega arith)) in
-    let others = IsRising-from_sort (w ∷ vs) (IsSortedBy-tail (λ a b. bytes_less a.name b.name) v w vs up) apart.1 in
-    ((first, AllByRecursion-weaker _ _ (pairs vs) (λ o above. bytes_less-trans v.name w.name o.0 first above) others.0), others)
-
--- a sort gives the sorted members
-pub sorted_members-from_sort : (vs ws : List Member) → IsPermutation vs ws → IsSortedBy (λ (a : Member) (b : Member). bytes_less a.name b.name) ws → IsDistinct bytes_eq (names vs) → pairs ws ≡ sorted_members (pairs vs)
-sorted_members-from_sort vs ws moved up apart =
-    let still = IsDistinct-IsPermutation bytes_eq nat_list_eq_equiv.symm (names vs) (names ws) (IsPermutation-map (λ (v : Member). v.name) vs ws moved) apart in
-    let paired = subst (IsDistinct bytes_eq) (sym (names-pairs vs)) apart in
-    same_rising (pairs ws) (sorted_members (pairs vs)) (IsRising-from_sort ws up still) (IsRising-sorted (pairs vs) paired)
-    (IsPermutation-trans _ (pairs vs) _ (IsPermutation-sym _ _ (IsPermutation-map pair_of vs ws moved)) (IsPermutation-sorted (pairs vs)))

@@ -2,5 +2,6 @@ pub mod Drawn
 pub mod Facts
 pub mod Forms
 pub mod Order
+pub mod Printing
 pub mod Said
 pub mod Texts

@@ -3,8 +3,10 @@
 
 mod compare;
 mod element;
+mod header;
 mod kind;
 pub mod laws;
+mod object;
 mod order;
 mod parts;
 mod raw;
@@ -16,4 +18,4 @@ pub use element::Element;
 pub use kind::{Kind, Role};
 pub use order::{beats, same, same_but_stamp};
 pub use parts::{Binding, BoundRef};
-pub use raw::element_raw;
+pub use raw::{element_raw, push_element};

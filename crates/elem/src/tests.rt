@@ -4,10 +4,9 @@ ghost use Rattle.std.specs.Prelude.{◌≡◌, ◌≢◌, [], map, All, IfOk};
 ghost use Rattle.scene_json.specs.Value.{IsCompact};
 ghost use Rattle.elem.specs.Facts.{IsBinding, IsKind, names};
 
-use crate::values::quoted;
 use crate::{Binding, BoundRef, Element, Kind, Role, beats, element_raw, same, same_but_stamp};
 use board_io::List;
-use scene_json::{Member, Raw, Text, raw_null, raw_truth, raw_whole};
+use scene_json::{Member, Raw, Text, raw_null, raw_text, raw_truth, raw_whole};
 use std::alloc::{AllocError, Global};
 use std::process::Abort;
 use std::test::Fail;
@@ -46,7 +45,7 @@ fn literal(alloc: Global, value: &str) -> Result<Raw, AllocError>
         "false" => raw_truth(alloc, false),
         _ => match value.parse::<u64>() {
             Ok(number) => raw_whole(alloc, number),
-            Err(_) => quoted(alloc, value),
+            Err(_) => raw_text(alloc, &Text::from_str(alloc, value)?),
         },
     }
 }

@@ -1,118 +1,143 @@
 //! The compact texts of an element's parts.
 
-ghost use Rattle.std.specs.Prelude.{◌≡◌, ℕ, [], ◌∷◌, map, codes, IfOk};
+ghost use Rattle.std.specs.Prelude.{◌≡◌, ℕ, [], ◌∷◌, ◌++◌, map, codes, IfOk, OnOk};
 ghost use Rattle.scene_json.specs.Characters.{quote};
 ghost use Rattle.scene_json.specs.Compact.{array_text};
+ghost use Rattle.scene_json.specs.Tree.{null_word};
 ghost use Rattle.scene_json.specs.Value.{IsCompact};
-ghost use Rattle.elem.specs.Texts.{text_or_null, kind_name, role_name, bound_text};
+ghost use Rattle.elem.specs.Texts.{truth_text, text_or_null, kind_name, role_name, bound_text};
 
 use crate::kind::{Kind, Role};
+use crate::object::begin_member;
 use crate::parts::BoundRef;
 use board_io::List;
 use frac_keys::Key;
-use scene_json::{Member, Raw, Text, raw_array, raw_null, raw_object, raw_text};
-use std::alloc::{AllocError, Global};
+use scene_json::{Text, push_quote, push_quoted};
+use std::alloc::AllocError;
 
-/// The text of a kind's name.
-pub(crate) fn kind_raw(alloc: Global, kind: &Kind) -> Result<Raw, AllocError>
-    ensures text { IfOk result (λ raw. raw ≡ quote (kind_name kind.now)) }
-    ensures nests { IfOk result (IsCompact 0) }
+/// Appends null.
+pub(crate) fn push_null(out: &mut Vec<u8>) -> Result<(), AllocError>
+    ensures text { OnOk result (out.new.items ≡ out.old.items ++ null_word) }
+    ensures nests { IsCompact 0 null_word }
+{
+    out.extend_from_slice(b"null")
+}
+
+/// Appends true or false.
+pub(crate) fn push_truth(out: &mut Vec<u8>, truth: bool) -> Result<(), AllocError>
+    ensures text { OnOk result (out.new.items ≡ out.old.items ++ truth_text truth) }
+    ensures nests { IsCompact 0 (truth_text truth) }
+{
+    match truth {
+        true => out.extend_from_slice(b"true"),
+        false => out.extend_from_slice(b"false"),
+    }
+}
+
+/// Appends the quote of a kind's name.
+pub(crate) fn push_kind(out: &mut Vec<u8>, kind: &Kind) -> Result<(), AllocError>
+    ensures text { OnOk result (out.new.items ≡ out.old.items ++ quote (kind_name kind.now)) }
+    ensures nests { IsCompact 0 (quote (kind_name kind.now)) }
 {
     match kind {
-        Kind::Rectangle => quoted(alloc, "rectangle"),
-        Kind::Diamond => quoted(alloc, "diamond"),
-        Kind::Ellipse => quoted(alloc, "ellipse"),
-        Kind::Arrow => quoted(alloc, "arrow"),
-        Kind::Line => quoted(alloc, "line"),
-        Kind::Freedraw => quoted(alloc, "freedraw"),
-        Kind::Text => quoted(alloc, "text"),
-        Kind::Image => quoted(alloc, "image"),
-        Kind::Frame => quoted(alloc, "frame"),
-        Kind::Magicframe => quoted(alloc, "magicframe"),
-        Kind::Iframe => quoted(alloc, "iframe"),
-        Kind::Embeddable => quoted(alloc, "embeddable"),
-        Kind::Other(name) => raw_text(alloc, name),
+        Kind::Rectangle => push_quoted(out, "rectangle"),
+        Kind::Diamond => push_quoted(out, "diamond"),
+        Kind::Ellipse => push_quoted(out, "ellipse"),
+        Kind::Arrow => push_quoted(out, "arrow"),
+        Kind::Line => push_quoted(out, "line"),
+        Kind::Freedraw => push_quoted(out, "freedraw"),
+        Kind::Text => push_quoted(out, "text"),
+        Kind::Image => push_quoted(out, "image"),
+        Kind::Frame => push_quoted(out, "frame"),
+        Kind::Magicframe => push_quoted(out, "magicframe"),
+        Kind::Iframe => push_quoted(out, "iframe"),
+        Kind::Embeddable => push_quoted(out, "embeddable"),
+        Kind::Other(name) => push_quote(out, name),
     }
 }
 
-/// The text, or null where there is none.
-pub(crate) fn text_raw(alloc: Global, text: &Option<Text>) -> Result<Raw, AllocError>
-    ensures text { IfOk result (λ raw. raw ≡ text_or_null text.now) }
-    ensures nests { IfOk result (IsCompact 0) }
+/// Appends the quote of a text, or null where there is none.
+pub(crate) fn push_text(out: &mut Vec<u8>, text: &Option<Text>) -> Result<(), AllocError>
+    ensures text { OnOk result (out.new.items ≡ out.old.items ++ text_or_null text.now) }
+    ensures nests { IsCompact 0 (text_or_null text.now) }
 {
     match text {
-        None => raw_null(alloc),
-        Some(text) => raw_text(alloc, text),
+        None => push_null(out),
+        Some(text) => push_quote(out, text),
     }
 }
 
-/// The key as a text, or null where there is none.
-pub(crate) fn key_raw(alloc: Global, key: &Option<Key>) -> Result<Raw, AllocError>
-    ensures text { IfOk result (λ raw. raw ≡ text_or_null key.now) }
-    ensures nests { IfOk result (IsCompact 0) }
+/// Appends the quote of a key, or null where there is none.
+pub(crate) fn push_key(out: &mut Vec<u8>, key: &Option<Key>) -> Result<(), AllocError>
+    ensures text { OnOk result (out.new.items ≡ out.old.items ++ text_or_null key.now) }
+    ensures nests { IsCompact 0 (text_or_null key.now) }
 {
     match key {
-        None => raw_null(alloc),
-        Some(key) => raw_text(alloc, &key_text(alloc, key)?),
+        None => push_null(out),
+        Some(key) => push_quoted(out, key_text(key)),
     }
-}
-
-/// The array of the texts.
-pub(crate) fn texts_raw(alloc: Global, texts: &List<Text>) -> Result<Raw, AllocError>
-    ensures text { IfOk result (λ raw. raw ≡ array_text (map quote texts.now)) }
-    ensures nests { IfOk result (IsCompact 1) }
-{
-    let mut items = Vec::new(alloc);
-    for text in texts.as_slice() {
-        items.push(raw_text(alloc, text)?)?;
-    }
-    raw_array(alloc, &List::from_vec(items))
-}
-
-/// The array of the entries of a listing.
-pub(crate) fn listing_raw(alloc: Global, entries: &List<BoundRef>) -> Result<Raw, AllocError>
-    ensures text { IfOk result (λ raw. raw ≡ array_text (map bound_text entries.now)) }
-    ensures nests { IfOk result (IsCompact 2) }
-{
-    let mut items = Vec::new(alloc);
-    for entry in entries.as_slice() {
-        items.push(entry_raw(alloc, entry)?)?;
-    }
-    raw_array(alloc, &List::from_vec(items))
-}
-
-/// The object of an entry of a listing.
-fn entry_raw(alloc: Global, entry: &BoundRef) -> Result<Raw, AllocError>
-    ensures text { IfOk result (λ raw. raw ≡ bound_text entry.now) }
-    ensures nests { IfOk result (IsCompact 1) }
-{
-    let id = Member::named(alloc, "id", raw_text(alloc, &entry.id)?)?;
-    let role = Member::named(alloc, "type", role_raw(alloc, entry.role)?)?;
-    raw_object(alloc, &List::from_vec(vec![in alloc; id, role]?))
-}
-
-/// The text of a role's name.
-fn role_raw(alloc: Global, role: Role) -> Result<Raw, AllocError>
-    ensures text { IfOk result (λ raw. raw ≡ quote (role_name role)) }
-    ensures nests { IfOk result (IsCompact 0) }
-{
-    match role {
-        Role::Arrow => quoted(alloc, "arrow"),
-        Role::Text => quoted(alloc, "text"),
-    }
-}
-
-/// The string of these characters.
-pub(crate) fn quoted(alloc: Global, characters: &str) -> Result<Raw, AllocError>
-    ensures text { IfOk result (λ raw. raw ≡ quote characters.now) }
-    ensures nests { IfOk result (IsCompact 0) }
-{
-    raw_text(alloc, &Text::from_str(alloc, characters)?)
 }
 
 /// The text of a key, whose bytes are letters and digits.
-fn key_text(alloc: Global, key: &Key) -> Result<Text, AllocError>
-    ensures { IfOk result (λ text. text ≡ key.now) }
+fn key_text(key: &Key) -> &str
+    ensures { result.now ≡ key.now }
 {
-    Ok(Text::read(alloc, key.as_bytes())?.unwrap())
+    std::str::from_utf8(key.as_bytes()).unwrap()
+}
+
+/// Appends the array of the texts.
+pub(crate) fn push_texts(out: &mut Vec<u8>, texts: &List<Text>) -> Result<(), AllocError>
+    ensures text { OnOk result (out.new.items ≡ out.old.items ++ array_text (map quote texts.now)) }
+    ensures nests { OnOk result (IsCompact 1 (array_text (map quote texts.now))) }
+{
+    out.push(b'[')?;
+    for (i, text) in texts.as_slice().iter().enumerate() {
+        if i > 0 {
+            out.push(b',')?;
+        }
+        push_quote(out, text)?;
+    }
+    out.push(b']')?;
+    Ok(())
+}
+
+/// Appends the array of the entries of a listing.
+pub(crate) fn push_listing(out: &mut Vec<u8>, entries: &List<BoundRef>) -> Result<(), AllocError>
+    ensures text { OnOk result (out.new.items ≡ out.old.items ++ array_text (map bound_text entries.now)) }
+    ensures nests { OnOk result (IsCompact 2 (array_text (map bound_text entries.now))) }
+{
+    out.push(b'[')?;
+    for (i, entry) in entries.as_slice().iter().enumerate() {
+        if i > 0 {
+            out.push(b',')?;
+        }
+        push_entry(out, entry)?;
+    }
+    out.push(b']')?;
+    Ok(())
+}
+
+/// Appends the object of an entry of a listing.
+fn push_entry(out: &mut Vec<u8>, entry: &BoundRef) -> Result<(), AllocError>
+    ensures text { OnOk result (out.new.items ≡ out.old.items ++ bound_text entry.now) }
+    ensures nests { OnOk result (IsCompact 1 (bound_text entry.now)) }
+{
+    let start = out.len();
+    begin_member(out, start, "id")?;
+    push_quote(out, &entry.id)?;
+    begin_member(out, start, "type")?;
+    push_role(out, entry.role)?;
+    out.push(b'}')?;
+    Ok(())
+}
+
+/// Appends the quote of a role's name.
+fn push_role(out: &mut Vec<u8>, role: Role) -> Result<(), AllocError>
+    ensures text { OnOk result (out.new.items ≡ out.old.items ++ quote (role_name role)) }
+    ensures nests { IsCompact 0 (quote (role_name role)) }
+{
+    match role {
+        Role::Arrow => push_quoted(out, "arrow"),
+        Role::Text => push_quoted(out, "text"),
+    }
 }

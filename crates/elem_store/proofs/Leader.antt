@@ -1,5 +1,6 @@
 -- The stored element of an id is the best of the updates of that id, taken one after another.
 use Rattle.std.proofs.Common.{◌≡◌, ℕ, Bool, true, false, cond, not, ◌&&◌, List, [], ◌∷◌, ◌++◌, get_or, Option, Some, None, find, filter, refl, sym, ap, ap₂, ◌∙◌, subst, inl, inr, append_assoc}
+use Rattle.std.specs.Cmp.{IsStrictWeakOrder}
 use Rattle.std.specs.List.{list_any, best_of}
 use Rattle.std.proofs.lemmas.Bool.{cases_Bool, and_left, both_ways, cond-true, cond-false, not_from_true, not_from_false, true_from_ne_false}
 use Rattle.std.proofs.lemmas.List.{append-nil, get_or_default}
@@ -10,10 +11,13 @@ use Rattle.std.proofs.lemmas.List.Recursion.{found_at}
 use Rattle.std.proofs.lemmas.List.Sums.{fold-append}
 use Rattle.elem.specs.Drawn.{Drawn}
 use Rattle.elem.specs.Order.{beats}
+use Rattle.elem.proofs.OrderLaws.{beats-asym, beats-below}
 use Rattle.elem_store.specs.Updates.{is_of, is_unbeaten, is_best, stored_of}
 use Rattle.elem_store.proofs.Ids.{same_id}
-use Rattle.elem_store.proofs.Order.{beats-IsStrictWeakOrder}
 use Rattle.elem_store.proofs.Lists.{find-filter, list_any-filter}
+
+beats-IsStrictWeakOrder : IsStrictWeakOrder beats
+beats-IsStrictWeakOrder = record { one_way = beats-asym; chain = λ a b c h k. beats-below c b a k h }
 
 -- no element of the list beats it
 abbrev pub leads : List Drawn → Drawn → Bool

@@ -1,9 +1,9 @@
-pub mod Order
 pub mod Lists
 pub mod Ids
 pub mod Leader
 pub mod BestUpdates
 pub mod Rising
 pub mod StoreLaws
+pub mod SortedUpdates
 pub mod Edits
 pub mod Placed

@@ -50,14 +50,14 @@ pub record HasTaken (old : List Drawn) (e : Drawn) (new : List Drawn) : Type 0 w
   pub ordered : are_rising (ids_of new) ≡ true
   pub each : (id : List ℕ) → element_of new id ≡ (if is_of id e && is_taken old e then Some e else element_of old id)
 
--- whether the ids, versions and nonces of two updates agree
-abbrev pub have_one_stamp : Drawn → Drawn → Bool
-have_one_stamp e other = bytes_eq e.id other.id && (e.version == other.version && e.nonce == other.nonce)
+-- whether the ids, versions and nonces of two updates agree, so that neither beats the other
+abbrev pub are_tied : Drawn → Drawn → Bool
+are_tied e other = bytes_eq e.id other.id && (e.version == other.version && e.nonce == other.nonce)
 
 -- Two updates clash where their id, version and nonce agree and they aren't the same; none do.
 abbrev pub IsFreeOfClashes : List Drawn → Type 0
 IsFreeOfClashes updates =
-    (e other : Drawn) → Contains updates e → Contains updates other → have_one_stamp e other ≡ true → e ≡ other
+    (e other : Drawn) → Contains updates e → Contains updates other → are_tied e other ≡ true → e ≡ other
 
 -- Each update of the one list is in the other one: order and repeats don't count.
 pub record HaveSameUpdates (updates others : List Drawn) : Type 0 where

@@ -1,11 +1,12 @@
 //! A store.
 
-ghost use Rattle.std.specs.Prelude.{◌≡◌, List, [], ◌∷◌, ◌++◌, true, length, slice_get, option_copied, IsSome, IsOk, IfOk, IfErr, OnOk, Ok, false};
+ghost use Rattle.std.specs.Prelude.{◌≡◌, List as Items, [], ◌∷◌, ◌++◌, true, length, slice_get, option_copied, IsSome, IsOk, IfOk, IfErr, OnOk, Ok, false};
 ghost use Rattle.frac_keys.specs.Rising.{are_rising};
 ghost use Rattle.elem.specs.Drawn.{Drawn};
 ghost use Rattle.elem_store.specs.Updates.{AreStored, HasTaken, element_of, ids_of, is_taken};
 
 use crate::places::{add, find_place, replace_beaten};
+use board_io::List;
 use elem::Element;
 use scene_json::Text;
 use std::alloc::{AllocError, Global};
@@ -43,11 +44,33 @@ impl Store {
         }
     }
 
+    /// What is stored of these updates, of which among equal bests of an id the first counts. They are taken in the order
+    /// of their ids, so that each one's place comes after those that are there.
+    pub fn from_updates(alloc: Global, updates: List<Element>) -> Result<Store, AllocError>
+        ensures { IfOk result (λ store. AreStored updates store) }
+    {
+        let mut updates = updates.into_vec();
+        updates.sort_by(|e, other| e.id.cmp(&other.id))?;
+        let mut store = Store::new(alloc);
+        store.take_each(updates)?;
+        Ok(store)
+    }
+
+    /// Takes the updates in their order.
+    fn take_each(&mut self, elements: Vec<Element>) -> Result<(), AllocError>
+        ensures { OnOk result ((updates : Items Drawn) → AreStored updates self.old → AreStored (updates ++ elements.items) self.new) }
+    {
+        for e in elements {
+            self.take(e).map_err(|(_, error)| error)?;
+        }
+        Ok(())
+    }
+
     /// Stores the element where its id is new or it beats the stored one, and tells whether it did. For want of memory
     /// it hands the element back, and the store is unchanged. It takes no memory where the id is stored.
     pub fn take(&mut self, e: Element) -> Result<bool, (Element, AllocError)>
         // What is stored of a list of updates is then stored of the list with this one at its end.
-        ensures stored { OnOk result ((updates : List Drawn) → AreStored updates self.old → AreStored (updates ++ e ∷ []) self.new) }
+        ensures stored { OnOk result ((updates : Items Drawn) → AreStored updates self.old → AreStored (updates ++ e ∷ []) self.new) }
 
         ensures after { OnOk result (HasTaken self.old e self.new) }
         ensures taken { IfOk result (λ taken. taken ≡ is_taken self.old e) }
@@ -77,7 +100,8 @@ impl Store {
 
     /// The stored element at this index, in the order of the ids. It takes no memory.
     pub fn at(&self, i: usize) -> Option<&Element>
-        ensures { option_copied result ≡ slice_get self.now i }
+        ensures element { option_copied result ≡ slice_get self.now i }
+        ensures ordered { are_rising (ids_of self.now) ≡ true }
     {
         let place = *self.places.get(i)?;
         Some(&self.elements[place])
@@ -85,8 +109,7 @@ impl Store {
 
     /// How many elements are stored.
     pub fn len(&self) -> usize
-        ensures count { result ≡ length self.now }
-        ensures ordered { are_rising (ids_of self.now) ≡ true }
+        ensures { result ≡ length self.now }
     {
         self.places.len()
     }

@@ -23,7 +23,7 @@ use Rattle.scene_json.specs.declared.machine.Mode.TheVariants.{Fresh, Name, Colo
 use Rattle.scene_json.specs.declared.machine.Mode.TheVariants as mode
 use Rattle.scene_json.specs.declared.machine.Move.{Move}
 use Rattle.scene_json.specs.declared.machine.Move.TheVariants.{To, Open, Close, Refuse}
-use Rattle.scene_json.specs.Machine.{state, refused, top, applied, step, container_of, is_closing, after_comma, after_move, part_begun, part_after, is_complete, number_on, number_move_on, value_begun, name_begun, first_move, after_string, plain_move, hex_move, sequence_move, string_move, word_move, letters_after, first_letter, word_on, tail_led, tail_fits, tail_after, sequence_on, led_on, escape_move}
+use Rattle.scene_json.specs.Machine.{state, refused, top, applied, step, container_of, closes_bracket, after_comma, after_move, part_begun, part_after, is_complete, number_on, number_move_on, value_begun, name_begun, first_move, after_string, plain_move, hex_move, sequence_move, string_move, word_move, letters_after, first_letter, word_on, tail_led, tail_fits, tail_after, sequence_on, led_on, escape_move}
 use Rattle.scene_json.proofs.NumberRuns.{ends, on_part, chosen, run_number, number_run}
 use Rattle.scene_json.proofs.Sequences.{Completes, led_char}
 use Rattle.scene_json.proofs.Reading.{Front}
@@ -56,9 +56,9 @@ module _ (limit : ℕ) (left : List ℕ) where
 
   pub rest_back : (st : List Bracket) (b : ℕ) (w : List ℕ) → Moves st b w (after_move (top st) b) → Rest limit left st (b ∷ w)
   rest_back [] b w h = h
-  rest_back (bracket ∷ st) b w h = elim (chosen (is_space b) (To After) (cond (is_closing bracket b) Close (cond (b == 44) (To (after_comma bracket)) Refuse)) (Moves (bracket ∷ st) b w) h) [
+  rest_back (bracket ∷ st) b w h = elim (chosen (is_space b) (To After) (cond (closes_bracket bracket b) Close (cond (b == 44) (To (after_comma bracket)) Refuse)) (Moves (bracket ∷ st) b w) h) [
     | inl s ↦ space s.0 s.1
-    | inr n ↦ elim (chosen (is_closing bracket b) Close (cond (b == 44) (To (after_comma bracket)) Refuse) (Moves (bracket ∷ st) b w) n.1) [
+    | inr n ↦ elim (chosen (closes_bracket bracket b) Close (cond (b == 44) (To (after_comma bracket)) Refuse) (Moves (bracket ∷ st) b w) n.1) [
       | inl c ↦ here (inl (w, ap (λ x. x ∷ w) (eqb-true b (closing (container_of bracket)) c.0), c.1))
       | inr o ↦ elim (chosen (b == 44) (To (after_comma bracket)) Refuse (Moves (bracket ∷ st) b w) o.1) [
         | inl k ↦ here (inr (w, ap (λ x. x ∷ w) (eqb-true b 44 k.0), rolled limit left st bracket w (comma_back bracket st b w k.1)))
@@ -207,9 +207,9 @@ module _ (limit : ℕ) (left : List ℕ) where
 
   fresh_back : (st : List Bracket) (b : ℕ) (w : List ℕ) → Reaches limit left (step limit Fresh st b) w → Opened limit left st (b ∷ w)
   fresh_back [] b w h = h
-  fresh_back (bracket ∷ st) b w h = elim (chosen (is_space b) (To Fresh) (cond (is_closing bracket b) Close (first_move bracket b)) (Moves (bracket ∷ st) b w) h) [
+  fresh_back (bracket ∷ st) b w h = elim (chosen (is_space b) (To Fresh) (cond (closes_bracket bracket b) Close (first_move bracket b)) (Moves (bracket ∷ st) b w) h) [
     | inl s ↦ space s.0 s.1
-    | inr n ↦ elim (chosen (is_closing bracket b) Close (first_move bracket b) (Moves (bracket ∷ st) b w) n.1) [
+    | inr n ↦ elim (chosen (closes_bracket bracket b) Close (first_move bracket b) (Moves (bracket ∷ st) b w) n.1) [
       | inl c ↦ here (inl (w, ap (λ x. x ∷ w) (eqb-true b (closing (container_of bracket)) c.0), c.1))
       | inr f ↦ here (inr (first_back bracket st b w f.1))
     ]

@@ -3,7 +3,6 @@ use Rattle.std.proofs.Common.{◌≡◌, ℕ, List, [], ◌∷◌, ◌++◌, Boo
 use Rattle.std.proofs.lemmas.Bool.{cases_Bool, false_from_ne_true, false≢true}
 use Rattle.std.proofs.lemmas.Slice.Eq.{bytes_eq-Decides}
 use Rattle.std.specs.List.{AllByRecursion, IsDistinct}
-use Rattle.indexmap.specs.IndexMap.{insert_entry}
 use Rattle.scene_json.specs.Compact.{Member, is_other, last_value, collapsed}
 
 -- equal names are told by `bytes_eq`
@@ -16,7 +15,7 @@ bytes_eq-same a = (bytes_eq-Decides a a).1 refl
 pub bytes_eq-apart : (a b : List ℕ) → (a ≡ b → ⊥) → bytes_eq a b ≡ false
 bytes_eq-apart a b h = false_from_ne_true (bytes_eq a b) (λ e. h (bytes_eq-true a b e))
 
-bytes_eq-flip : (a b : List ℕ) → bytes_eq a b ≡ false → bytes_eq b a ≡ false
+pub bytes_eq-flip : (a b : List ℕ) → bytes_eq a b ≡ false → bytes_eq b a ≡ false
 bytes_eq-flip a b h = bytes_eq-apart b a (λ e. false≢true (sym h ∙ (rw e (bytes_eq-same a))))
 
 abbrev pub name_of : Member → List ℕ
@@ -96,6 +95,11 @@ collapsed-same [] h = refl
 collapsed-same (m ∷ ms) h =
     rw (last_value-same m.0 m.1 ms h.0, collapsed-same ms h.1, filter-same m.0 ms h.0) refl
 
+-- the members with one more: its value stands at the place of its name, and a new name at the end
+abbrev pub insert_entry : List Member → List ℕ → List ℕ → List Member
+insert_entry [] name value = (name, value) ∷ []
+insert_entry (m ∷ ms) name value = if bytes_eq name m.0 then (m.0, value) ∷ ms else m ∷ insert_entry ms name value
+
 last_value-push : (name value : List ℕ) (ms : List Member) (new : Member) →
     last_value name value (ms ++ new ∷ []) ≡ (if bytes_eq name new.0 then new.1 else last_value name value ms)
 last_value-push name value [] new = refl
@@ -104,7 +108,7 @@ last_value-push name value (m ∷ ms) new = elim (cases_Bool (bytes_eq name m.0)
   | inr e ↦ rw e (last_value-push name value ms new)
 ]
 
-filter-insert_entry-same : (name value : List ℕ) (ms : List Member) → filter (is_other name) (insert_entry bytes_eq ms name value) ≡ filter (is_other name) ms
+filter-insert_entry-same : (name value : List ℕ) (ms : List Member) → filter (is_other name) (insert_entry ms name value) ≡ filter (is_other name) ms
 filter-insert_entry-same name value [] = rw (bytes_eq-same name) refl
 filter-insert_entry-same name value (m ∷ ms) = elim (cases_Bool (bytes_eq name m.0)) [
   | inl e ↦ rw (e, e) refl
@@ -112,7 +116,7 @@ filter-insert_entry-same name value (m ∷ ms) = elim (cases_Bool (bytes_eq name
 ]
 
 filter-insert_entry-other : (name value other : List ℕ) (ms : List Member) → bytes_eq other name ≡ false →
-    filter (is_other other) (insert_entry bytes_eq ms name value) ≡ insert_entry bytes_eq (filter (is_other other) ms) name value
+    filter (is_other other) (insert_entry ms name value) ≡ insert_entry (filter (is_other other) ms) name value
 filter-insert_entry-other name value other [] apart = rw apart refl
 filter-insert_entry-other name value other (m ∷ ms) apart = elim (cases_Bool (bytes_eq name m.0)) [
   | inl e ↦
@@ -125,13 +129,13 @@ filter-insert_entry-other name value other (m ∷ ms) apart = elim (cases_Bool (
 ]
 
 -- one more member at the end
-pub collapsed-push : (ms : List Member) (name value : List ℕ) → collapsed (ms ++ (name, value) ∷ []) ≡ insert_entry bytes_eq (collapsed ms) name value
+pub collapsed-push : (ms : List Member) (name value : List ℕ) → collapsed (ms ++ (name, value) ∷ []) ≡ insert_entry (collapsed ms) name value
 collapsed-push [] name value = refl
 collapsed-push (m ∷ ms) name value = elim (cases_Bool (bytes_eq m.0 name)) [
   | inl e ↦
       let same : m.0 ≡ name = bytes_eq-true m.0 name e in
       let flipped : bytes_eq name m.0 ≡ true = rw same (bytes_eq-same name) in
-      let kept : filter (is_other m.0) (insert_entry bytes_eq (collapsed ms) name value) ≡ filter (is_other m.0) (collapsed ms) =
+      let kept : filter (is_other m.0) (insert_entry (collapsed ms) name value) ≡ filter (is_other m.0) (collapsed ms) =
       rw same (filter-insert_entry-same name value (collapsed ms)) in
       rw (last_value-push m.0 m.1 ms (name, value), e, flipped, collapsed-push ms name value, kept) refl
   | inr e ↦

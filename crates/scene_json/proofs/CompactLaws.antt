@@ -1,11 +1,12 @@
 -- What compact texts are made of, and that they are made so.
-use Rattle.std.proofs.Common.{◌≡◌, ◌≤◌, ℕ, ◌+◌, ◌-◌, List, [], ◌∷◌, ◌++◌, refl, sym, ap, ap₂, ◌∙◌, subst, arith, map, IsUtf8, append_assoc, append-nil, ◌⊎◌, le_trans}
+use Rattle.std.proofs.Common.{◌≡◌, ◌<◌, ◌≤◌, ◌^◌, inl, decimal, ℕ, ◌+◌, ◌-◌, List, [], ◌∷◌, ◌++◌, refl, sym, ap, ap₂, ◌∙◌, subst, arith, map, IsUtf8, append_assoc, append-nil, ◌⊎◌, le_trans}
 use Rattle.std.specs.List.{AllByRecursion, IsDistinct, join_with_byte}
 use Rattle.scene_json.specs.Characters.{quote}
 use Rattle.scene_json.specs.Tree.{Piece, Container, array, object, unnamed, named, Tree, scalar, text, empty, filled, Values, last, next, IsNumber, IsWord, IsGood, AreGood, spelling, values_spelling, string_spelling, depth, values_depth}
 use Rattle.scene_json.specs.Compact.{Member, member_text, collapsed, content, array_text, object_text, compact, members}
 use Rattle.scene_json.specs.Value.{Value, IsCompact}
 pub use Rattle.scene_json.specs.Parts.{AreMembers}
+use Rattle.scene_json.proofs.Numbers.{decimal-number}
 use Rattle.scene_json.proofs.Strings.{utf8-Quotes, content-utf8}
 use Rattle.scene_json.proofs.Collapsed.{collapsed-same, collapsed-distinct, collapsed-names, collapsed-values}
 
@@ -20,6 +21,9 @@ quote-compact limit s h = let q = utf8-Quotes s h in
 
 pub literal-compact : (limit : ℕ) (s : List ℕ) → IsNumber s ⊎ IsWord s → IsCompact limit s
 literal-compact limit s h = tree-Value limit (scalar s) h (omega arith)
+
+pub decimal_nests : (limit number : ℕ) → number < 2 ^ 64 → IsCompact limit (decimal number)
+decimal_nests limit number small = literal-compact limit (decimal number) (inl (decimal-number number small))
 
 -- a deeper limit
 pub Value-deeper : {limit more : ℕ} {bytes s : List ℕ} → limit ≤ more → Value limit bytes s → Value more bytes s
@@ -103,7 +107,7 @@ object-compact limit (m ∷ ms) h = let all = fields limit m ms h.named h.valued
 }
 
 -- the names of an object are texts
-members-utf8 : (vs : Values) → AreGood object vs → AllByRecursion (λ (m : Member). IsUtf8 m.0) (members vs)
+pub members-utf8 : (vs : Values) → AreGood object vs → AllByRecursion (λ (m : Member). IsUtf8 m.0) (members vs)
 members-utf8 (last (unnamed before) value blank) good = absurd good.0
 members-utf8 (last (named before name between after) value blank) good = (content-utf8 name good.0.1, tt)
 members-utf8 (next (unnamed before) value blank values) good = absurd good.0

@@ -8,9 +8,9 @@ use lib.Utf8.{low_scalar}
 use Rattle.std.specs.List.{AllByRecursion, list_all, prefix_len}
 use Rattle.scene_json.specs.Characters.{is_hex, is_plain}
 use Rattle.scene_json.specs.Tree.{Piece, bare, letter, unit, IsPiece, letter_meaning, piece_spelling}
-use Rattle.scene_json.specs.Compact.{piece_value, is_high, is_low, joined, lone, characters, content}
+use Rattle.scene_json.specs.Compact.{piece_value, is_high, is_low, paired, lone, characters, content}
 use Rattle.scene_json.specs.Walk.{Unread, Takes, StartsWithUnit}
-use Rattle.scene_json.proofs.Strings.{first_code, heads-differ, lone-same, joined-scalar, plain-bare}
+use Rattle.scene_json.proofs.Strings.{first_code, heads-differ, lone-same, paired-scalar, plain-bare}
 
 -- one character that is no high surrogate stands alone
 characters-first : (u : ℕ) (us : List ℕ) → is_high u ≡ false → characters (u ∷ us) ≡ lone u ∷ characters us
@@ -173,7 +173,7 @@ first-unit (unit a b c d ∷ ps) after value good s = record {
 pub pair-takes : (xs : List ℕ) (first second : ℕ) (old new : List ℕ) → get_or xs 0 0 ≡ 92 → get_or xs 1 0 ≡ 117 →
     first ≡ piece_value (unit (get_or xs 2 0) (get_or xs 3 0) (get_or xs 4 0) (get_or xs 5 0)) →
     is_high first ≡ true → is_low second ≡ true → StartsWithUnit (drop 6 xs) second →
-    new ≡ old ++ encode_utf8 (joined first second) → Takes Unread xs 12 old new
+    new ≡ old ++ encode_utf8 (paired first second) → Takes Unread xs 12 old new
 unfolding content
 pair-takes xs first second old new zeroth one is high low starts e text after u =
     let h = unit-ahead u zeroth one in
@@ -181,9 +181,9 @@ pair-takes xs first second old new zeroth one is high low starts e text after u 
     let f : FirstUnit h.pieces second = first-unit h.pieces after second h.good (subst (λ s. StartsWithUnit s second) (ap (drop 6) h.parts) starts) in
     let values : map piece_value h.pieces ≡ second ∷ map piece_value f.others =
     ap (map piece_value) f.same ∙ ap (λ v. v ∷ map piece_value f.others) f.is in
-    let paired : characters (first ∷ second ∷ map piece_value f.others) ≡ joined first second ∷ characters (map piece_value f.others) = rw (high, low) refl in
-    let means : content (unit h.a h.b h.c h.d ∷ h.pieces) ≡ encode_utf8 (joined first second) ++ content f.others =
-    ap₂ (λ v vs. encode_utf8_all (characters (v ∷ vs))) (sym same) values ∙ ap encode_utf8_all paired in (
+    let pair : characters (first ∷ second ∷ map piece_value f.others) ≡ paired first second ∷ characters (map piece_value f.others) = rw (high, low) refl in
+    let means : content (unit h.a h.b h.c h.d ∷ h.pieces) ≡ encode_utf8 (paired first second) ++ content f.others =
+    ap₂ (λ v vs. encode_utf8_all (characters (v ∷ vs))) (sym same) values ∙ ap encode_utf8_all pair in (
       content f.others,
       unread f.others f.good (ap (drop 12) h.parts ∙ ap (λ ps. drop 6 (flat_map piece_spelling ps ++ 34 ∷ after)) f.same),
       rw (e, append_assoc) (ap (λ s. old ++ s) (sym means ∙ h.means)),
@@ -240,9 +240,9 @@ starts-ahead {xs} {text} {after} h v e = record {
 pub pair-small : (f s : ℕ) → is_high f ≡ true → is_low s ≡ true → 0x1_0000 + (f - 0xD800) * 1024 + (s - 0xDC00) < 0x11_0000
 pair-small f s high low = grind (arith, nat_tests)
 
-pub pair-character : (f s : ℕ) → is_high f ≡ true → is_low s ≡ true → encode_utf8 (lone (0x1_0000 + (f - 0xD800) * 1024 + (s - 0xDC00))) ≡ encode_utf8 (joined f s)
+pub pair-character : (f s : ℕ) → is_high f ≡ true → is_low s ≡ true → encode_utf8 (lone (0x1_0000 + (f - 0xD800) * 1024 + (s - 0xDC00))) ≡ encode_utf8 (paired f s)
 pair-character f s high low = ap encode_utf8
-    (ap lone (add_assoc 0x1_0000 ((f - 0xD800) * 1024) (s - 0xDC00)) ∙ lone-same (joined f s) (joined-scalar f s (and_from (is_high f) (is_low s) high low)))
+    (ap lone (add_assoc 0x1_0000 ((f - 0xD800) * 1024) (s - 0xDC00)) ∙ lone-same (paired f s) (paired-scalar f s (and_from (is_high f) (is_low s) high low)))
 
 -- an escape that isn't a unit, where fewer than six bytes stand or the second is no `u`
 pub unit-long : {xs text after : List ℕ} → UnitAhead xs text after → 6 ≤ length xs

@@ -91,7 +91,7 @@ module _ (bytes : List ℕ) where
     where
       by : (b : ℕ) → is_stray b ≡ false → slice_get bytes n ≡ Some b → ⊥
       by b low got =
-          let same : stray.byte ≡ b = let e : Some stray.byte ≡ Some b = sym stray.is ∙ got in cc in
+          let same : stray.byte ≡ b = let e : Some stray.byte ≡ Some b = sym stray.read ∙ got in cc in
           stray_some b low (subst (λ x. (c : ℕ) (more : List ℕ) → IsScalar c → encode_utf8 c ≡ x ∷ more → ⊥) same stray.begins_none)
 
   deep_not_utf8 : (n m : ℕ) → IsTooDeep bytes n → IsBadUtf8 bytes m → ⊥

@@ -1,42 +1,53 @@
-mod Backward
-pub mod Behind
-mod Closers
-pub mod Collapsed
-pub mod CompactLaws
-pub mod Contents
-pub mod Decimals
-pub mod Depths
-mod Ends
-pub mod Escapes
-pub mod FirstFaults
-pub mod Forms
-pub mod ItemsLeft
-pub mod Laid
-mod Limits
-pub mod Literals
-pub mod Lookups
-mod Machines
-pub mod MembersLeft
-mod Moves
+-- The proofs stand in three rooms, each in the order in which it is read; a room uses those above it.
+
+-- ---- the machine against the grammar: where it ends a value stands, and where it refuses the first fault is
+pub mod Strings
 mod NumberRuns
 pub mod Numbers
-mod OffsetRuns
-mod Onward
-pub mod Pairs
-mod Passing
-mod Places
-pub mod Quoting
+mod Sequences
 pub mod Reading
 mod Rests
-mod Rows
-mod Sequences
-pub mod Skipped
-pub mod Spellings
-pub mod Spread
-mod StringPlaces
-pub mod Strings
-pub mod Tried
-pub mod Turns
 mod Unrolled
+mod Machines
+mod Onward
+mod Backward
+mod Closers
 mod ValueRuns
+mod Moves
+mod Limits
+mod Ends
+mod StringPlaces
+mod Places
+pub mod FirstFaults
+mod Stays
+mod OffsetRuns
+-- ---- the pass that compacts: what it appends is the compact text of the value that was read
+pub mod Escapes
+pub mod Contents
+pub mod Quoting
+pub mod Decimals
+pub mod Collapsed
+pub mod CompactLaws
 pub mod Walks
+pub mod Turns
+pub mod Spellings
+mod Rows
+pub mod Tried
+-- ---- the walks over compact texts: how they nest, are laid out, and are taken apart
+pub mod Literals
+pub mod Forms
+pub mod Behind
+mod Passing
+pub mod Depths
+pub mod Skipped
+pub mod Spread
+pub mod Laid
+pub mod ItemsLeft
+pub mod MembersLeft
+pub mod Pairs
+pub mod Lookups
+pub mod Quotes
+pub mod Appended
+mod Placing
+mod QuotedNames
+mod Writing

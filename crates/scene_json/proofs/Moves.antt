@@ -20,7 +20,7 @@ use Rattle.scene_json.specs.declared.machine.Mode.TheVariants.{Fresh, Name, Colo
 use Rattle.scene_json.specs.declared.machine.Mode.TheVariants as mode
 use Rattle.scene_json.specs.declared.machine.Move.{Move}
 use Rattle.scene_json.specs.declared.machine.Move.TheVariants.{To, Open, Close, Refuse}
-use Rattle.scene_json.specs.Machine.{Outcome, state, refused, top, applied, moved, container_of, is_closing, after_comma, after_string, value_begun, name_begun, first_move, fresh_move, after_move, part_begun, part_after, is_complete, number_on, number_move_on, tail_led, tail_fits, tail_after, tail_length, led_on, sequence_on, string_move, word_on, letters_after, first_letter}
+use Rattle.scene_json.specs.Machine.{Outcome, state, refused, top, applied, moved, container_of, closes_bracket, after_comma, after_string, value_begun, name_begun, first_move, fresh_move, after_move, part_begun, part_after, is_complete, number_on, number_move_on, tail_led, tail_fits, tail_after, tail_length, led_on, sequence_on, string_move, word_on, letters_after, first_letter}
 use Rattle.scene_json.proofs.Sequences.{Completes, IsChar, led_char}
 use Rattle.scene_json.proofs.Machines.{go, run}
 use Rattle.scene_json.proofs.NumberRuns.{ended_part}
@@ -87,7 +87,7 @@ module _ (bytes : List ℕ) (b : ℕ) where
 
   fresh_kept : (top : Option Bracket) → Kept bytes b (fresh_move top b)
   fresh_kept None = tt
-  fresh_kept (Some bracket) = cond_both (is_space b) _ _ (Kept bytes b) (λ e. tt) (λ e. cond_both (is_closing bracket b) _ _ (Kept bytes b) (λ e. tt) (λ e. first_kept bracket))
+  fresh_kept (Some bracket) = cond_both (is_space b) _ _ (Kept bytes b) (λ e. tt) (λ e. cond_both (closes_bracket bracket b) _ _ (Kept bytes b) (λ e. tt) (λ e. first_kept bracket))
 
   comma_kept : (bracket : Bracket) → Kept bytes b (To (after_comma bracket))
   comma_kept Square = tt
@@ -96,7 +96,7 @@ module _ (bytes : List ℕ) (b : ℕ) where
   after_kept : (top : Option Bracket) → Kept bytes b (after_move top b)
   after_kept None = tt
   after_kept (Some bracket) = cond_both (is_space b) _ _ (Kept bytes b) (λ e. tt) (λ e.
-      cond_both (is_closing bracket b) _ _ (Kept bytes b) (λ e. tt) (λ e.
+      cond_both (closes_bracket bracket b) _ _ (Kept bytes b) (λ e. tt) (λ e.
       cond_both (b == 44) _ _ (Kept bytes b) (λ e. comma_kept bracket) (λ e. tt)))
 
   number_on_kept : (o : Option Part) (ends : Bool) (top : Option Bracket) → Kept bytes b (number_move_on o ends top b)
@@ -215,7 +215,7 @@ module _ (b : ℕ) (strange : IsStrange b) where
   strange_first Square = rw (strange_value b strange) tt
   strange_first Curly = rw (other 34 (omega arith) (λ e. omega arith)) tt
 
-  strange_closing : (bracket : Bracket) → is_closing bracket b ≡ false
+  strange_closing : (bracket : Bracket) → closes_bracket bracket b ≡ false
   strange_closing Square = other 93 (omega arith) (λ e. omega arith)
   strange_closing Curly = other 125 (omega arith) (λ e. omega arith)
 

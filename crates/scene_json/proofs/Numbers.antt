@@ -1,9 +1,12 @@
 -- Numbers: how they are spelled, and that printed numbers are numbers.
-use Rattle.std.proofs.Common.{◌≡◌, ◌<◌, ◌≤◌, ℕ, ◌+◌, ◌/◌, ◌%◌, ◌^◌, List, [], ◌∷◌, ◌++◌, true, ◌≢◌, refl, ◌∙◌, subst, arith, decimal, append-nil, eq-zero-or-pos, inl, inr, ⊎_elim}
+use Rattle.std.proofs.Common.{◌≡◌, ◌<◌, ◌≤◌, ℕ, ◌+◌, ◌/◌, ◌%◌, ◌^◌, List, [], ◌∷◌, ◌++◌, true, ◌≢◌, refl, sym, ap, ◌∙◌, subst, map, arith, decimal, append-nil, eq-zero-or-pos, inl, inr, ⊎_elim}
 use Rattle.std.proofs.lemmas.Bool.{and_from}
 use Rattle.std.proofs.lemmas.List.Folds.{list_all-append}
 use Rattle.std.proofs.lemmas.Bool.Decides.{nat_tests}
-use Rattle.std.proofs.lemmas.Fmt.{decimal_by_steps}
+use Rattle.std.proofs.lemmas.Fmt.{decimal_by_steps, decimal-digits_of}
+use Rattle.std.proofs.lemmas.Int.Digits.{digits_of_step}
+use Rattle.std.proofs.lemmas.List.{map-append}
+use Rattle.std.specs.Int.Digits.{digits_of}
 use Rattle.std.specs.List.{list_all}
 use Rattle.scene_json.specs.Characters.{is_digit}
 use Rattle.scene_json.specs.Tree.{IsNumber, IsSign, IsWhole, IsFraction, IsExponent}
@@ -51,3 +54,11 @@ pub decimal-number : (n : ℕ) → n < 2 ^ 64 → IsNumber (decimal n)
 decimal-number n h =
     let d = decimal_by_steps Digits one_digit more_digits n h in
     whole_number (decimal n) (⊎_elim (λ e. inl (d.zero e)) (λ p. inr (d.first, d.more, d.parts, d.positive p, d.digits)) (eq-zero-or-pos n))
+
+-- the digits of a number of more than one are those of its tenth and one more
+pub decimal-step : (n : ℕ) → 10 ≤ n → n < 2 ^ 64 → decimal n ≡ decimal (n / 10) ++ (48 + n % 10) ∷ []
+decimal-step n more small =
+    let above : 0 < n / 10 = omega arith in
+    let below : n / 10 < 2 ^ 64 = omega arith in
+    decimal-digits_of n (omega arith) small ∙ ap (map (λ d. 48 + d)) (digits_of_step 10 n (omega arith) (omega arith))
+    ∙ map-append (λ d. 48 + d) (digits_of 10 (n / 10)) (n % 10 ∷ []) ∙ ap (λ ds. ds ++ (48 + n % 10) ∷ []) (sym (decimal-digits_of (n / 10) above below))

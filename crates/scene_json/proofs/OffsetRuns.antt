@@ -1,17 +1,25 @@
 -- The machine over the bytes from an offset on.
-use Rattle.std.proofs.Common.{◌≡◌, ℕ, suc, ◌+◌, ◌-◌, ◌<◌, ◌≤◌, List, [], ◌∷◌, length, take, drop, get_or, Some, None, sym, ap, subst, ◌∙◌, arith, length-drop}
+use Rattle.std.proofs.Common.{◌≡◌, ℕ, suc, ◌+◌, ◌-◌, ◌<◌, ◌≤◌, List, [], ◌∷◌, length, take, drop, ◌++◌, get_or, Some, None, sym, ap, ap₂, subst, ◌∙◌, arith, length-drop}
 use Rattle.std.specs.Prelude.{slice_get}
-use Rattle.std.proofs.lemmas.List.{drop-drop, get_or-drop, drop_all}
+use Rattle.std.specs.List.{AllByRecursion}
+use Rattle.std.proofs.lemmas.List.{drop-drop, drop-take, get_or-drop, drop_all, take-append-drop, take-take}
 use Rattle.std.proofs.lemmas.Option.{slice_get-get_or, slice_get_past}
 use Rattle.scene_json.specs.Value.{Stands}
 use Rattle.scene_json.specs.Faults.{IsFirstFault, IsFaultOf}
 use Rattle.scene_json.specs.declared.brackets.Bracket.{Bracket}
 use Rattle.scene_json.specs.declared.machine.Mode.{Mode}
-use Rattle.scene_json.specs.Machine.{Outcome, state, ended, refused, top, step, fault_of}
+use Rattle.scene_json.specs.declared.machine.Move.TheVariants.{To}
+use Rattle.scene_json.specs.Machine.{Outcome, state, ended, refused, top, moved, step, fault_of}
 use Rattle.scene_json.proofs.Machines.{run, start, run-append}
 use Rattle.scene_json.proofs.Ends.{take_one, ended_stands, refused_faulty, done_stands, undone_faulty}
 use Rattle.scene_json.proofs.Places.{told}
 use Rattle.scene_json.proofs.Reading.{Stands-once}
+use Rattle.scene_json.proofs.Stays.{stay_run}
+
+-- a front of two parts
+take-plus : (n k : ℕ) (xs : List ℕ) → take (n + k) xs ≡ take n xs ++ take k (drop n xs)
+take-plus n k xs =
+    sym (take-append-drop n (take (n + k) xs)) ∙ ap₂ (λ (x y : List ℕ). x ++ y) (take-take n (n + k) xs (omega arith)) (drop-take n k xs)
 
 module _ (bytes : List ℕ) (at i : ℕ) (low : at ≤ i) where
   got : i < length bytes → slice_get (drop at bytes) (i - at) ≡ Some (get_or bytes i 0)
@@ -28,6 +36,15 @@ module _ (bytes : List ℕ) (at i : ℕ) (low : at ≤ i) where
         let one : suc (i - at) ≡ i + 1 - at = omega arith in
         ap (λ k. run 128 start (take k (drop at bytes))) (sym one) ∙ ap (run 128 start) (take_one (drop at bytes) (i - at) (get_or bytes i 0) (got high))
         ∙ run-append 128 start (take (i - at) (drop at bytes)) (get_or bytes i 0 ∷ []) ∙ ap (λ o'. run 128 o' (get_or bytes i 0 ∷ [])) is ∙ e
+
+    -- the bytes from i to j leave the machine as it is
+    pub stayed : (j : ℕ) → i ≤ j → AllByRecursion (λ b. moved m (top st) b ≡ To m) (take (j - i) (drop i bytes)) → run 128 start (take (j - at) (drop at bytes)) ≡ state m st
+    stayed j up all =
+        let sum : (i - at) + (j - i) ≡ j - at = omega arith in
+        ap (λ k. run 128 start (take k (drop at bytes))) (sym sum) ∙ ap (run 128 start) (take-plus (i - at) (j - i) (drop at bytes))
+        ∙ run-append 128 start (take (i - at) (drop at bytes)) (take (j - i) (drop (i - at) (drop at bytes)))
+        ∙ ap (λ o. run 128 o (take (j - i) (drop (i - at) (drop at bytes)))) is
+        ∙ ap (λ xs. run 128 (state m st) (take (j - i) xs)) behind ∙ stay_run m st (take (j - i) (drop i bytes)) all
 
     -- the value ends before the byte at i
     pub end_found : i < length bytes → step 128 m st (get_or bytes i 0) ≡ ended (get_or bytes i 0) → (text : List ℕ) × Stands (drop at bytes) text (drop i bytes)

@@ -277,7 +277,7 @@ module _ (every : List ℕ) (at n : ℕ) (within : n ≤ length (drop at every))
     n,
     refl,
     syntax (drop at every) n within (Quoted r place) st is stops (at_end every at n within (Quoted r place) st is stops g) none
-        (λ s. let e : None ≡ Some s.byte = sym g ∙ s.is in cc),
+        (λ s. let e : None ≡ Some s.byte = sym g ∙ s.read in cc),
   )
   told_stray in_string none (Some b) g = by (is_stray b) refl
     where
@@ -289,7 +289,7 @@ module _ (every : List ℕ) (at n : ℕ) (within : n ≤ length (drop at every))
           longest = longest (drop at every) n within (Quoted r place) st is stops;
           inside = inside in_string;
           byte = b;
-          is = g;
+          read = g;
           begins_none = λ c more. stray_none b c more e;
         }),
       )
@@ -298,7 +298,7 @@ module _ (every : List ℕ) (at n : ℕ) (within : n ≤ length (drop at every))
         refl,
         syntax (drop at every) n within (Quoted r place) st is stops
             (shallow every at n within (Quoted r place) st is stops b g (string_shut r place b)) none
-            (λ s. let same : s.byte ≡ b = let x : Some s.byte ≡ Some b = sym s.is ∙ g in cc in
+            (λ s. let same : s.byte ≡ b = let x : Some s.byte ≡ Some b = sym s.read ∙ g in cc in
             stray_some b e (subst (λ x. (c : ℕ) (more : List ℕ) → IsScalar c → encode_utf8 c ≡ x ∷ more → ⊥) same s.begins_none)),
       )
 

@@ -1,72 +1,144 @@
--- How a value is spelled plays no part in its compact text.
-use Rattle.std.proofs.Common.{◌≡◌, ℕ, List, [], ◌∷◌, ◌++◌, Bool, true, false, ◌||◌, cond, bytes_eq, filter, refl, sym, ap, ap₂, ◌∙◌, append-nil}
+-- How a value is spelled, and the earlier values of its repeated names, play no part in its compact text.
+use Rattle.std.proofs.Common.{◌≡◌, ℕ, List, [], ◌∷◌, true, false, not, bytes_eq, filter, map, refl, sym, ap, ap₂, ◌∙◌, inl, inr, append-nil}
 use Rattle.std.specs.List.{list_any}
+use Rattle.std.proofs.lemmas.Bool.{cases_Bool}
+use Rattle.std.proofs.lemmas.Map.Views.{any-filter_same}
 use Rattle.scene_json.specs.Characters.{quote}
-use Rattle.scene_json.specs.Tree.{Container, opening, closing, Tree, scalar, text, empty, filled, Values, last, next}
-use Rattle.scene_json.specs.Compact.{Member, compact, members, container_text, last_value, is_other, collapsed}
+use Rattle.scene_json.specs.Tree.{opening, closing, array, object, Tree, scalar, text, empty, filled, Values, last, next}
+use Rattle.scene_json.specs.Compact.{Member, label_name, compact, members, array_text, object_text, last_value, is_other, collapsed}
 use Rattle.scene_json.specs.Parts.{names_of}
 use Rattle.scene_json.specs.Value.{Value, Stands}
-use Rattle.scene_json.specs.Alike.{AreAlike, AreValuesAlike}
-use Rattle.scene_json.proofs.Collapsed.{bytes_eq-true}
+use Rattle.scene_json.specs.Alike.{AreAlike, AreItemsAlike, AreLastAlike, value_names, first_names, last_named}
+use Rattle.scene_json.proofs.Collapsed.{bytes_eq-true, bytes_eq-same, bytes_eq-flip}
 
+-- ---- members, each name once: its first place, its last value
+-- the name with its last value
+abbrev member_at : List Member → List ℕ → Member
+member_at ms name = (name, last_value name [] ms)
+
+others_at : (name value : List ℕ) (ms : List Member) (names : List (List ℕ)) →
+    filter (is_other name) (map (member_at ms) names) ≡ map (member_at ((name, value) ∷ ms)) (filter (λ (other : List ℕ). not (bytes_eq name other)) names)
+others_at name value ms [] = refl
+others_at name value ms (n ∷ ns) = elim (cases_Bool (bytes_eq name n)) [
+  | inl e ↦ rw e (others_at name value ms ns)
+  | inr e ↦ rw (e, bytes_eq-flip name n e) (ap (λ (rest : List Member). (n, last_value n [] ms) ∷ rest) (others_at name value ms ns))
+]
+
+collapsed-at : (ms : List Member) → collapsed ms ≡ map (member_at ms) (first_names (names_of ms))
+collapsed-at [] = refl
+collapsed-at (m ∷ ms) =
+    rw (collapsed-at ms, bytes_eq-same m.0)
+    (ap (λ (rest : List Member). (m.0, last_value m.0 m.1 ms) ∷ rest) (others_at m.0 m.1 ms (first_names (names_of ms))))
+
+-- ---- the last value of a name
+-- where the name doesn't come, the value so far is the last
+last_value-none : (name value : List ℕ) (ms : List Member) → list_any (bytes_eq name) (names_of ms) ≡ false → last_value name value ms ≡ value
+last_value-none name value [] none = refl
+last_value-none name value (m ∷ ms) none = elim (cases_Bool (bytes_eq name m.0)) [
+  | inl e ↦ let found : true ≡ false = rw e at none in cc
+  | inr e ↦ rw e (last_value-none name value ms (rw e at none))
+]
+
+-- where it comes, the value so far plays no part
+last_value-some : (name value other : List ℕ) (ms : List Member) → list_any (bytes_eq name) (names_of ms) ≡ true → last_value name value ms ≡ last_value name other ms
+last_value-some name value other [] some = cc
+last_value-some name value other (m ∷ ms) some = elim (cases_Bool (bytes_eq name m.0)) [
+  | inl e ↦ rw e refl
+  | inr e ↦ rw e (last_value-some name value other ms (rw e at some))
+]
+
+names_of-members : (vs : Values) → names_of (members vs) ≡ value_names vs
+names_of-members (last label value blank) = refl
+names_of-members (next label value blank values) = ap (λ (ns : List (List ℕ)). label_name label ∷ ns) (names_of-members values)
+
+compact-last_named : (name : List ℕ) (tree : Tree) (vs : Values) → compact (last_named name tree vs) ≡ last_value name (compact tree) (members vs)
+compact-last_named name tree (last label value blank) = elim (cases_Bool (bytes_eq name (label_name label))) [
+  | inl e ↦ rw e refl
+  | inr e ↦ rw e refl
+]
+compact-last_named name tree (next label value blank values) = elim (cases_Bool (bytes_eq name (label_name label))) [
+  | inl e ↦ rw e (compact-last_named name value values)
+  | inr e ↦ rw e (compact-last_named name tree values)
+]
+
+-- a name comes among the first places where it comes at all
+any-first_names : (name : List ℕ) (names : List (List ℕ)) → list_any (bytes_eq name) (first_names names) ≡ list_any (bytes_eq name) names
+any-first_names name [] = refl
+any-first_names name (n ∷ ns) = elim (cases_Bool (bytes_eq name n)) [
+  | inl e ↦ rw e refl
+  | inr e ↦ rw e (any-filter_same (bytes_eq name) (λ (other : List ℕ). not (bytes_eq n other)) true (kept e) (first_names ns) ∙ any-first_names name ns)
+]
+  where
+    kept : bytes_eq name n ≡ false → (k : List ℕ) → bytes_eq name k ≡ true → not (bytes_eq n k) ≡ true
+    kept e k same = rw (← bytes_eq-true name k same, bytes_eq-flip name n e) refl
+
+-- the value of the name's only member, seen from the other object
+seen : (name : List ℕ) (tree : Tree) (ws : Values) (n e : List ℕ) → bytes_eq n name ≡ true → list_any (bytes_eq n) (names_of (members ws)) ≡ true
+    → compact tree ≡ compact (last_named name tree ws) → compact tree ≡ last_value n e (members ws)
+seen name tree ws n e same some like =
+    like ∙ compact-last_named name tree ws ∙ ap (λ (x : List ℕ). last_value x (compact tree) (members ws)) (sym (bytes_eq-true n name same))
+    ∙ last_value-some n (compact tree) e (members ws) some
+
+-- two objects with the same first places and the same last values
+module _ (vs ws : Values) (firsts : first_names (value_names vs) ≡ first_names (value_names ws)) where
+  same_firsts : first_names (names_of (members vs)) ≡ first_names (names_of (members ws))
+  same_firsts = ap first_names (names_of-members vs) ∙ firsts ∙ sym (ap first_names (names_of-members ws))
+
+  any_same : (n : List ℕ) → list_any (bytes_eq n) (names_of (members vs)) ≡ list_any (bytes_eq n) (names_of (members ws))
+  any_same n = sym (any-first_names n (names_of (members vs))) ∙ ap (list_any (bytes_eq n)) same_firsts ∙ any-first_names n (names_of (members ws))
+
+  module _ (lasts : (n d e : List ℕ) → list_any (bytes_eq n) (names_of (members vs)) ≡ true → list_any (bytes_eq n) (names_of (members ws)) ≡ true
+      → last_value n d (members vs) ≡ last_value n e (members ws)) where
+    each : (n : List ℕ) → last_value n [] (members vs) ≡ last_value n [] (members ws)
+    each n = elim (cases_Bool (list_any (bytes_eq n) (names_of (members ws)))) [
+      | inl some ↦ lasts n [] [] (any_same n ∙ some) some
+      | inr none ↦ last_value-none n [] (members vs) (any_same n ∙ none) ∙ sym (last_value-none n [] (members ws) none)
+    ]
+
+    one_by_one : (ns : List (List ℕ)) → map (member_at (members vs)) ns ≡ map (member_at (members ws)) ns
+    one_by_one [] = refl
+    one_by_one (n ∷ ns) = ap₂ (λ (x : List ℕ) (rest : List Member). (n, x) ∷ rest) (each n) (one_by_one ns)
+
+    collapsed-same_lasts : collapsed (members vs) ≡ collapsed (members ws)
+    collapsed-same_lasts =
+        collapsed-at (members vs) ∙ ap (map (member_at (members vs))) same_firsts
+        ∙ one_by_one (first_names (names_of (members ws))) ∙ sym (collapsed-at (members ws))
+
+-- ---- alike trees
 mutual
   pub alike-compact : (t u : Tree) → AreAlike t u → compact t ≡ compact u
   alike-compact (scalar literal) (scalar other) same = same
-  alike-compact (scalar literal) (text others) same = absurd same
-  alike-compact (scalar literal) (empty other more) same = absurd same
-  alike-compact (scalar literal) (filled other others) same = absurd same
   alike-compact (text pieces) (text others) same = ap quote same
-  alike-compact (text pieces) (scalar other) same = absurd same
-  alike-compact (text pieces) (empty other more) same = absurd same
-  alike-compact (text pieces) (filled other others) same = absurd same
   alike-compact (empty container blank) (empty other more) same = ap (λ c. opening c ∷ closing c ∷ []) same
-  alike-compact (empty container blank) (scalar other) same = absurd same
-  alike-compact (empty container blank) (text others) same = absurd same
-  alike-compact (empty container blank) (filled other others) same = absurd same
-  alike-compact (filled container values) (filled other others) same =
-      ap₂ (λ (c : Container) (ms : List Member). container_text c ms) same.0 (alike-members values others same.1)
-  alike-compact (filled container values) (scalar other) same = absurd same
-  alike-compact (filled container values) (text others) same = absurd same
-  alike-compact (filled container values) (empty other more) same = absurd same
+  alike-compact (filled array values) (filled array others) same = ap array_text (items values others same)
+  alike-compact (filled object values) (filled object others) same = ap object_text (collapsed-same_lasts values others same.0 (lasts values others same.1))
+  alike-compact t u same = absurd same
 
-  alike-members : (vs ws : Values) → AreValuesAlike vs ws → members vs ≡ members ws
-  alike-members (last label value blank) (last other another more) same =
-      ap₂ (λ (name value : List ℕ). (name, value) ∷ []) same.0 (alike-compact value another same.1)
-  alike-members (last label value blank) (next other another more others) same = absurd same
-  alike-members (next label value blank values) (last other another more) same = absurd same
-  alike-members (next label value blank values) (next other another more others) same =
-      ap₂ (λ (m : Member) (ms : List Member). m ∷ ms) (ap₂ (λ (name value : List ℕ). (name, value)) same.0 (alike-compact value another same.1)) (alike-members values others same.2)
+  items : (vs ws : Values) → AreItemsAlike vs ws → map (λ (m : Member). m.1) (members vs) ≡ map (λ (m : Member). m.1) (members ws)
+  items (last label value blank) (last other another more) same = ap (λ (x : List ℕ). x ∷ []) (alike-compact value another same)
+  items (next label value blank values) (next other another more others) same =
+      ap₂ (λ (x : List ℕ) (xs : List (List ℕ)). x ∷ xs) (alike-compact value another same.0) (items values others same.1)
+  items vs ws same = absurd same
 
--- ---- the earlier values of a repeated name
--- where the name comes again, the value so far plays no part
-later : (name v w : List ℕ) (ms : List Member) → list_any (bytes_eq name) (names_of ms) ≡ true → last_value name v ms ≡ last_value name w ms
-later name v w [] again = cc
-later name v w (m ∷ ms) again = by (bytes_eq name m.0) refl (later name v w ms)
-  where
-    by : (b : Bool) → bytes_eq name m.0 ≡ b → (list_any (bytes_eq name) (names_of ms) ≡ true → last_value name v ms ≡ last_value name w ms) → last_value name v (m ∷ ms) ≡ last_value name w (m ∷ ms)
-    by true e rest = ap (λ b. cond b (last_value name m.1 ms) (last_value name v ms)) e ∙ sym (ap (λ b. cond b (last_value name m.1 ms) (last_value name w ms)) e)
-    by false e rest =
-        let more : list_any (bytes_eq name) (names_of ms) ≡ true = sym (ap (λ b. b || list_any (bytes_eq name) (names_of ms)) e) ∙ again in
-        ap (λ b. cond b (last_value name m.1 ms) (last_value name v ms)) e ∙ rest more ∙ sym (ap (λ b. cond b (last_value name m.1 ms) (last_value name w ms)) e)
-
-replaced : (name v w : List ℕ) (os : List Member) → list_any (bytes_eq name) (names_of os) ≡ true → (n d : List ℕ) (ms : List Member) →
-    last_value n d (ms ++ (name, v) ∷ os) ≡ last_value n d (ms ++ (name, w) ∷ os)
-replaced name v w os again n d [] = by (bytes_eq n name) refl
-  where
-    by : (b : Bool) → bytes_eq n name ≡ b → last_value n d ((name, v) ∷ os) ≡ last_value n d ((name, w) ∷ os)
-    by true e =
-        let same : last_value n v os ≡ last_value n w os =
-        ap (λ x. last_value x v os) (bytes_eq-true n name e) ∙ later name v w os again ∙ sym (ap (λ x. last_value x w os) (bytes_eq-true n name e)) in
-        ap (λ x. cond (bytes_eq n name) x (last_value n d os)) same
-    by false e = ap (λ b. cond b (last_value n v os) (last_value n d os)) e ∙ sym (ap (λ b. cond b (last_value n w os) (last_value n d os)) e)
-replaced name v w os again n d (m ∷ ms) =
-    ap₂ (λ x y. cond (bytes_eq n m.0) x y) (replaced name v w os again n m.1 ms) (replaced name v w os again n d ms)
-
-pub collapsed-replaced : (name v w : List ℕ) (os : List Member) → list_any (bytes_eq name) (names_of os) ≡ true → (ms : List Member) →
-    collapsed (ms ++ (name, v) ∷ os) ≡ collapsed (ms ++ (name, w) ∷ os)
-collapsed-replaced name v w os again [] = ap (λ x. (name, x) ∷ filter (is_other name) (collapsed os)) (later name v w os again)
-collapsed-replaced name v w os again (m ∷ ms) =
-    ap₂ (λ x (rest : List Member). (m.0, x) ∷ filter (is_other m.0) rest) (replaced name v w os again m.0 m.1 ms) (collapsed-replaced name v w os again ms)
+  lasts : (vs ws : Values) → AreLastAlike vs ws → (n d e : List ℕ) → list_any (bytes_eq n) (names_of (members vs)) ≡ true
+      → list_any (bytes_eq n) (names_of (members ws)) ≡ true → last_value n d (members vs) ≡ last_value n e (members ws)
+  lasts (last label value blank) ws same n d e here there = elim (cases_Bool (bytes_eq n (label_name label))) [
+    | inl t ↦ rw t (seen (label_name label) value ws n e t there (alike-compact value (last_named (label_name label) value ws) same))
+    | inr f ↦ let no : false ≡ true = rw f at here in cc
+  ]
+  lasts (next label value blank values) ws same n d e here there = elim (cases_Bool (list_any (bytes_eq n) (names_of (members values)))) [
+    | inl more ↦ elim (cases_Bool (bytes_eq n (label_name label))) [
+      | inl t ↦ rw t (lasts values ws same.1 n (compact value) e more there)
+      | inr f ↦ rw f (lasts values ws same.1 n d e more there)
+    ]
+    | inr none ↦ elim (cases_Bool (bytes_eq n (label_name label))) [
+      | inl t ↦
+          let only : list_any (bytes_eq (label_name label)) (value_names values) ≡ false =
+          rw (← names_of-members values, ← bytes_eq-true n (label_name label) t) none in
+          rw t (last_value-none n (compact value) (members values) none ∙ seen (label_name label) value ws n e t there (alike-compact value (last_named (label_name label) value ws) (same.0 only)))
+      | inr f ↦ let no : false ≡ true = rw (f, none) at here in cc
+    ]
+  ]
 
 -- ---- a value stands for itself
 pub stands-alone : (bytes means : List ℕ) → Value 128 bytes means → Stands bytes means []

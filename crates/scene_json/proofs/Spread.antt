@@ -7,7 +7,7 @@ use Rattle.std.proofs.lemmas.Bool.Decides.{nat_tests}
 use Rattle.scene_json.specs.Characters.{is_space}
 use Rattle.scene_json.specs.Tree.{Piece, IsPiece, piece_spelling, string_spelling, Container, array, object, opening, closing, Label, unnamed, named, IsLabel, label_spelling, Tree, scalar, text, empty, filled, Values, last, next, spelling, values_spelling, IsGood, AreGood}
 use Rattle.scene_json.specs.Layout.{line, label_laid_out, laid_out, values_laid_out}
-use Rattle.scene_json.specs.Passes.{behind_string, is_opening, is_closing, spaces_from, put_before, put_behind}
+use Rattle.scene_json.specs.Passes.{behind_string, behind_token, is_opening, is_closing, spaces_from, put_before, put_behind}
 use Rattle.scene_json.proofs.Behind.{Place, outside, inside, string_front, front-behind, length-behind_string, pieces-front, pieces-behind}
 use Rattle.scene_json.proofs.Literals.{is_plain, literal-plain}
 use Rattle.scene_json.proofs.Reading.{begins_value, begins-no-space, values-Front, regroup-last, regroup-next}
@@ -45,12 +45,9 @@ quote-step first spaces bs =
     append_assoc (put_before first spaces 34) (34 ∷ []) (layout (inside false) false (spaces_from first spaces 34) bs)
     ∙ ap (λ x. put_before first spaces 34 ++ (34 ∷ x)) (inside-string false false (spaces_from first spaces 34) bs)
 
--- what the pass copies at once, a string or a byte, and what stands behind it
+-- what the pass copies at once, a string or a byte
 abbrev pub token : ℕ → List ℕ → List ℕ
 token b bs = b ∷ (if b == 34 then string_front false bs else [])
-
-abbrev pub behind_token : ℕ → List ℕ → List ℕ
-behind_token b bs = if b == 34 then behind_string false bs else bs
 
 token-behind : (b : ℕ) (bs : List ℕ) → token b bs ++ behind_token b bs ≡ b ∷ bs
 token-behind b bs = elim (cases_Bool (eqb b 34)) [
@@ -202,6 +199,6 @@ mutual
       ∙ comma-step (spaces + 2) (values_spelling values ++ closing c ∷ bs) ∙ ap (λ x. 44 ∷ x) (values-steps c values spaces bs good.3)))
       ∙ sym (regroup-last (label_spelling (label_laid_out (spaces + 2) label)) (spelling (laid_out (spaces + 2) value)) (44 ∷ values_spelling (values_laid_out spaces values)) (closing c ∷ layout outside false spaces bs))
 
-pub layout-tree : (t : Tree) → IsGood t → layout outside false 0 (spelling t) ≡ spelling (laid_out 0 t)
-layout-tree t good =
-    ap (layout outside false 0) (sym (append-nil (spelling t))) ∙ tree-steps t 0 [] good ∙ append-nil (spelling (laid_out 0 t))
+pub layout-tree : (spaces : ℕ) (t : Tree) → IsGood t → layout outside false spaces (spelling t) ≡ spelling (laid_out spaces t)
+layout-tree spaces t good =
+    ap (layout outside false spaces) (sym (append-nil (spelling t))) ∙ tree-steps t spaces [] good ∙ append-nil (spelling (laid_out spaces t))

@@ -10,20 +10,20 @@ use Rattle.std.specs.List.{AllByRecursion, list_all}
 use lib.Utf8.{scalar, scalars, scalar_cases}
 use Rattle.scene_json.specs.Characters.{hex_digit, hex_value, is_hex, is_plain, quote, quoted_byte}
 use Rattle.scene_json.specs.Tree.{Piece, bare, letter, unit, IsPiece, letter_meaning, piece_spelling, string_spelling}
-use Rattle.scene_json.specs.Compact.{piece_value, is_high, is_low, joined, lone, characters, content}
+use Rattle.scene_json.specs.Compact.{piece_value, is_high, is_low, paired, lone, characters, content}
 
 -- a lone code and a pair of surrogates are characters
 lone-scalar : (u : ℕ) → u < 0x11_0000 → scalar (lone u) ≡ true
 lone-scalar u h = grind (arith, nat_tests)
 
-pub joined-scalar : (u v : ℕ) → (is_high u && is_low v) ≡ true → scalar (joined u v) ≡ true
-joined-scalar u v h = grind (arith, nat_tests)
+pub paired-scalar : (u v : ℕ) → (is_high u && is_low v) ≡ true → scalar (paired u v) ≡ true
+paired-scalar u v h = grind (arith, nat_tests)
 
 characters-scalars : (us : List ℕ) → AllByRecursion (λ u. u < 0x11_0000) us → scalars (characters us) ≡ true
 characters-scalars [] h = refl
 characters-scalars (u ∷ []) h = rw (lone-scalar u h.0) refl
 characters-scalars (u ∷ v ∷ us) h = elim (cases_Bool (is_high u && is_low v)) [
-  | inl e ↦ rw (e, joined-scalar u v e) (characters-scalars us h.1.1)
+  | inl e ↦ rw (e, paired-scalar u v e) (characters-scalars us h.1.1)
   | inr e ↦ rw (e, lone-scalar u h.0) (characters-scalars (v ∷ us) h.1)
 ]
 

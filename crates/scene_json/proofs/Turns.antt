@@ -2,13 +2,12 @@
 use Rattle.std.proofs.Common.{◌≡◌, ◌<◌, ◌≤◌, ℕ, suc, ◌+◌, ◌-◌, List, [], ◌∷◌, ◌++◌, true, false, ◌==◌, if◌then◌else◌, refl, sym, ap, ap₂, ◌∙◌, subst, arith, length, get_or, take, drop, map, append_assoc, drop-drop, add-zero, ◌⊎◌, inl, inr, ⊎_elim, drop_at, take_at, length-drop, length-append, le_trans, bytes_eq}
 use Rattle.std.proofs.lemmas.Bool.{both_ways}
 use Rattle.std.specs.List.{prefix_len, join_with_byte}
-use Rattle.indexmap.specs.IndexMap.{insert_entry}
-use Rattle.scene_json.specs.Characters.{is_space, is_blank}
+use Rattle.scene_json.specs.Characters.{is_space, is_blank, quote}
+use Rattle.scene_json.specs.Places.{quoted, joined}
 use Rattle.scene_json.specs.Tree.{Piece, Container, array, object, opening, closing, Label, unnamed, named, label_spelling, Tree, Values, last, next, IsNumber, IsWord, IsGood, IsLabel, spelling, values_spelling, string_spelling, depth}
 use Rattle.scene_json.specs.Compact.{Member, content, compact, members, collapsed, label_name, member_text, container_text, array_text, object_text}
 use Rattle.scene_json.specs.Value.{Stands, Follows, extends_number}
 use Rattle.scene_json.specs.Walk.{Quoted, Literal, Filled, AppendsValue, items_text}
-use Rattle.scene_json.proofs.Collapsed.{collapsed-push}
 use Rattle.scene_json.proofs.Contents.{drop-after, inside-after, front, behind}
 use Rattle.scene_json.proofs.Escapes.{prefix-run}
 use Rattle.scene_json.proofs.NumberRuns.{number-extends}
@@ -197,22 +196,15 @@ field-of (named before name between after) h t e = record { turn = t; before = b
 pub field : {xs rest : List ℕ} {left : Values} → Filled object xs left rest → Field xs left rest
 field {xs} {rest} {left} f = let t = turn object xs left rest f in field-of t.label t.labelled t refl
 
--- the loop over members
-pub record Members (bytes : List ℕ) (at place : ℕ) (entries : List Member) : Type 0 where
-  pub begun : at ≤ place
-  pub within : place ≤ length bytes
-  pub split : (vs : Values) (rest : List ℕ) → Filled object (drop at bytes) vs rest →
-      (left : Values) × (done : List Member) × Filled object (drop place bytes) left rest × (members vs ≡ done ++ members left) × (entries ≡ collapsed done)
-
 -- what `content_of` finds
 abbrev pub Names : List ℕ → ℕ → List ℕ → ℕ → Type 0
 Names bytes at name colon = (text rest : List ℕ) → Quoted (drop at bytes) text rest → (name ≡ text) × (drop colon bytes ≡ rest)
 
 -- what follows the name, and what follows the colon
-abbrev value_part : {xs rest : List ℕ} {left : Values} → Field xs left rest → List ℕ
+abbrev pub value_part : {xs rest : List ℕ} {left : Values} → Field xs left rest → List ℕ
 value_part f = f.after ++ (spelling f.turn.value ++ (f.turn.blank ++ f.turn.mark ∷ f.turn.tail))
 
-field-quoted : (bytes : List ℕ) (place start : ℕ) {left : Values} {rest : List ℕ} (f : Field (drop place bytes) left rest) → start ≡ place + prefix_len is_space (drop place bytes) →
+pub field-quoted : (bytes : List ℕ) (place start : ℕ) {left : Values} {rest : List ℕ} (f : Field (drop place bytes) left rest) → start ≡ place + prefix_len is_space (drop place bytes) →
     Quoted (drop start bytes) (content f.name) (f.between ++ 58 ∷ value_part f)
 field-quoted bytes place start f is = record {
   pieces = f.name;
@@ -223,81 +215,22 @@ field-quoted bytes place start f is = record {
   means = refl;
 }
 
-field-colon : (bytes : List ℕ) (place start colon sign : ℕ) (name : List ℕ) {left : Values} {rest : List ℕ} (f : Field (drop place bytes) left rest) → start ≡ place + prefix_len is_space (drop place bytes) →
-    Names bytes start name colon → sign ≡ colon + prefix_len is_space (drop colon bytes) → (name ≡ content f.name) × (drop sign bytes ≡ 58 ∷ value_part f)
-field-colon bytes place start colon sign name f is names signed =
-    let n = names _ _ (field-quoted bytes place start f is) in
-    (n.0, skip-to bytes colon sign f.between (58 ∷ value_part f) f.labelled.2 refl n.1 signed)
-
-field-value : (bytes : List ℕ) (sign : ℕ) {xs : List ℕ} {left : Values} {rest : List ℕ} (f : Field xs left rest) → drop sign bytes ≡ 58 ∷ value_part f →
+pub field-value : (bytes : List ℕ) (sign : ℕ) {xs : List ℕ} {left : Values} {rest : List ℕ} (f : Field xs left rest) → drop sign bytes ≡ 58 ∷ value_part f →
     Stands (drop (sign + 1) bytes) (compact f.turn.value) (f.turn.blank ++ f.turn.mark ∷ f.turn.tail)
 field-value bytes sign f e = let t = f.turn in
     subst (λ s. Stands s (compact t.value) (t.blank ++ t.mark ∷ t.tail)) (sym (drop-after bytes sign e))
     (value-stands f.after t.value t.blank t.mark t.tail f.labelled.3 t.good t.shallow t.space t.ends)
 
-pub members-name : (bytes : List ℕ) (at place start : ℕ) {entries : List Member} {vs : Values} {rest : List ℕ} → Members bytes at place entries → Filled object (drop at bytes) vs rest →
-    start ≡ place + prefix_len is_space (drop place bytes) → (text after : List ℕ) × Quoted (drop start bytes) text after
-members-name bytes at place start {entries} {vs} {rest} loop f is = let g = field (loop.split vs rest f).2 in (content g.name, g.between ++ 58 ∷ value_part g, field-quoted bytes place start g is)
+-- the text of an object that has members
+joined-more : (m : Member) (ms : List Member) → join_with_byte 44 (map member_text (m ∷ ms)) ++ 125 ∷ [] ≡ quote m.0 ++ 58 ∷ (m.1 ++ joined 44 (map quoted ms))
+joined-more m [] = append_assoc (quote m.0) (58 ∷ m.1) (125 ∷ [])
+joined-more m (n ∷ ns) = append_assoc (member_text m) (44 ∷ join_with_byte 44 (map member_text (n ∷ ns))) (125 ∷ [])
+    ∙ ap (λ s. member_text m ++ 44 ∷ s) (joined-more n ns) ∙ append_assoc (quote m.0) (58 ∷ m.1) (44 ∷ (quote n.0 ++ 58 ∷ (n.1 ++ joined 44 (map quoted ns))))
 
-pub members-value : (bytes : List ℕ) (at place start colon sign : ℕ) (name : List ℕ) {entries : List Member} {vs : Values} {rest : List ℕ} → Members bytes at place entries → Filled object (drop at bytes) vs rest →
-    start ≡ place + prefix_len is_space (drop place bytes) → Names bytes start name colon → sign ≡ colon + prefix_len is_space (drop colon bytes) →
-    (sign < length bytes) × ((text after : List ℕ) × Stands (drop (sign + 1) bytes) text after)
-members-value bytes at place start colon sign name {entries} {vs} {rest} loop f is names signed =
-    let g = field (loop.split vs rest f).2 in
-    let e = field-colon bytes place start colon sign name g is names signed in
-    (inside-after bytes sign e.1, (compact g.turn.value, g.turn.blank ++ g.turn.mark ∷ g.turn.tail, field-value bytes sign g e.1))
-
-abbrev pub Kept : List ℕ → ℕ → List Member → Values → List ℕ → Type 0
-Kept bytes mark entries vs rest =
-    ((get_or bytes mark 0 ≡ 125) × (entries ≡ collapsed (members vs)) × (drop (mark + 1) bytes ≡ rest))
-    ⊎ ((get_or bytes mark 0 ≡ 44) × ((left : Values) × (done : List Member) × Filled object (drop (mark + 1) bytes) left rest × (members vs ≡ done ++ members left) × (entries ≡ collapsed done)))
-
-pub members-turn : (bytes : List ℕ) (at place start colon sign end mark : ℕ) (name old value : List ℕ) (entries more : List Member) → Members bytes at place entries →
-    start ≡ place + prefix_len is_space (drop place bytes) → Names bytes start name colon → sign ≡ colon + prefix_len is_space (drop colon bytes) →
-    old ≡ [] → AppendsValue bytes (sign + 1) end old value → mark ≡ end + prefix_len is_space (drop end bytes) → more ≡ insert_entry bytes_eq entries name value →
-    (vs : Values) (rest : List ℕ) → Filled object (drop at bytes) vs rest → (mark < length bytes) × Kept bytes mark more vs rest
-members-turn bytes at place start colon sign end mark name old value entries more loop is names signed fresh appends marked inserted vs rest f =
-    let s = loop.split vs rest f in
-    let g = field s.2 in
-    let t = g.turn in
-    let e = field-colon bytes place start colon sign name g is names signed in
-    let a = appends _ _ (field-value bytes sign g e.1) in
-    let m = mark-at bytes end mark t.blank t.mark t.tail t.space t.solid a.1 marked in
-    let byte = byte-at bytes mark m in
-    let after = drop-after bytes mark m in
-    let new : List Member → List Member = λ ms. (label_name t.label, compact t.value) ∷ ms in
-    let kept : more ≡ collapsed (s.1 ++ new []) =
-    inserted ∙ ap₂ (λ n v. insert_entry bytes_eq entries n v) (e.0 ∙ ap label_name (sym g.is)) (a.0 ∙ ap (λ o. o ++ compact t.value) fresh)
-    ∙ ap (λ d. insert_entry bytes_eq d (label_name t.label) (compact t.value)) s.4 ∙ sym (collapsed-push s.1 (label_name t.label) (compact t.value)) in (
-      inside-after bytes mark m,
-      ⊎_elim
-          (λ h. inl (byte ∙ h.0, kept ∙ ap collapsed (sym (s.3 ∙ ap (λ x. s.1 ++ x) h.2)), after ∙ h.1))
-          (λ h. inr (
-            byte ∙ h.0,
-            (
-              h.1.0,
-              s.1 ++ new [],
-              subst (λ x. Filled object x h.1.0 rest) (sym after) h.1.1,
-              s.3 ∙ ap (λ x. s.1 ++ x) h.1.2 ∙ sym (append_assoc s.1 (new []) (members h.1.0)),
-              kept,
-            ),
-          ))
-          t.goes,
-    )
-
--- writing members, each behind a mark
-abbrev pub marked : ℕ → List Member → List ℕ
-marked mark [] = 125 ∷ []
-marked mark (m ∷ ms) = mark ∷ (member_text m ++ marked 44 ms)
-
-joined-marked : (m : Member) (ms : List Member) → join_with_byte 44 (map member_text (m ∷ ms)) ++ 125 ∷ [] ≡ member_text m ++ marked 44 ms
-joined-marked m [] = refl
-joined-marked m (n ∷ ns) = append_assoc (member_text m) (44 ∷ join_with_byte 44 (map member_text (n ∷ ns))) (125 ∷ []) ∙ ap (λ s. member_text m ++ 44 ∷ s) (joined-marked n ns)
-
-pub object-marked : (ms : List Member) → 0 < length ms → object_text ms ≡ marked 123 ms
+pub object-joined : (ms : List Member) → 0 < length ms → object_text ms ≡ joined 123 (map quoted ms)
 unfolding object_text
-object-marked [] h = absurd (omega arith)
-object-marked (m ∷ ms) h = ap (λ s. 123 ∷ s) (joined-marked m ms)
+object-joined [] h = absurd (omega arith)
+object-joined (m ∷ ms) h = ap (λ s. 123 ∷ s) (joined-more m ms)
 
 -- a literal isn't empty, and it stands within the text
 pub literal-fits : (bytes : List ℕ) (at : ℕ) {text rest : List ℕ} → Literal (drop at bytes) text rest → (at < at + length text) × (at + length text ≤ length bytes)

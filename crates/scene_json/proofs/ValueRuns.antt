@@ -64,7 +64,7 @@ module _ (limit : ℕ) where
 
   pub begins_runs : (bytes : List ℕ) → Begins limit bytes → Runs limit start bytes
   begins_runs bytes b = runs_through bytes b.more start
-      (subst (Reaches limit [] start) (ap (λ x. b.blank ++ x) (append-nil b.value) ∙ sym b.parts) (value_start b.blank b.value b.text [] b.space b.is tt))
+      (subst (Reaches limit [] start) (ap (λ x. b.blank ++ x) (append-nil b.value) ∙ sym b.parts) (value_start b.blank b.value b.text [] b.space b.reads tt))
 
   pub runs_begins : (bytes : List ℕ) → Runs limit start bytes → Begins limit bytes
   runs_begins bytes r =
@@ -78,12 +78,12 @@ module _ (limit : ℕ) where
         text = compact s.tree;
         parts = b.spells ∙ ap (λ x. b.front ++ x) (s.spells ∙ ap (λ x. spelling s.tree ++ x) s.follows ∙ append-nil (spelling s.tree));
         space = b.is;
-        is = record { tree = s.tree; good = s.good; shallow = omega (arith, s.shallow); spells = refl; means = refl };
+        reads = record { tree = s.tree; good = s.good; shallow = omega (arith, s.shallow); spells = refl; means = refl };
       }
 
   -- less of what begins a value begins one
   pub begins_less : (xs ys : List ℕ) → Begins limit (xs ++ ys) → Begins limit xs
-  begins_less xs ys b = record { more = ys ++ b.more; blank = b.blank; value = b.value; text = b.text; parts = sym (append_assoc xs ys b.more) ∙ b.parts; space = b.space; is = b.is }
+  begins_less xs ys b = record { more = ys ++ b.more; blank = b.blank; value = b.value; text = b.text; parts = sym (append_assoc xs ys b.more) ∙ b.parts; space = b.space; reads = b.reads }
 
   pub runs_less : (xs ys : List ℕ) → Runs limit start (xs ++ ys) → Runs limit start xs
   runs_less xs ys r = begins_runs xs (begins_less xs ys (runs_begins (xs ++ ys) r))

@@ -19,8 +19,8 @@ abbrev pub is_low : ℕ → Bool
 is_low u = nat_le 0xDC00 u && nat_lt u 0xE000
 
 -- the character of a high surrogate and the low one behind it
-abbrev pub joined : ℕ → ℕ → ℕ
-joined high low = 0x1_0000 + ((high - 0xD800) * 1024 + (low - 0xDC00))
+abbrev pub paired : ℕ → ℕ → ℕ
+paired high low = 0x1_0000 + ((high - 0xD800) * 1024 + (low - 0xDC00))
 
 -- what stands alone is itself, and a surrogate is U+FFFD
 abbrev pub lone : ℕ → ℕ
@@ -30,7 +30,7 @@ lone u = if is_high u || is_low u then 0xFFFD else u
 abbrev pub characters : List ℕ → List ℕ
 characters [] = []
 characters (u ∷ []) = lone u ∷ []
-characters (u ∷ v ∷ us) = if is_high u && is_low v then joined u v ∷ characters us else lone u ∷ characters (v ∷ us)
+characters (u ∷ v ∷ us) = if is_high u && is_low v then paired u v ∷ characters us else lone u ∷ characters (v ∷ us)
 
 -- the text that the pieces of a string stand for
 unfoldable pub content : List Piece → List ℕ

@@ -1,6 +1,6 @@
 -- The layout of two spaces a level. This project's own choice of white space, which RFC 8259, section 2, leaves free.
-use Rattle.std.specs.Prelude.{ℕ, ◌+◌, List, [], ◌∷◌, replicate}
-use Rattle.scene_json.specs.Tree.{Label, unnamed, named, Tree, scalar, text, empty, filled, Values, last, next}
+use Rattle.std.specs.Prelude.{◌≡◌, ℕ, ◌+◌, List, [], ◌∷◌, replicate}
+use Rattle.scene_json.specs.Tree.{Label, unnamed, named, Tree, scalar, text, empty, filled, Values, last, next, IsGood, spelling}
 
 -- a new line with so many spaces
 abbrev pub line : ℕ → List ℕ
@@ -24,3 +24,10 @@ abbrev mutual
       last (label_laid_out (spaces + 2) label) (laid_out (spaces + 2) value) (line spaces)
   values_laid_out spaces (next label value blank values) =
       next (label_laid_out (spaces + 2) label) (laid_out (spaces + 2) value) [] (values_laid_out spaces values)
+
+-- What was written is the layout of the value with this text, whose lines have so many spaces.
+pub record IsLaidOut (spaces : ℕ) (bytes written : List ℕ) : Type 0 where
+  pub tree : Tree
+  pub good : IsGood tree
+  pub spells : spelling tree ≡ bytes
+  pub laid : written ≡ spelling (laid_out spaces tree)

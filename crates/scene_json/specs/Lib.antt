@@ -8,6 +8,8 @@ pub mod Members
 pub mod Named
 pub mod Parts
 pub mod Passes
+pub mod Places
+pub mod Stretches
 pub mod TheOne
 pub mod Tree
 pub mod Value

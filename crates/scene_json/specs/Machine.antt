@@ -1,5 +1,6 @@
 -- What each byte does to the machine that reads a value. This project's own, over the grammar of RFC 8259.
-use Rattle.std.specs.Prelude.{◌≡◌, ℕ, ◌+◌, ◌-◌, Option, Some, None, List, [], ◌∷◌, length, drop, is_none, Bool, true, false, not, ◌&&◌, ◌||◌, ◌==◌, nat_lt, nat_le, if◌then◌else◌}
+-- Only contracts of private functions cite this.
+use Rattle.std.specs.Prelude.{◌≡◌, ℕ, ◌+◌, ◌-◌, Option, Some, None, List, [], ◌∷◌, length, drop, is_none, is_some, Bool, true, false, not, ◌&&◌, ◌||◌, ◌==◌, nat_lt, nat_le, if◌then◌else◌}
 use Rattle.scene_json.specs.Characters.{is_space, is_digit, is_hex}
 use Rattle.scene_json.specs.Tree.{Container, array, object, closing, letter_meaning}
 use Rattle.scene_json.specs.Value.{extends_number}
@@ -149,8 +150,8 @@ container_of Square = array
 container_of Curly = object
 
 -- this byte closes the bracket
-abbrev pub is_closing : Bracket → ℕ → Bool
-is_closing bracket b = b == closing (container_of bracket)
+abbrev pub closes_bracket : Bracket → ℕ → Bool
+closes_bracket bracket b = b == closing (container_of bracket)
 
 -- what must come after a comma
 abbrev pub after_comma : Bracket → Mode
@@ -162,7 +163,7 @@ abbrev pub after_move : Option Bracket → ℕ → Move
 after_move None b = End
 after_move (Some bracket) b =
     if is_space b then To After
-    else (if is_closing bracket b then Close
+    else (if closes_bracket bracket b then Close
     else (if b == 44 then To (after_comma bracket)
     else Refuse))
 
@@ -216,7 +217,7 @@ first_move Curly b = name_begun b
 abbrev pub fresh_move : Option Bracket → ℕ → Move
 fresh_move None b = End
 fresh_move (Some bracket) b =
-    if is_space b then To Fresh else (if is_closing bracket b then Close else first_move bracket b)
+    if is_space b then To Fresh else (if closes_bracket bracket b then Close else first_move bracket b)
 
 -- ---- strings
 -- what comes behind a string
@@ -232,6 +233,10 @@ led_on r None = Refuse
 -- a byte of 0x80 or more between two characters
 abbrev pub led_move : Role → ℕ → Move
 led_move r b = led_on r (tail_led b)
+
+-- an ASCII character that stands in a string as it is
+abbrev pub is_bare : ℕ → Bool
+is_bare b = nat_le 0x20 b && (nat_lt b 0x80 && (not (b == 34) && not (b == 92)))
 
 -- between two characters of a string
 abbrev pub plain_move : Role → ℕ → Move
@@ -279,6 +284,27 @@ moved After top b = after_move top b
 moved (Quoted r place) top b = string_move r place b
 moved (Number part) top b = number_move part top b
 moved (Word letters) top b = word_move letters b
+
+-- where an ASCII character that stands in a string as it is leaves the mode as it is
+abbrev pub keeps_bare : Mode → Bool
+keeps_bare (Quoted r Plain) = true
+keeps_bare m = false
+
+-- where a digit does
+abbrev pub keeps_digits : Mode → Bool
+keeps_digits (Number Whole) = true
+keeps_digits (Number Fraction) = true
+keeps_digits (Number Exponent) = true
+keeps_digits m = false
+
+-- where white space does
+abbrev pub keeps_space : Mode → Option Bracket → Bool
+keeps_space mode.Value top = true
+keeps_space Name top = true
+keeps_space Colon top = true
+keeps_space Fresh top = is_some top
+keeps_space After top = is_some top
+keeps_space m top = false
 
 -- What comes of a byte: a mode and the open brackets, the innermost first; the value has ended before this byte; or no
 -- value goes on with it.

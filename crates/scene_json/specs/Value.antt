@@ -43,7 +43,7 @@ pub record Begins (limit : ℕ) (bytes : List ℕ) : Type 0 where
   pub text : List ℕ
   pub parts : bytes ++ more ≡ blank ++ value
   pub space : is_blank blank ≡ true
-  pub is : Value limit value text
+  pub reads : Value limit value text
 
 -- the longest stretch at the front that some continuation makes a value has this length
 pub record IsLongest (bytes : List ℕ) (n : ℕ) : Type 0 where
@@ -81,7 +81,7 @@ pub record IsStray (bytes : List ℕ) (n : ℕ) : Type 0 where
   pub longest : IsLongest bytes n
   pub inside : IsInString (take n bytes)
   pub byte : ℕ
-  pub is : slice_get bytes n ≡ Some byte
+  pub read : slice_get bytes n ≡ Some byte
   pub begins_none : (c : ℕ) (more : List ℕ) → IsScalar c → encode_utf8 c ≡ byte ∷ more → ⊥
 
 abbrev pub IsBadUtf8 : List ℕ → ℕ → Type 0

@@ -1,4 +1,5 @@
 -- What stands at the front of a text that is walked over: a string, what is left of a string, a literal, values.
+-- Only contracts of private functions cite this.
 use Rattle.std.specs.Prelude.{◌≡◌, ◌⊎◌, ◌≤◌, ℕ, List, [], ◌∷◌, ◌++◌, true, drop, flat_map, map}
 use Rattle.std.specs.List.{AllByRecursion, join_with_byte}
 use Rattle.scene_json.specs.Tree.{Piece, unit, IsPiece, piece_spelling, string_spelling, IsNumber, IsWord, Container, closing, Values, values_spelling, values_depth, AreGood}

@@ -14,23 +14,23 @@ use crate::text::{Member, Raw, Text};
 use board_io::List;
 use std::alloc::{AllocError, Global};
 
-/// `null`.
-pub fn raw_null(alloc: Global) -> Result<Raw, AllocError>
+/// `null`. It takes no memory.
+pub fn raw_null(_alloc: Global) -> Result<Raw, AllocError>
     ensures word { IfOk result (λ raw. raw ≡ null_word) }
     ensures nests { IfOk result (IsCompact 0) }
 {
-    Ok(Raw::from_compact(Vec::from_slice(alloc, b"null")?))
+    Ok(Raw::fixed("null"))
 }
 
-/// `true` or `false`.
-pub fn raw_truth(alloc: Global, truth: bool) -> Result<Raw, AllocError>
+/// `true` or `false`. It takes no memory.
+pub fn raw_truth(_alloc: Global, truth: bool) -> Result<Raw, AllocError>
     ensures word { IfOk result (λ raw. raw ≡ (if truth then true_word else false_word)) }
     ensures nests { IfOk result (IsCompact 0) }
 {
     if truth {
-        Ok(Raw::from_compact(Vec::from_slice(alloc, b"true")?))
+        Ok(Raw::fixed("true"))
     } else {
-        Ok(Raw::from_compact(Vec::from_slice(alloc, b"false")?))
+        Ok(Raw::fixed("false"))
     }
 }
 
@@ -40,6 +40,14 @@ pub fn raw_whole(alloc: Global, number: u64) -> Result<Raw, AllocError>
     ensures nests { IfOk result (IsCompact 0) }
 {
     Ok(Raw::from_compact(number.to_string(alloc)?.into_bytes()))
+}
+
+/// The value whose compact text was written. It takes no memory.
+pub fn raw_of(bytes: Vec<u8>) -> Raw
+    requires { IsCompact 128 bytes.items }
+    ensures { result ≡ bytes.items }
+{
+    Raw::from_compact(bytes)
 }
 
 /// The text as a string: `"` and `\` stand behind a `\`, and of the control characters five have a letter and the
@@ -90,8 +98,8 @@ pub fn raw_object(alloc: Global, members: &List<Member>) -> Result<Raw, AllocErr
     Ok(Raw::from_compact(out))
 }
 
-/// Appends a member: its quoted name, a colon and its value.
-pub(crate) fn push_member(out: &mut Vec<u8>, name: &Text, value: &Raw) -> Result<(), AllocError>
+/// Appends a member: its quoted name, a colon and its value. After want of memory a part of it may stand there.
+pub fn push_member(out: &mut Vec<u8>, name: &Text, value: &Raw) -> Result<(), AllocError>
     ensures ok { OnOk result (out.new.items ≡ out.old.items ++ member_text (name.now, value.now)) }
     ensures utf8 { IsUtf8 name.now }
 {
@@ -100,20 +108,48 @@ pub(crate) fn push_member(out: &mut Vec<u8>, name: &Text, value: &Raw) -> Result
     out.extend_from_slice(value.as_bytes())
 }
 
-/// Appends the quote of a text.
-pub(crate) fn push_quote(out: &mut Vec<u8>, text: &Text) -> Result<(), AllocError>
+/// Appends the quote of a text. After want of memory a part of it may stand there.
+pub fn push_quote(out: &mut Vec<u8>, text: &Text) -> Result<(), AllocError>
     ensures ok { OnOk result (out.new.items ≡ out.old.items ++ quote text.now) }
     ensures utf8 { IsUtf8 text.now }
+    ensures nests { IsCompact 0 (quote text.now) }
 {
-    let bytes = text.as_bytes();
+    push_quote_of(out, text.as_bytes())
+}
+
+/// Appends the quote of these characters. After want of memory a part of it may stand there.
+pub fn push_quoted(out: &mut Vec<u8>, characters: &str) -> Result<(), AllocError>
+    ensures ok { OnOk result (out.new.items ≡ out.old.items ++ quote characters.now) }
+    ensures nests { IsCompact 0 (quote characters.now) }
+{
+    push_quote_of(out, characters.as_bytes())
+}
+
+/// Appends a number in digits. After want of memory a part of it may stand there.
+#[tactic(auto, using(crate::proofs::CompactLaws::decimal_nests))]
+pub fn push_whole(out: &mut Vec<u8>, number: u64) -> Result<(), AllocError>
+    ensures ok { OnOk result (out.new.items ≡ out.old.items ++ decimal number) }
+    ensures nests { IsCompact 0 (decimal number) }
+{
+    if number >= 10 {
+        push_whole(out, number / 10)?;
+    }
+    out.push(b'0' + (number % 10) as u8)?;
+    Ok(())
+}
+
+/// Appends the quote of a text of these bytes.
+fn push_quote_of(out: &mut Vec<u8>, text: &[u8]) -> Result<(), AllocError>
+    ensures { OnOk result (out.new.items ≡ out.old.items ++ quote text.now) }
+{
     out.push(b'"')?;
-    push_quoted(out, bytes)?;
+    push_escaped(out, text)?;
     out.push(b'"')?;
     Ok(())
 }
 
 /// Appends what stands between the quotation marks. Bytes that stand for themselves are copied together.
-fn push_quoted(out: &mut Vec<u8>, text: &[u8]) -> Result<(), AllocError>
+fn push_escaped(out: &mut Vec<u8>, text: &[u8]) -> Result<(), AllocError>
     ensures { OnOk result (out.new.items ≡ out.old.items ++ flat_map quoted_byte text.now) }
 {
     let mut rest = text;
@@ -195,6 +231,16 @@ mod tests {
         for (raw, wanted) in &rows {
             assert_eq!(rt; raw.as_bytes(), *wanted);
         }
+        Ok(())
+    }
+
+    #[test]
+    fn appends_values(rt: HostRuntime) -> Result<(), Fail> {
+        let mut out = Vec::new(rt.alloc());
+        push_quoted(&mut out, "a\"")?;
+        push_whole(&mut out, 1050)?;
+        push_member(&mut out, &text(&rt, b"n")?, &raw_null(rt.alloc())?)?;
+        assert_eq!(rt; out.as_slice(), b"\"a\\\"\"1050\"n\":null".as_slice());
         Ok(())
     }
 

@@ -1,19 +1,19 @@
 //! The compact text of a value in a text that is known to be JSON.
 
-ghost use Rattle.std.specs.Prelude.{◌≡◌, ◌≢◌, ℕ, ◌+◌, ◌-◌, ◌<◌, ◌≤◌, List, ◌++◌, drop, take, length, slice_index, IfOk, OnOk};
+ghost use Rattle.std.specs.Prelude.{◌≡◌, ◌≢◌, ℕ, ◌+◌, ◌-◌, ◌<◌, ◌≤◌, List, ◌++◌, drop, take, length, map, slice_index, IfOk};
 ghost use Rattle.std.specs.List.{prefix_len};
-ghost use Rattle.indexmap.specs.IndexMap.{index_map_len};
+ghost use Rattle.scene_json.specs.Characters.{quote};
 ghost use Rattle.scene_json.specs.Tree.{Values, array, object};
-ghost use Rattle.scene_json.specs.Compact.{members, collapsed, object_text};
+ghost use Rattle.scene_json.specs.Compact.{members};
+ghost use Rattle.scene_json.specs.Places.{entries, AreWithin, quoted, joined};
 ghost use Rattle.scene_json.specs.Value;
 ghost use Rattle.scene_json.specs.Value.{Stands};
-ghost use Rattle.scene_json.specs.Walk.{Literal, Filled, AppendsValue, items_text};
+ghost use Rattle.scene_json.specs.Walk.{Quoted, Literal, Filled, AppendsValue, items_text};
 
-use crate::build::{push_member, push_quote};
+use crate::build::push_quote;
+use crate::collapsing::{Place, Span, collapse};
 use crate::content::content_of;
 use crate::end::skip_space;
-use crate::text::{Raw, Text};
-use indexmap::IndexMap;
 use std::alloc::{AllocError, Global};
 
 /// Appends the compact text of the value that stands behind white space at an offset, and gives the offset after the
@@ -38,16 +38,15 @@ pub(crate) fn push_compact(
     }
 }
 
-/// Appends a string, quoted anew.
+/// Appends the string that stands at an offset, quoted anew.
 fn push_string(
     alloc: Global,
     bytes: &[u8],
     at: usize,
     out: &mut Vec<u8>,
 ) -> Result<usize, AllocError>
-    requires stands { (text rest : List ℕ) × Stands (drop at bytes.now) text rest }
-    requires first { slice_index bytes.now at ≡ 34 }
-    ensures ok { IfOk result (λ end. AppendsValue bytes.now at end out.old.items out.new.items) }
+    requires { (text rest : List ℕ) × Quoted (drop at bytes.now) text rest }
+    ensures ok { IfOk result (λ end. (text rest : List ℕ) → Quoted (drop at bytes.now) text rest → (out.new.items ≡ out.old.items ++ quote text) × (drop end bytes.now ≡ rest)) }
     ensures within { IfOk result (λ end. (at < end) × (end ≤ length bytes.now)) }
 {
     let (text, end) = content_of(alloc, bytes, at)?;
@@ -163,48 +162,54 @@ fn push_object(
         out.extend_from_slice(b"{}")?;
         return Ok(first + 1);
     }
-    let (members, end) = collapsed_members(alloc, bytes, at + 1)?;
-    push_members(out, &members)?;
+    let start = out.len();
+    let (places, end) = push_members(alloc, bytes, at + 1, out)?;
+    collapse(alloc, out, start, places.as_slice())?;
     Ok(end)
 }
 
-/// The members of an object: where a name comes again, its last value stands at the first one's place.
+/// Appends the members of an object as they come, and gives the places where they stand now.
 #[cycle(compact)]
-fn collapsed_members(
+fn push_members(
     alloc: Global,
     bytes: &[u8],
     at: usize,
-) -> Result<(IndexMap<Text, Raw>, usize), AllocError>
+    out: &mut Vec<u8>,
+) -> Result<(Vec<Place>, usize), AllocError>
     requires { (values : Values) × (rest : List ℕ) × Filled object (drop at bytes.now) values rest }
-    ensures ok { IfOk result (λ found. (values : Values) (rest : List ℕ) → Filled object (drop at bytes.now) values rest → (found.0.entries ≡ collapsed (members values)) × (drop found.1 bytes.now ≡ rest)) }
+    ensures ok { IfOk result (λ found. (values : Values) (rest : List ℕ) → Filled object (drop at bytes.now) values rest
+        → (out.new.items ≡ out.old.items ++ joined 123 (map quoted (members values)))
+        × (entries out.new.items found.0.items ≡ map quoted (members values)) × (drop found.1 bytes.now ≡ rest)) }
+    ensures placed { IfOk result (λ found. AreWithin (length out.new.items) found.0.items) }
     ensures within { IfOk result (λ found. (at < found.1) × (found.1 ≤ length bytes.now)) }
 {
-    let mut members = IndexMap::new(alloc);
+    let mut places = Vec::new(alloc);
+    let mut mark = b'{';
     let mut next = at;
     loop {
-        let (name, colon) = content_of(alloc, bytes, skip_space(bytes, next))?;
-        let mut value = Vec::new(alloc);
-        let end = push_compact(alloc, bytes, skip_space(bytes, colon) + 1, &mut value)?;
-        members.insert(name, Raw::from_compact(value))?;
-        let mark = skip_space(bytes, end);
-        next = mark + 1;
-        if bytes[mark] == b'}' {
-            return Ok((members, next));
-        }
-    }
-}
-
-/// Appends the object of these members, of which there is one at least.
-fn push_members(out: &mut Vec<u8>, members: &IndexMap<Text, Raw>) -> Result<(), AllocError>
-    requires { 0 < index_map_len members.now }
-    ensures { OnOk result (out.new.items ≡ out.old.items ++ object_text members.now.entries) }
-{
-    let mut mark = b'{';
-    for (name, value) in members.iter() {
         out.push(mark)?;
-        push_member(out, name, value)?;
+        let name_start = out.len();
+        let colon = push_string(alloc, bytes, skip_space(bytes, next), out)?;
+        let name_end = out.len();
+        out.push(b':')?;
+        let value_start = out.len();
+        let end = push_compact(alloc, bytes, skip_space(bytes, colon) + 1, out)?;
+        places.push(Place {
+            name: Span {
+                start: name_start,
+                end: name_end,
+            },
+            value: Span {
+                start: value_start,
+                end: out.len(),
+            },
+        })?;
+        let closed = skip_space(bytes, end);
+        next = closed + 1;
+        if bytes[closed] == b'}' {
+            out.push(b'}')?;
+            return Ok((places, next));
+        }
         mark = b',';
     }
-    out.push(b'}')?;
-    Ok(())
 }

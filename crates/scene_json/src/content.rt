@@ -1,6 +1,6 @@
 //! The text of a string in a text that is known to be JSON.
 
-ghost use Rattle.std.specs.Prelude.{◌≡◌, ◌≢◌, ℕ, [], ◌∷◌, true, ◌+◌, ◌*◌, ◌^◌, ◌<◌, ◌≤◌, List, ◌++◌, drop, length, slice_get, slice_index, Some, IfOk, OnOk, IfSome, IfNone, encode_utf8};
+ghost use Rattle.std.specs.Prelude.{◌≡◌, ◌≢◌, ℕ, [], ◌∷◌, true, ◌+◌, ◌*◌, ◌^◌, ◌<◌, ◌≤◌, ◌-◌, List, ◌++◌, take, drop, length, slice_get, slice_index, Some, IfOk, OnOk, IfSome, IfNone, encode_utf8};
 ghost use Rattle.std.specs.List.{prefix_len, list_all};
 ghost use Rattle.scene_json.specs.Characters;
 ghost use Rattle.scene_json.specs.Characters.{is_hex, is_plain};
@@ -10,8 +10,33 @@ ghost use Rattle.scene_json.specs.Compact;
 ghost use Rattle.scene_json.specs.Tree;
 ghost use Rattle.scene_json.specs.Walk.{Quoted, Unread, Takes, StartsWithUnit};
 
-use crate::text::Text;
+use crate::text::{Raw, Text};
 use std::alloc::{AllocError, Global};
+
+/// The text of the string at an offset of a value, and the offset after the string. Where no character is escaped, no
+/// byte is copied.
+pub(crate) fn text_at(alloc: Global, value: &Raw, at: usize) -> Result<(Text, usize), AllocError>
+    requires { (text rest : List ℕ) × Quoted (drop at value.now) text rest }
+    ensures found { IfOk result (λ found. (text rest : List ℕ) → Quoted (drop at value.now) text rest → (found.0 ≡ text) × (drop found.1 value.now ≡ rest)) }
+    ensures within { IfOk result (λ found. (at < found.1) × (found.1 ≤ length value.now)) }
+{
+    let bytes = value.as_bytes();
+    match plain_end(bytes, at) {
+        Some(end) => Ok((value.cut_text(at + 1, end)?, end + 1)),
+        None => content_of(alloc, bytes, at),
+    }
+}
+
+/// Where the closing quotation mark of the string at an offset stands, if no character in the string is escaped.
+pub(crate) fn plain_end(bytes: &[u8], at: usize) -> Option<usize>
+    requires { (text rest : List ℕ) × Quoted (drop at bytes.now) text rest }
+    ensures text { IfSome result (λ end. (text rest : List ℕ) → Quoted (drop at bytes.now) text rest
+        → (take (end - (at + 1)) (drop (at + 1) bytes.now) ≡ text) × (drop (end + 1) bytes.now ≡ rest)) }
+    ensures within { IfSome result (λ end. (at < end) × (end < length bytes.now)) }
+{
+    let end = run_end(bytes, at + 1);
+    if bytes[end] == b'"' { Some(end) } else { None }
+}
 
 /// The text of the string at an offset, and the offset after the string.
 pub(crate) fn content_of(

@@ -34,11 +34,12 @@ pub(crate) fn value_end(bytes: &[u8], at: usize) -> Result<usize, JsonFault>
     ensures fault { IfErr result (IsFirstFault bytes.now at) }
 {
     let mut machine = Machine::new();
-    for i in at..bytes.len() {
-        match machine.step(bytes[i]) {
-            Step::On => {}
-            Step::Ended => return Ok(i),
-            Step::Refused => return Err(machine.fault(Some(bytes[i]), i)),
+    let mut next = machine.stay_end(bytes, at);
+    while next < bytes.len() {
+        match machine.step(bytes[next]) {
+            Step::On => next = machine.stay_end(bytes, next + 1),
+            Step::Ended => return Ok(next),
+            Step::Refused => return Err(machine.fault(Some(bytes[next]), next)),
         }
     }
     if machine.is_done() {

@@ -1,12 +1,12 @@
 //! Laws on texts, for all bytes. They do nothing when they run.
 
-ghost use Rattle.std.specs.Prelude.{◌≡◌, ℕ, List, [], ◌∷◌, ◌++◌, true, bytes_eq, IsPermutation};
-ghost use Rattle.std.specs.List.{list_any, IsDistinct};
+ghost use Rattle.std.specs.Prelude.{◌≡◌, ◌≤◌, ℕ, List, [], bytes_eq, IsPermutation};
+ghost use Rattle.std.specs.List.{IsDistinct};
 ghost use Rattle.scene_json.specs.Alike.{AreAlike};
-ghost use Rattle.scene_json.specs.Compact.{Member, compact, collapsed, object_text};
+ghost use Rattle.scene_json.specs.Compact.{Member, compact};
 ghost use Rattle.scene_json.specs.Named.{AreSameMembers, HaveRisingNames};
 ghost use Rattle.scene_json.specs.Parts.{names_of};
-ghost use Rattle.scene_json.specs.Tree.{Tree};
+ghost use Rattle.scene_json.specs.Tree.{Tree, spelling, IsGood, depth};
 ghost use Rattle.scene_json.specs.Value.{Value, Stands};
 ghost use Rattle.scene_json.specs.Faults.{IsFaultOf};
 ghost use Rattle.scene_json.specs.declared.fault.JsonFault.{JsonFault};
@@ -29,16 +29,12 @@ pub fn value_is_read_whole()
     ensures compact { (bytes text : List ℕ) → Value 128 bytes text → Stands text text [] }
 {}
 
-/// White space outside strings and the spelling of characters play no part in the compact text.
-pub fn spelling_plays_no_part()
-    ensures { (tree other : Tree) → AreAlike tree other → compact tree ≡ compact other }
-{}
-
-/// The earlier values of a repeated name play no part in the compact text.
-pub fn earlier_values_play_no_part()
-    ensures { (before behind : List Member) (name value other : List ℕ)
-        → list_any (bytes_eq name) (names_of behind) ≡ true
-        → object_text (collapsed (before ++ (name, value) ∷ behind)) ≡ object_text (collapsed (before ++ (name, other) ∷ behind)) }
+/// White space outside strings, the spelling of characters and the earlier values of repeated names, at any depth, play
+/// no part in the compact text.
+pub fn spelling_and_earlier_values_play_no_part()
+    ensures trees { (tree other : Tree) → AreAlike tree other → compact tree ≡ compact other }
+    ensures texts { (tree other : Tree) → IsGood tree → IsGood other → depth tree ≤ 128 → depth other ≤ 128
+        → AreAlike tree other → (text : List ℕ) × Stands (spelling tree) text [] × Stands (spelling other) text [] }
 {}
 
 /// The order of members of distinct names plays no part in what is found by a name.

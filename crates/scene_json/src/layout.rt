@@ -2,7 +2,7 @@
 
 ghost use Rattle.std.specs.Prelude.{◌≡◌, ◌+◌, ◌++◌, ◌*◌, ◌<◌, ◌^◌, IfOk, OnOk};
 ghost use Rattle.scene_json.specs.Layout.{line, laid_out};
-ghost use Rattle.scene_json.specs.Passes.{is_opening, is_closing, spaces_from, put_before, put_behind};
+ghost use Rattle.scene_json.specs.Passes.{behind_token, is_opening, is_closing, spaces_from, put_before, put_behind};
 ghost use Rattle.scene_json.specs.Tree.{Tree, IsGood, spelling};
 ghost use Rattle.scene_json.specs.Value.{Value};
 
@@ -19,40 +19,49 @@ pub fn pretty(alloc: Global, value: &Raw) -> Result<Bytes, AllocError>
         → bytes ≡ spelling (laid_out 0 tree)) }
     ensures value { IfOk result (λ bytes. Value 128 bytes value.now) }
 {
-    Ok(Bytes::from_vec(laid_out(alloc, value.as_bytes())?))
+    let mut out = Vec::new(alloc);
+    push_pretty(&mut out, value.as_bytes(), 0)?;
+    Ok(Bytes::from_vec(out))
 }
 
-/// The layout of a text of JSON, whose own white space is left out.
-fn laid_out(alloc: Global, text: &[u8]) -> Result<Vec<u8>, AllocError>
-    ensures { IfOk result (λ bytes. (tree : Tree) → IsGood tree → spelling tree ≡ text.now
-        → bytes.items ≡ spelling (laid_out 0 tree)) }
+/// Appends the layout of a value that stands so many levels deep, from its text, whose own white space is left out. Its
+/// first line isn't begun. After want of memory a part of it may stand there.
+pub fn push_pretty(out: &mut Vec<u8>, text: &[u8], level: u32) -> Result<(), AllocError>
+    ensures { OnOk result ((tree : Tree) → IsGood tree → spelling tree ≡ text.now
+        → out.new.items ≡ out.old.items ++ spelling (laid_out (2 * level) tree)) }
 {
-    let mut bytes = Vec::new(alloc);
-    let mut level = 0;
+    let mut current = u64::from(level);
     let mut first = false;
     let mut rest = text;
     while let Some((byte, others)) = rest.split_first() {
-        let after = if *byte == b'"' {
-            after_string(others)
-        } else {
-            others
-        };
+        let after = behind_token(*byte, others);
         if !is_space(*byte) {
-            level = break_line(&mut bytes, level, first, *byte)?;
-            bytes.extend_from_slice(&rest[..rest.len() - after.len()])?;
-            part(&mut bytes, level, *byte)?;
+            current = break_line(out, current, first, *byte)?;
+            out.extend_from_slice(&rest[..rest.len() - after.len()])?;
+            part(out, current, *byte)?;
             first = opens(*byte);
         }
         rest = after;
     }
-    Ok(bytes)
+    Ok(())
+}
+
+/// What stands behind the token that begins with this byte, a string or the byte alone.
+fn behind_token(byte: u8, others: &[u8]) -> &[u8]
+    ensures { result.now ≡ behind_token byte others.now }
+{
+    if byte == b'"' {
+        after_string(others)
+    } else {
+        others
+    }
 }
 
 /// Begins the line of this byte, if it is the first in a container or closes one that isn't empty, and gives its level.
-fn break_line(bytes: &mut Vec<u8>, level: u64, first: bool, byte: u8) -> Result<u64, AllocError>
+fn break_line(out: &mut Vec<u8>, level: u64, first: bool, byte: u8) -> Result<u64, AllocError>
     requires { level + 1 < 2 ^ 64 }
     ensures level { IfOk result (λ now. 2 * now ≡ spaces_from first (2 * level) byte) }
-    ensures written { OnOk result (bytes.new.items ≡ bytes.old.items ++ put_before first (2 * level) byte) }
+    ensures written { OnOk result (out.new.items ≡ out.old.items ++ put_before first (2 * level) byte) }
 {
     let closing = closes(byte);
     if closing == first {
@@ -63,28 +72,28 @@ fn break_line(bytes: &mut Vec<u8>, level: u64, first: bool, byte: u8) -> Result<
     } else {
         level + 1
     };
-    new_line(bytes, level)?;
+    push_line(out, level)?;
     Ok(level)
 }
 
 /// Parts this byte from what follows it, if it is a comma or a colon.
-fn part(bytes: &mut Vec<u8>, level: u64, byte: u8) -> Result<(), AllocError>
-    ensures { OnOk result (bytes.new.items ≡ bytes.old.items ++ put_behind (2 * level) byte) }
+fn part(out: &mut Vec<u8>, level: u64, byte: u8) -> Result<(), AllocError>
+    ensures { OnOk result (out.new.items ≡ out.old.items ++ put_behind (2 * level) byte) }
 {
     match byte {
-        b',' => new_line(bytes, level),
-        b':' => bytes.extend_from_slice(b" "),
+        b',' => push_line(out, level),
+        b':' => out.extend_from_slice(b" "),
         _ => Ok(()),
     }
 }
 
-/// Begins a line with two spaces for each level.
-fn new_line(bytes: &mut Vec<u8>, level: u64) -> Result<(), AllocError>
-    ensures { OnOk result (bytes.new.items ≡ bytes.old.items ++ line (2 * level)) }
+/// Begins a line with two spaces for each level. After want of memory a part of it may stand there.
+pub fn push_line(out: &mut Vec<u8>, level: u64) -> Result<(), AllocError>
+    ensures { OnOk result (out.new.items ≡ out.old.items ++ line (2 * level)) }
 {
-    bytes.extend_from_slice(b"\n")?;
+    out.extend_from_slice(b"\n")?;
     for _ in 0..level {
-        bytes.extend_from_slice(b"  ")?;
+        out.extend_from_slice(b"  ")?;
     }
     Ok(())
 }

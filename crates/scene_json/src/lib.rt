@@ -3,6 +3,7 @@
 
 mod brackets;
 mod build;
+mod collapsing;
 mod compacting;
 mod content;
 mod end;
@@ -20,15 +21,22 @@ mod samples;
 mod scalar;
 mod scanning;
 mod sequence;
+mod staying;
+mod stretch;
 mod text;
+mod texts;
 
-pub use build::{raw_array, raw_null, raw_object, raw_text, raw_truth, raw_whole};
+pub use build::{
+    push_member, push_quote, push_quoted, push_whole, raw_array, raw_null, raw_object, raw_of,
+    raw_text, raw_truth, raw_whole,
+};
 pub use end::skip_space;
 pub use fault::{JsonFault, Shape};
-pub use layout::pretty;
+pub use layout::{pretty, push_line, push_pretty};
 pub use named::{has_value, is_one_of, shaped, text_named, truth_named, value_named, whole_named};
 pub use nesting::depth_of;
 pub use parts::{items, members, text_of};
 pub use scalar::{GREATEST_WHOLE, is_null, truth_of, whole_of};
 pub use scanning::scan;
 pub use text::{Member, Raw, Text};
+pub use texts::texts_of;

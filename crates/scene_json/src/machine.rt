@@ -2,15 +2,17 @@
 //!
 //! Its state is a mode and the brackets that are open. It takes no memory and can be kept between calls.
 
-ghost use Rattle.std.specs.Prelude.{◌≡◌, ◌↔◌, IsTrue, []};
+ghost use Rattle.std.specs.Prelude.{◌≡◌, ◌↔◌, ◌-◌, ◌≤◌, IsTrue, [], take, drop, length};
+ghost use Rattle.std.specs.List.{AllByRecursion};
 ghost use Rattle.scene_json.specs.Characters.{is_space, is_hex};
-ghost use Rattle.scene_json.specs.Value.{extends_number};
-ghost use Rattle.scene_json.specs.Machine.{is_closing, after_comma, after_string, value_begun, value_move, fresh_move, name_begun, name_move, colon_move, after_move, plain_move, led_move, escape_move, hex_move, sequence_move, string_move, number_move, first_letter, letters_after, word_move, moved, string_fault, bracket_fault, fault_of, top, step, ended, Stepped};
+ghost use Rattle.scene_json.specs.Machine.{closes_bracket, after_comma, after_string, value_begun, value_move, fresh_move, name_begun, name_move, colon_move, after_move, plain_move, led_move, escape_move, hex_move, sequence_move, string_move, number_move, first_letter, letters_after, word_move, moved, string_fault, bracket_fault, fault_of, top, step, ended, Stepped};
+ghost use Rattle.scene_json.specs.declared.machine.Move.TheVariants.{To};
 
 use crate::brackets::{Bracket, Brackets};
 use crate::fault::JsonFault;
-use crate::number::Part;
+use crate::number::{Part, extends_number};
 use crate::sequence::Tail;
+use crate::staying::stay_end;
 
 /// What a string is for.
 #[derive(Clone, Copy)]
@@ -128,6 +130,15 @@ impl Machine {
         Step::On
     }
 
+    /// Where a stretch from `at` on ends whose bytes all leave the machine as it is.
+    pub(crate) fn stay_end(&self, bytes: &[u8], at: usize) -> usize
+        requires { at ≤ length bytes.now }
+        ensures within { (at ≤ result) × (result ≤ length bytes.now) }
+        ensures stays { AllByRecursion (λ b. moved self.now.mode (top self.now.brackets) b ≡ To self.now.mode) (take (result - at) (drop at bytes.now)) }
+    {
+        stay_end(self.mode, self.brackets.top(), bytes, at)
+    }
+
     /// The value may end here: white space would end it too.
     pub(crate) fn is_done(&self) -> bool
         ensures { IsTrue result ↔ (step 128 self.now.mode self.now.brackets 32 ≡ ended 32) }
@@ -147,6 +158,7 @@ impl Machine {
 }
 
 /// What a byte does in this mode, where `top` is the innermost open bracket.
+#[inline(always)]
 pub(crate) fn moved(mode: Mode, top: Option<Bracket>, byte: u8) -> Move
     ensures { result ≡ moved mode top byte }
 {
@@ -204,7 +216,7 @@ fn fresh_move(top: Option<Bracket>, byte: u8) -> Move
     };
     if is_space(byte) {
         Move::To(Mode::Fresh)
-    } else if is_closing(bracket, byte) {
+    } else if closes_bracket(bracket, byte) {
         Move::Close
     } else {
         match bracket {
@@ -214,8 +226,8 @@ fn fresh_move(top: Option<Bracket>, byte: u8) -> Move
     }
 }
 
-fn is_closing(bracket: Bracket, byte: u8) -> bool
-    ensures { result ≡ is_closing bracket byte }
+fn closes_bracket(bracket: Bracket, byte: u8) -> bool
+    ensures { result ≡ closes_bracket bracket byte }
 {
     match bracket {
         Bracket::Square => byte == b']',
@@ -263,7 +275,7 @@ fn after_move(top: Option<Bracket>, byte: u8) -> Move
     };
     if is_space(byte) {
         Move::To(Mode::After)
-    } else if is_closing(bracket, byte) {
+    } else if closes_bracket(bracket, byte) {
         Move::Close
     } else if byte == b',' {
         Move::To(after_comma(bracket))
@@ -358,6 +370,7 @@ fn sequence_move(role: Role, length: u8, tail: Tail, byte: u8) -> Move
     }
 }
 
+#[inline(always)]
 fn number_move(part: Part, top: Option<Bracket>, byte: u8) -> Move
     ensures { result ≡ number_move part top byte }
 {
@@ -366,13 +379,6 @@ fn number_move(part: Part, top: Option<Bracket>, byte: u8) -> Move
         None if part.is_complete() && !extends_number(byte) => after_move(top, byte),
         None => Move::Refuse,
     }
-}
-
-/// A number is never followed directly by such a byte.
-fn extends_number(byte: u8) -> bool
-    ensures { result ≡ extends_number byte }
-{
-    matches!(byte, b'0'..=b'9' | b'.' | b'e' | b'E' | b'+' | b'-')
 }
 
 fn word_move(letters: Letters, byte: u8) -> Move

@@ -1,6 +1,7 @@
 //! The literal of a number, byte by byte.
 
 ghost use Rattle.std.specs.Prelude.{◌≡◌};
+ghost use Rattle.scene_json.specs.Value.{extends_number};
 ghost use Rattle.scene_json.specs.Machine.{part_begun, whole_begun, part_after, after_whole, after_fraction, is_complete};
 
 /// The part of a number that came last.
@@ -95,4 +96,11 @@ impl Part {
             _ => None,
         }
     }
+}
+
+/// A number is never followed directly by such a byte.
+pub(crate) fn extends_number(byte: u8) -> bool
+    ensures { result ≡ extends_number byte }
+{
+    matches!(byte, b'0'..=b'9' | b'.' | b'e' | b'E' | b'+' | b'-')
 }

@@ -11,7 +11,7 @@ ghost use Rattle.scene_json.specs.Passes.{ends_value};
 ghost use Rattle.scene_json.specs.Value.{IsCompact};
 ghost use Rattle.scene_json.specs.Walk.{Compacted};
 
-use crate::content::content_of;
+use crate::content::text_at;
 use crate::fault::Shape;
 use crate::nesting::after_string;
 use crate::text::{Member, Raw, Text};
@@ -28,7 +28,7 @@ pub fn text_of(alloc: Global, value: &Raw) -> Result<Text, Stop<Shape>>
     if !begins_with(bytes, b'"') {
         return Err(Stop::Fault(Shape));
     }
-    let (text, _end) = content_of(alloc, bytes, 0)?;
+    let (text, _end) = text_at(alloc, value, 0)?;
     Ok(text)
 }
 
@@ -58,19 +58,20 @@ pub fn items(alloc: Global, value: &Raw) -> Result<List<Raw>, Stop<Shape>>
     if begins_with(rest, b']') {
         return Ok(List::new(alloc));
     }
-    Ok(List::from_vec(items_from(alloc, bytes)?))
+    Ok(List::from_vec(items_from(alloc, value)?))
 }
 
 /// The items of an array that has some.
-fn items_from(alloc: Global, bytes: &[u8]) -> Result<Vec<Raw>, AllocError>
-    requires { (first : Items ℕ) × (more : Items (Items ℕ)) × AllByRecursion (IsCompact 127) (first ∷ more) × (bytes.now ≡ array_text (first ∷ more)) }
-    ensures { IfOk result (λ found. (all : Items (Items ℕ)) → AllByRecursion (IsCompact 127) all → bytes.now ≡ array_text all → found.items ≡ all) }
+fn items_from(alloc: Global, value: &Raw) -> Result<Vec<Raw>, AllocError>
+    requires { (first : Items ℕ) × (more : Items (Items ℕ)) × AllByRecursion (IsCompact 127) (first ∷ more) × (value.now ≡ array_text (first ∷ more)) }
+    ensures { IfOk result (λ found. (all : Items (Items ℕ)) → AllByRecursion (IsCompact 127) all → value.now ≡ array_text all → found.items ≡ all) }
 {
+    let bytes = value.as_bytes();
     let mut found = Vec::new(alloc);
     let mut at = 1;
     loop {
         let end = next_end(bytes, at);
-        found.push(raw_between(alloc, bytes, at, end)?)?;
+        found.push(value.cut(at, end)?)?;
         if bytes[end] == b']' {
             return Ok(found);
         }
@@ -93,20 +94,21 @@ pub fn members(alloc: Global, value: &Raw) -> Result<List<Member>, Stop<Shape>>
     if begins_with(rest, b'}') {
         return Ok(List::new(alloc));
     }
-    Ok(List::from_vec(members_from(alloc, bytes)?))
+    Ok(List::from_vec(members_from(alloc, value)?))
 }
 
 /// The members of an object that has some.
-fn members_from(alloc: Global, bytes: &[u8]) -> Result<Vec<Member>, AllocError>
-    requires { (first : Pair) × (more : Items Pair) × AreMembers 127 (first ∷ more) × (bytes.now ≡ object_text (first ∷ more)) }
-    ensures { IfOk result (λ found. (all : Items Pair) → AreMembers 127 all → bytes.now ≡ object_text all → pairs found.items ≡ all) }
+fn members_from(alloc: Global, value: &Raw) -> Result<Vec<Member>, AllocError>
+    requires { (first : Pair) × (more : Items Pair) × AreMembers 127 (first ∷ more) × (value.now ≡ object_text (first ∷ more)) }
+    ensures { IfOk result (λ found. (all : Items Pair) → AreMembers 127 all → value.now ≡ object_text all → pairs found.items ≡ all) }
 {
+    let bytes = value.as_bytes();
     let mut found = Vec::new(alloc);
     let mut at = 1;
     loop {
-        let (name, colon) = content_of(alloc, bytes, at)?;
+        let (name, colon) = text_at(alloc, value, at)?;
         let end = next_end(bytes, colon + 1);
-        let value = raw_between(alloc, bytes, colon + 1, end)?;
+        let value = value.cut(colon + 1, end)?;
         found.push(Member { name, value })?;
         if bytes[end] == b'}' {
             return Ok(found);
@@ -152,13 +154,4 @@ fn ends_value(byte: u8) -> bool
     ensures { result ≡ ends_value byte }
 {
     matches!(byte, b',' | b']' | b'}')
-}
-
-/// The value whose compact text stands between two offsets.
-fn raw_between(alloc: Global, bytes: &[u8], at: usize, end: usize) -> Result<Raw, AllocError>
-    requires within { (at ≤ end) × (end ≤ length bytes.now) }
-    requires compact { IsCompact 128 (take (end - at) (drop at bytes.now)) }
-    ensures { IfOk result (λ raw. raw ≡ take (end - at) (drop at bytes.now)) }
-{
-    Ok(Raw::from_compact(Vec::from_slice(alloc, &bytes[at..end])?))
 }

@@ -1,16 +1,17 @@
 //! Texts, and the compact texts of values.
 
-ghost use Rattle.std.specs.Prelude.{◌≡◌, IfOk, MatchOption};
+ghost use Rattle.std.specs.Prelude.{◌≡◌, ◌-◌, ◌≤◌, take, drop, length, IfOk, MatchOption};
 ghost use Rattle.std.specs.Str.{IsUtf8};
 ghost use Rattle.scene_json.specs.Value.{IsCompact};
 
+use crate::stretch::Stretch;
 use std::alloc::{AllocError, Global};
 use std::marker::Model;
 
 /// A text: bytes that are UTF-8.
 #[derive(Drop)]
 pub struct Text {
-    bytes: Vec<u8>,
+    bytes: Stretch,
 }
 
 impl Model for Text {
@@ -19,15 +20,15 @@ impl Model for Text {
 
     ghost Value = { List ℕ };
 
-    ghost view = { λ t. t.bytes.items };
+    ghost view = { λ t. t.bytes };
 
-    ghost invariant = { λ t. IsUtf8 t.bytes.items };
+    ghost invariant = { λ t. IsUtf8 t.bytes };
 }
 
 /// The compact text of one JSON value, in which at most 128 brackets are open at once.
 #[derive(Drop)]
 pub struct Raw {
-    bytes: Vec<u8>,
+    bytes: Stretch,
 }
 
 impl Model for Raw {
@@ -36,9 +37,9 @@ impl Model for Raw {
 
     ghost Value = { List ℕ };
 
-    ghost view = { λ r. r.bytes.items };
+    ghost view = { λ r. r.bytes };
 
-    ghost invariant = { λ r. IsCompact 128 r.bytes.items };
+    ghost invariant = { λ r. IsCompact 128 r.bytes };
 }
 
 /// A member of an object.
@@ -56,9 +57,7 @@ impl Text {
         if std::str::from_utf8(bytes).is_err() {
             return Ok(None);
         }
-        Ok(Some(Text {
-            bytes: Vec::from_slice(alloc, bytes)?,
-        }))
+        Ok(Some(Text::from_utf8(Vec::from_slice(alloc, bytes)?)))
     }
 
     /// The text of these characters.
@@ -66,6 +65,15 @@ impl Text {
         ensures { IfOk result (λ text. text ≡ characters.now) }
     {
         Ok(Text::read(alloc, characters.as_bytes())?.unwrap())
+    }
+
+    /// The text of these characters of the program. It takes no memory.
+    pub fn fixed(characters: &'static str) -> Text
+        ensures { result ≡ characters.now }
+    {
+        Text {
+            bytes: Stretch::fixed(characters.as_bytes()),
+        }
     }
 
     /// The bytes, which are UTF-8.
@@ -76,12 +84,12 @@ impl Text {
         self.bytes.as_slice()
     }
 
-    /// An equal text.
+    /// An equal text, of which no byte is copied.
     pub fn try_clone(&self) -> Result<Text, AllocError>
         ensures { IfOk result (λ copy. copy ≡ self.now) }
     {
         Ok(Text {
-            bytes: self.bytes.clone()?,
+            bytes: self.bytes.try_clone()?,
         })
     }
 
@@ -90,11 +98,23 @@ impl Text {
         requires { IsUtf8 bytes.items }
         ensures { result ≡ bytes.items }
     {
-        Text { bytes }
+        Text {
+            bytes: Stretch::from_vec(bytes),
+        }
     }
 }
 
 impl Raw {
+    /// The value with this compact text of the program. It takes no memory.
+    pub fn fixed(text: &'static str) -> Raw
+        requires { IsCompact 128 text.now }
+        ensures { result ≡ text.now }
+    {
+        Raw {
+            bytes: Stretch::fixed(text.as_bytes()),
+        }
+    }
+
     /// The bytes, which are the compact text of one value.
     pub fn as_bytes(&self) -> &[u8]
         ensures value { result.now ≡ self.now }
@@ -103,12 +123,34 @@ impl Raw {
         self.bytes.as_slice()
     }
 
-    /// An equal value.
+    /// An equal value, of which no byte is copied.
     pub fn try_clone(&self) -> Result<Raw, AllocError>
         ensures { IfOk result (λ copy. copy ≡ self.now) }
     {
         Ok(Raw {
-            bytes: self.bytes.clone()?,
+            bytes: self.bytes.try_clone()?,
+        })
+    }
+
+    /// The value whose compact text stands between two offsets of this one's. No byte is copied.
+    pub(crate) fn cut(&self, start: usize, end: usize) -> Result<Raw, AllocError>
+        requires within { (start ≤ end) × (end ≤ length self.now) }
+        requires compact { IsCompact 128 (take (end - start) (drop start self.now)) }
+        ensures { IfOk result (λ raw. raw ≡ take (end - start) (drop start self.now)) }
+    {
+        Ok(Raw {
+            bytes: self.bytes.cut(start, end)?,
+        })
+    }
+
+    /// The text that stands between two offsets of the compact text. No byte is copied.
+    pub(crate) fn cut_text(&self, start: usize, end: usize) -> Result<Text, AllocError>
+        requires within { (start ≤ end) × (end ≤ length self.now) }
+        requires utf8 { IsUtf8 (take (end - start) (drop start self.now)) }
+        ensures { IfOk result (λ text. text ≡ take (end - start) (drop start self.now)) }
+    {
+        Ok(Text {
+            bytes: self.bytes.cut(start, end)?,
         })
     }
 
@@ -117,7 +159,9 @@ impl Raw {
         requires { IsCompact 128 bytes.items }
         ensures { result ≡ bytes.items }
     {
-        Raw { bytes }
+        Raw {
+            bytes: Stretch::from_vec(bytes),
+        }
     }
 }
 

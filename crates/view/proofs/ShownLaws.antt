@@ -132,6 +132,7 @@ keys_of_live live h =
 
 pub record IsShown (live elements : List Drawn) : Type 0 where
   pub keys : HaveRisingKeys elements
+  pub along : ids_of elements ≡ ids_of (in_scene_order live)
   pub ids : IsPermutation (ids_of live) (ids_of elements)
   pub others : IsPermutation (map without_index live) (map without_index elements)
   pub stay_live : list_all is_live live ≡ true → list_all is_live elements ≡ true
@@ -146,6 +147,7 @@ shown-is live h =
     let count : length keys ≡ length ordered = are.count ∙ length-map ordered index_of in
     record {
       keys = record { keys = keys; each = indices-keyed ordered keys count; rise = are.rise };
+      along = ids_of-keyed ordered keys count;
       ids = subst (IsPermutation (ids_of live)) (sym (ids_of-keyed ordered keys count)) (IsPermutation-map (λ (e : Drawn). e.id) live ordered moved);
       others = subst (IsPermutation (map without_index live)) (sym (others-keyed ordered keys count)) (IsPermutation-map without_index live ordered moved);
       stay_live = λ all. live-keyed ordered keys (list_all-permuted is_live live ordered moved all);
@@ -181,7 +183,7 @@ shown-again live others apart h all moved =
 -- ---- for the code
 pub record IsViewOf (live elements : List Drawn) : Type 0 where
   pub keys : HaveRisingKeys elements
-  pub order : IsSceneOrder live (in_scene_order live)
+  pub order : (ordered : List Drawn) × IsSceneOrder live ordered × (ids_of elements ≡ ids_of ordered)
   pub ids : IsPermutation (ids_of live) (ids_of elements)
   pub others : IsPermutation (map without_index live) (map without_index elements)
   pub again : (stored : List Drawn) → IsPermutation elements stored → shown (live_elements stored) ≡ elements
@@ -192,7 +194,7 @@ IsViewOf-from live elements view =
     let apart = HaveDistinctIds-rising live view.ordered in
     subst (IsViewOf live) (sym view.exact) (record {
       keys = is.keys;
-      order = in_scene_order-is live apart;
+      order = (in_scene_order live, in_scene_order-is live apart, is.along);
       ids = is.ids;
       others = is.others;
       again = λ stored moved. shown-again live stored apart view.keys view.all_live moved;

@@ -5,7 +5,7 @@ ghost use Rattle.std.specs.List.{zip};
 ghost use Rattle.frac_keys.specs.Rising.{are_rising};
 ghost use Rattle.elem.specs.Drawn.{Drawn};
 ghost use Rattle.elem_store.specs.Updates.{ids_of};
-ghost use Rattle.view.specs.Shown.{is_live, live_elements, in_scene_order, index_of, shown, with_index, HaveDistinctIds, HaveKeysOrNone, HaveRisingKeys, IsSceneOrder, without_index};
+ghost use Rattle.view.specs.Shown.{is_live, live_elements, index_of, shown, with_index, HaveDistinctIds, HaveKeysOrNone, HaveRisingKeys, IsSceneOrder, without_index};
 
 use crate::order;
 use board_io::List;
@@ -49,7 +49,7 @@ impl View {
     pub fn elements(&self) -> &[Element]
         ensures exact { result.now ≡ shown self.now }
         ensures keys { HaveRisingKeys result.now }
-        ensures order { IsSceneOrder self.now (in_scene_order self.now) }
+        ensures order { (ordered : Items Drawn) × IsSceneOrder self.now ordered × (ids_of result.now ≡ ids_of ordered) }
         ensures ids { IsPermutation (ids_of self.now) (ids_of result.now) }
         ensures others { IsPermutation (map without_index self.now) (map without_index result.now) }
 

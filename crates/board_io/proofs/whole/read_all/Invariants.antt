@@ -5,8 +5,8 @@ use Rattle.board_io.proofs.whole.read_all.Given as goal
 abbrev pub invariant-loop-all : goal.invariant-loop-all
 invariant-loop-all g l = record {
   within : vec_len l.all ≤ l.limit + 1;
-  given : Gave (g.S.Source.left l.initial.source) (g.S.Source.left l.source) l.all.items;
-  counted : g.S.Source.faults l.initial.source ≤ g.S.Source.faults l.source;
+  given : Gave (g.S.Source.seen l.initial.source) (g.S.Source.seen l.source) l.all.items;
+  counted : (g.S.Source.seen l.initial.source).faults ≤ (g.S.Source.seen l.source).faults;
   piece : vec_len l.piece ≡ 65536;
 }
 

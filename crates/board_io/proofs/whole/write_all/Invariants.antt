@@ -5,8 +5,8 @@ use Rattle.board_io.proofs.whole.write_all.Given as goal
 abbrev pub invariant-loop-out : goal.invariant-loop-out
 invariant-loop-out g l = record {
   within : l.out ≤ length l.bytes;
-  taken : Took (g.K.Sink.held l.initial.sink) (g.K.Sink.held l.sink) (take l.out l.bytes);
-  counted : g.K.Sink.faults l.initial.sink ≤ g.K.Sink.faults l.sink;
+  taken : Took (g.K.Sink.seen l.initial.sink) (g.K.Sink.seen l.sink) (take l.out l.bytes);
+  counted : (g.K.Sink.seen l.initial.sink).faults ≤ (g.K.Sink.seen l.sink).faults;
 }
 
 abbrev pub decreases-loop-out : goal.decreases-loop-out

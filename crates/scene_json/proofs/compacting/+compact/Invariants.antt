@@ -1,5 +1,6 @@
 use Rattle.std.proofs.Common.{◌+◌, ◌-◌, ◌*◌, length}
-use Rattle.scene_json.proofs.Turns.{Items, Members}
+use Rattle.scene_json.proofs.Turns.{Items}
+use Rattle.scene_json.proofs.Writing.{Written}
 use Rattle.scene_json.proofs.compacting.+compact.Given as goal
 
 -- A value is read before the container that begins at the same byte, and the values behind its bracket after it.
@@ -15,14 +16,14 @@ decreases-push_object l = 3 * (length l.bytes.now - l.at)
 abbrev pub decreases-push_items : goal.decreases-push_items
 decreases-push_items l = 3 * (length l.bytes.now - l.at) + 2
 
-abbrev pub decreases-collapsed_members : goal.decreases-collapsed_members
-decreases-collapsed_members l = 3 * (length l.bytes.now - l.at) + 2
+abbrev pub decreases-push_members : goal.decreases-push_members
+decreases-push_members l = 3 * (length l.bytes.now - l.at) + 2
 
-abbrev pub invariant-collapsed_members-loop-members : goal.invariant-collapsed_members-loop-members
-invariant-collapsed_members-loop-members l = Members l.bytes l.at l.next l.members.entries
+abbrev pub invariant-push_members-loop-places : goal.invariant-push_members-loop-places
+invariant-push_members-loop-places l = Written l.bytes l.at l.next l.mark l.initial.out.items l.out.items l.places.items
 
-abbrev pub decreases-collapsed_members-loop-members : goal.decreases-collapsed_members-loop-members
-decreases-collapsed_members-loop-members l = length l.bytes - l.next
+abbrev pub decreases-push_members-loop-places : goal.decreases-push_members-loop-places
+decreases-push_members-loop-places l = length l.bytes - l.next
 
 abbrev pub invariant-push_items-loop-end : goal.invariant-push_items-loop-end
 invariant-push_items-loop-end l = Items l.bytes l.at l.next l.initial.out.items l.out.items

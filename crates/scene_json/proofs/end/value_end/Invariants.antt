@@ -1,8 +1,16 @@
-use Rattle.std.proofs.Common.{◌≡◌, ◌-◌, take, drop}
+use Rattle.std.proofs.Common.{◌≡◌, ◌-◌, ◌≤◌, length, take, drop}
 use Rattle.scene_json.specs.Machine.{state}
 use Rattle.scene_json.proofs.Machines.{run, start}
 use Rattle.scene_json.proofs.end.value_end.Given as goal
 
--- the machine has run over the bytes before i
-abbrev pub invariant-loop-i : goal.invariant-loop-i
-invariant-loop-i l = run 128 start (take (l.i - l.at) (drop l.at l.bytes)) ≡ state l.machine.mode l.machine.brackets
+-- the machine has run over the bytes before next
+abbrev pub invariant-loop-next : goal.invariant-loop-next
+invariant-loop-next l =
+    record {
+      low : l.at ≤ l.next;
+      high : l.next ≤ length l.bytes;
+      runs : run 128 start (take (l.next - l.at) (drop l.at l.bytes)) ≡ state l.machine.mode l.machine.brackets;
+    }
+
+abbrev pub decreases-loop-next : goal.decreases-loop-next
+decreases-loop-next l = length l.bytes - l.next

@@ -1,4 +1,4 @@
-use Rattle.std.proofs.Common.{refl, sym, ap, subst, ◌∙◌}
+use Rattle.std.proofs.Common.{drop, refl, sym, ap, subst, ◌∙◌}
 use Rattle.std.specs.List.{AllByRecursion}
 use Rattle.scene_json.specs.Compact.{array_text}
 use Rattle.scene_json.specs.Value.{IsCompact}
@@ -28,16 +28,16 @@ returns-then-begins_with-clause-only c =
 pub items_from-requires : goal.items_from-requires
 items_from-requires c =
     let form = form-listed 128 c.args.value.now (Value-Form c.as_bytes-bytes.ensures.compact) (starts-same 91 c.as_bytes-bytes.ensures.value (c.if-not-begins_with.ensures.yes refl)) in
-    filled-some form.0 _ form.1 (c.as_bytes-bytes.ensures.value ∙ form.2) (λ more e. c.if-begins_with.ensures.no refl more (c.split_at.ensures.back ∙ e))
+    filled-some form.0 c.args.value.now form.1 form.2 (λ more e. c.if-begins_with.ensures.no refl more (c.split_at.ensures.back ∙ ap (drop 1) c.as_bytes-bytes.ensures.value ∙ e))
 
 pub returns-clause-spelled : goal.returns-clause-spelled
 returns-clause-spelled c =
     let form = form-listed 128 c.args.value.now (Value-Form c.as_bytes-bytes.ensures.compact) (starts-same 91 c.as_bytes-bytes.ensures.value (c.if-not-begins_with.ensures.yes refl)) in
-    let found = c.in_ok-items_from.ensures form.0 form.1 (c.as_bytes-bytes.ensures.value ∙ form.2) in
+    let found = c.in_ok-items_from.ensures form.0 form.1 form.2 in
     form.2 ∙ ap array_text (sym (c.from_vec.ensures ∙ found))
 
 pub returns-clause-are : goal.returns-clause-are
 returns-clause-are c =
     let form = form-listed 128 c.args.value.now (Value-Form c.as_bytes-bytes.ensures.compact) (starts-same 91 c.as_bytes-bytes.ensures.value (c.if-not-begins_with.ensures.yes refl)) in
-    let found = c.in_ok-items_from.ensures form.0 form.1 (c.as_bytes-bytes.ensures.value ∙ form.2) in
+    let found = c.in_ok-items_from.ensures form.0 form.1 form.2 in
     subst (AllByRecursion (IsCompact 127)) (sym (c.from_vec.ensures ∙ found)) form.1

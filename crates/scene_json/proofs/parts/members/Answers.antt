@@ -1,4 +1,4 @@
-use Rattle.std.proofs.Common.{refl, sym, ap, subst, ◌∙◌}
+use Rattle.std.proofs.Common.{drop, refl, sym, ap, subst, ◌∙◌}
 use Rattle.scene_json.specs.Members.{pairs}
 use Rattle.scene_json.specs.Parts.{AreMembers}
 use Rattle.scene_json.specs.Compact.{object_text}
@@ -34,16 +34,16 @@ returns-then-begins_with-clause-only c =
 pub members_from-requires : goal.members_from-requires
 members_from-requires c =
     let form = form-membered 128 c.args.value.now (Value-Form c.as_bytes-bytes.ensures.compact) (starts-same 123 c.as_bytes-bytes.ensures.value (c.if-not-begins_with.ensures.yes refl)) in
-    filled-some form.0 _ form.1 (c.as_bytes-bytes.ensures.value ∙ form.2) (λ more e. c.if-begins_with.ensures.no refl more (c.split_at.ensures.back ∙ e))
+    filled-some form.0 c.args.value.now form.1 form.2 (λ more e. c.if-begins_with.ensures.no refl more (c.split_at.ensures.back ∙ ap (drop 1) c.as_bytes-bytes.ensures.value ∙ e))
 
 pub returns-clause-spelled : goal.returns-clause-spelled
 returns-clause-spelled c =
     let form = form-membered 128 c.args.value.now (Value-Form c.as_bytes-bytes.ensures.compact) (starts-same 123 c.as_bytes-bytes.ensures.value (c.if-not-begins_with.ensures.yes refl)) in
-    let found = c.in_ok-members_from.ensures form.0 form.1 (c.as_bytes-bytes.ensures.value ∙ form.2) in
+    let found = c.in_ok-members_from.ensures form.0 form.1 form.2 in
     form.2 ∙ ap object_text (sym (ap pairs c.from_vec.ensures ∙ found))
 
 pub returns-clause-are : goal.returns-clause-are
 returns-clause-are c =
     let form = form-membered 128 c.args.value.now (Value-Form c.as_bytes-bytes.ensures.compact) (starts-same 123 c.as_bytes-bytes.ensures.value (c.if-not-begins_with.ensures.yes refl)) in
-    let found = c.in_ok-members_from.ensures form.0 form.1 (c.as_bytes-bytes.ensures.value ∙ form.2) in
+    let found = c.in_ok-members_from.ensures form.0 form.1 form.2 in
     subst (AreMembers 127) (sym (ap pairs c.from_vec.ensures ∙ found)) form.1

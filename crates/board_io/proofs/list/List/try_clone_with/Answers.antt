@@ -1,7 +1,6 @@
 -- The copy of this item is equal to it.
 use Rattle.std.proofs.Common.{◌≡◌, refl, arith}
 use Rattle.std.proofs.lemmas.Grind.{common_steps}
-use Rattle.std.specs.Fn.{FnReturnsAt, FnReturns}
 use Rattle.board_io.proofs.list.List.try_clone_with.Goals as goal
 
 pub loop-item-preserved : goal.loop-item-preserved

@@ -5,7 +5,7 @@ pub returns-clause-keys : goal.returns-clause-keys
 returns-clause-keys c = rw c.as_slice.ensures (IsViewOf-from _ _ c.self.invariant).keys
 
 pub returns-clause-order : goal.returns-clause-order
-returns-clause-order c = rw (← c.self.view_is) (IsViewOf-from _ _ c.self.invariant).order
+returns-clause-order c = rw (← c.self.view_is, c.as_slice.ensures) (IsViewOf-from _ _ c.self.invariant).order
 
 pub returns-clause-ids : goal.returns-clause-ids
 returns-clause-ids c = rw (← c.self.view_is, c.as_slice.ensures) (IsViewOf-from _ _ c.self.invariant).ids

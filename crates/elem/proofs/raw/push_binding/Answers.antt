@@ -1,0 +1,51 @@
+-- The target stands between the further members whose names are less and the others.
+use Rattle.std.proofs.Common.{◌≡◌, Some, List, [], ◌∷◌, ◌++◌, codes, length, rules, sym, ap, ◌∙◌, subst, arith}
+use Rattle.std.proofs.lemmas.List.Elements.{recursion_from_All}
+use Rattle.std.specs.Str.{IsUtf8}
+use Rattle.scene_json.specs.Characters.{quote}
+use Rattle.scene_json.specs.Compact.{Member as Pair, object_text}
+use Rattle.scene_json.specs.Members.{pairs}
+use Rattle.scene_json.specs.Value.{IsCompact}
+use Rattle.scene_json.proofs.CompactLaws.{Value-deeper}
+use Rattle.scene_json.specs.declared.text.Member.{Member}
+use Rattle.elem.specs.Facts.{IsBinding}
+use Rattle.elem.specs.Printing.{IsBegun}
+use Rattle.elem.specs.Texts.{binding_text, sorted_members}
+use Rattle.elem.proofs.Headers.{target_pair, merged-binding, binding-rises}
+use Rattle.elem.proofs.Merging.{Merged, merged, begun-step, merging-from, merging-step, merging-closed, nest-pairs, length-merged, sound-compact}
+use Rattle.elem.proofs.raw.push_binding.Goals as goal
+use Rattle.elem.proofs.raw.push_binding.Goals.{In_ok-push}
+
+sound : (c : In_ok-push) → IsBinding c.in-Some.binding
+sound c = rw c.in-Some.is at c.requires
+
+all : (c : In_ok-push) → Merged 118 c.args.out.now.items c.push.new.self.items (sorted_members (target_pair c.in-Some.binding ∷ pairs c.in-Some.binding.rest))
+all c =
+    let out = c.args.out.now.items in
+    let binding = c.in-Some.binding in
+    let target = target_pair binding in
+    let low = c.push_below.new.out.items in
+    let done = c.push_quote.new.out.items in
+    let at : c.len-start.result ≡ length out = search rules in
+    let below = c.in_ok-rest.ensures in
+    let before = merging-from 118 out (target ∷ []) binding.rest (nest-pairs 118 binding.rest (sound c).nest) in
+    let header : (first : List Pair) → IsBegun out first low → IsBegun out (first ++ target ∷ []) done =
+    λ first is. begun-step out first (codes "elementId") (quote binding.target) c.len-start.result low c.begin_member.new.out.items done at is c.in_ok-begin_member.ensures.text c.in_ok-push_quote.ensures.ok in
+    let same : c.as_slice.result.now ≡ binding.rest = c.as_slice.ensures in
+    let named = rw same at (recursion_from_All (λ (m : Member). IsUtf8 m.name) _ below.named) in
+    let begun = rw same at below.begun in
+    let left = rw same at below.left in
+    let target_too = merging-step 118 out out low done target [] binding.rest c.in_ok-rest.rest.now (target ∷ []) binding.rest before
+    (λ first is. begun out first at is) left named header c.in_ok-begin_member.ensures.utf8 (Value-deeper (omega arith) c.in_ok-push_quote.ensures.nests) in
+    subst (Merged 118 out c.push.new.self.items) (merged-binding binding (sound c))
+    (merging-closed 118 out done c.push_members.new.out.items c.push.new.self.items c.in_ok-rest.rest.now (target ∷ []) binding.rest target_too
+    (λ first is. c.in_ok-push_members.ensures.begun out first at is) (recursion_from_All (λ (m : Member). IsUtf8 m.name) _ c.in_ok-push_members.ensures.named)
+    c.in_ok-push.ensures.items (length-merged target [] binding.rest))
+
+pub returns-clause-text : goal.returns-clause-text
+returns-clause-text c = rw c.in-Some.is (all (goal.at.returns-clause-text c).In_ok-push).text
+
+pub returns-clause-nests : goal.returns-clause-nests
+returns-clause-nests c =
+    let done = (goal.at.returns-clause-nests c).In_ok-push in
+    rw c.in-Some.is (sound-compact 118 _ (all done).sound (binding-rises c.in-Some.binding (sound done)))

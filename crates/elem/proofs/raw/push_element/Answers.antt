@@ -1,0 +1,78 @@
+-- The members that are written are those of the element in the order of their names.
+use Rattle.std.proofs.Common.{◌≡◌, ℕ, suc, ◌+◌, get_or, ◌<◌, ◌≤◌, List, [], ◌∷◌, ◌++◌, length, map, drop, drop_of_length-le, drop-cons, add-one, refl, rules, sym, ap, ap₂, ◌∙◌, subst, arith}
+use Rattle.std.specs.Str.{IsUtf8}
+use Rattle.std.specs.List.{AllByRecursion}
+use Rattle.std.proofs.lemmas.List.Elements.{recursion_from_All}
+use Rattle.scene_json.specs.Compact.{Member as Pair, object_text}
+use Rattle.scene_json.specs.Value.{IsCompact}
+use Rattle.scene_json.specs.declared.text.Member.{Member}
+use Rattle.elem.specs.declared.header.Header.{Header}
+use Rattle.elem.specs.declared.header.Header.TheVariants.{BoundElements}
+use Rattle.elem.specs.Drawn.{Drawn}
+use Rattle.elem.specs.Facts.{IsElement}
+use Rattle.elem.specs.Printing.{header_name, header_pair, headers_of, IsBegun, front}
+use Rattle.elem.specs.Texts.{element_members}
+use Rattle.elem.proofs.Headers.{header_pairs, merged-element, length-members, element-compact, element-rises}
+use Rattle.elem.proofs.Merging.{Merging, Merged, merged, merging-from, merging-step, merging-closed, nest-pairs}
+use Rattle.elem.proofs.Sorting.{are_rising-from}
+use Rattle.elem.proofs.raw.push_element.Goals as goal
+use Rattle.elem.proofs.raw.push_element.Goals.{In_ok-push}
+
+pub loop-header-init : goal.loop-header-init
+loop-header-init c =
+    let e = c.args.e.now in
+    let out = c.args.out.now.items in
+    let is = subst IsElement c.e.view_is c.e.invariant in
+    let headers = c.headers_of-header-items.ensures ∙ ap (λ e. headers_of e.kind) c.e.view_is in
+    let rest = c.as_slice-rest.ensures ∙ ap (λ e. e.rest) c.e.view_is in
+    rw (headers, rest) (merging-from 119 out (header_pairs e e.kind) e.rest (nest-pairs 119 e.rest is.nest))
+
+-- one more header member
+more : (e : Drawn) (hs : List Header) (h : Header) (i : ℕ) → i < length hs → map (header_pair e) (drop i hs) ≡ header_pair e (get_or hs i h) ∷ map (header_pair e) (drop (i + 1) hs)
+more e hs h i inside =
+    let first : drop i hs ≡ get_or hs i h ∷ drop (i + 1) hs = rw (drop-cons hs i h inside, add-one) refl in
+    ap (map (header_pair e)) first
+
+pub loop-header-preserved : goal.loop-header-preserved
+loop-header-preserved c =
+    let e = c.args.e.now in
+    let out = c.args.out.now.items in
+    let hs = c.headers_of-header-items.result.now in
+    let i = c.loop-header.header-index in
+    let h = get_or hs i BoundElements in
+    let low = c.push_below.new.out.items in
+    let at : c.len-start.result ≡ length out = search rules in
+    let name : c.name.result.now ≡ header_name h = c.name.ensures in
+    let here = more e hs BoundElements i (omega arith) in
+    let so_far = subst (λ ps. Merging 119 out c.loop-header.out.items ps c.loop-header.rest.now (header_pairs e e.kind) e.rest) here c.loop-header.invariant in
+    let below = rw name at c.in_ok-rest.ensures in
+    merging-step 119 out c.loop-header.out.items low c.push_header.new.out.items (header_pair e h) (map (header_pair e) (drop (i + 1) hs)) c.loop-header.rest.now c.in_ok-rest.rest.now (header_pairs e e.kind) e.rest
+    so_far (λ first is. below.begun out first at is) below.left (recursion_from_All (λ (m : Member). IsUtf8 m.name) _ below.named)
+    (λ first is. c.in_ok-push_header.ensures.begun out first at is) c.in_ok-push_header.ensures.sound.0 c.in_ok-push_header.ensures.sound.1
+
+valid : (c : In_ok-push) → IsElement c.args.e.now
+valid c = subst IsElement c.e.view_is c.e.invariant
+
+all : (c : In_ok-push) → Merged 119 c.args.out.now.items c.push.new.self.items (element_members c.args.e.now)
+all c =
+    let e = c.args.e.now in
+    let out = c.args.out.now.items in
+    let hs = c.headers_of-header-items.result.now in
+    let at : c.len-start.result ≡ length out = search rules in
+    let none : map (header_pair e) (drop c.loop-header.header-index hs) ≡ [] = ap (map (header_pair e)) (drop_of_length-le hs c.loop-header-test.false) in
+    let so_far = subst (λ ps. Merging 119 out c.loop-header.out.items ps c.loop-header.rest.now (header_pairs e e.kind) e.rest) none c.loop-header.invariant in
+    subst (Merged 119 out c.push.new.self.items) (merged-element e (valid c))
+    (merging-closed 119 out c.loop-header.out.items c.push_members.new.out.items c.push.new.self.items c.loop-header.rest.now (header_pairs e e.kind) e.rest so_far
+    (λ first is. c.in_ok-push_members.ensures.begun out first at is) (recursion_from_All (λ (m : Member). IsUtf8 m.name) _ c.in_ok-push_members.ensures.named)
+    c.in_ok-push.ensures.items ((length-members e)))
+
+pub returns-clause-text : goal.returns-clause-text
+returns-clause-text c = (all (goal.at.returns-clause-text c).In_ok-push).text
+
+pub returns-clause-nests : goal.returns-clause-nests
+returns-clause-nests c =
+    let done = (goal.at.returns-clause-nests c).In_ok-push in element-compact c.args.e.now (valid done) (all done).sound
+
+pub returns-clause-rise : goal.returns-clause-rise
+returns-clause-rise c =
+    are_rising-from (element_members c.args.e.now) (element-rises c.args.e.now (valid (goal.at.returns-clause-rise c).In_ok-push))

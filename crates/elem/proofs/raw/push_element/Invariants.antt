@@ -1,0 +1,11 @@
+-- The members so far and those that are left are all members in the order of their names.
+use Rattle.std.proofs.Common.{◌≡◌, ℕ, List, ◌++◌, length, map, drop}
+use Rattle.scene_json.specs.Members.{pairs}
+use Rattle.elem.proofs.Headers.{header_pairs}
+use Rattle.elem.proofs.Merging.{Merging}
+use Rattle.elem.specs.Printing.{header_pair}
+use Rattle.elem.proofs.raw.push_element.Given as goal
+
+abbrev pub invariant-loop-header : goal.invariant-loop-header
+invariant-loop-header l =
+    Merging 119 l.initial.out.items l.out.items (map (header_pair l.e) (drop l.header-index l.header-items)) l.rest (header_pairs l.e l.e.kind) l.e.rest

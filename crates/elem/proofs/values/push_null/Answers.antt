@@ -1,0 +1,7 @@
+use Rattle.std.proofs.Common.{refl, inl, inr}
+use Rattle.scene_json.specs.Tree.{null_word}
+use Rattle.scene_json.proofs.CompactLaws.{literal-compact}
+use Rattle.elem.proofs.values.push_null.Goals as goal
+
+pub returns-clause-nests : goal.returns-clause-nests
+returns-clause-nests c = literal-compact 0 null_word (inr (inl refl))

@@ -1,0 +1,88 @@
+-- How the text of an element is written. Only contracts of private functions cite this.
+use Rattle.std.specs.Prelude.{◌≡◌, ℕ, List, [], ◌∷◌, ◌++◌, Bool, map, codes, decimal, length, ◌==◌, if◌then◌else◌}
+use Rattle.std.specs.List.{AllByRecursion, join_with_byte}
+use Rattle.std.specs.Str.{IsUtf8}
+use Rattle.scene_json.specs.Characters.{quote}
+use Rattle.scene_json.specs.Compact.{Member as Pair, member_text, array_text}
+use Rattle.scene_json.specs.Value.{IsCompact}
+use Rattle.scene_json.specs.declared.text.Member.{Member}
+use Rattle.frac_keys.specs.Keys.{bytes_less}
+use Rattle.elem.specs.declared.kind.Kind.{Kind}
+use Rattle.elem.specs.declared.kind.Kind.TheVariants as kinds
+use Rattle.elem.specs.declared.header.Header.{Header}
+use Rattle.elem.specs.declared.header.Header.TheVariants.{BoundElements, ContainerId, EndBinding, FileId, FrameId, GroupIds, Id, Index, IsDeleted, StartBinding, KindName, Updated, Version, VersionNonce}
+use Rattle.elem.specs.Drawn.{Drawn}
+use Rattle.elem.specs.Texts.{kind_name, truth_text, text_or_null, bound_text, binding_text}
+
+-- what stands of an object once these are its members so far: nothing where there is none yet
+abbrev pub opened : List Pair → List ℕ
+opened [] = []
+opened (member ∷ members) = 123 ∷ join_with_byte 44 (map member_text (member ∷ members))
+
+-- Behind the bytes that were there, the object with these members is begun.
+abbrev pub IsBegun : List ℕ → List Pair → List ℕ → Type 0
+IsBegun before members out = out ≡ before ++ opened members
+
+-- what stands before one more member of an object that begins at an offset: `{` before the first, and else a comma
+abbrev pub mark : ℕ → List ℕ → ℕ
+mark start out = if length out == start then 123 else 44
+
+-- the first members, whose names are less than this one, and the others
+abbrev pub front : List ℕ → List Member → List Member
+front name [] = []
+front name (member ∷ members) = if bytes_less member.name name then member ∷ front name members else []
+
+abbrev pub back : List ℕ → List Member → List Member
+back name [] = []
+back name (member ∷ members) = if bytes_less member.name name then back name members else member ∷ members
+
+-- Each name is a text, and each value is a compact text that nests at most so deep.
+abbrev pub AreSound : ℕ → List Pair → Type 0
+AreSound limit members = AllByRecursion (λ (member : Pair). IsUtf8 member.0 × IsCompact limit member.1) members
+
+abbrev pub header_name : Header → List ℕ
+header_name BoundElements = codes "boundElements"
+header_name ContainerId = codes "containerId"
+header_name EndBinding = codes "endBinding"
+header_name FileId = codes "fileId"
+header_name FrameId = codes "frameId"
+header_name GroupIds = codes "groupIds"
+header_name Id = codes "id"
+header_name Index = codes "index"
+header_name IsDeleted = codes "isDeleted"
+header_name StartBinding = codes "startBinding"
+header_name KindName = codes "type"
+header_name Updated = codes "updated"
+header_name Version = codes "version"
+header_name VersionNonce = codes "versionNonce"
+
+-- the value of a header member
+abbrev pub header_text : Drawn → Header → List ℕ
+header_text e BoundElements = array_text (map bound_text e.bound)
+header_text e ContainerId = text_or_null e.container
+header_text e EndBinding = binding_text e.end_binding
+header_text e FileId = text_or_null e.file
+header_text e FrameId = text_or_null e.frame
+header_text e GroupIds = array_text (map quote e.groups)
+header_text e Id = quote e.id
+header_text e Index = text_or_null e.index
+header_text e IsDeleted = truth_text e.deleted
+header_text e StartBinding = binding_text e.start_binding
+header_text e KindName = quote (kind_name e.kind)
+header_text e Updated = decimal e.updated
+header_text e Version = decimal e.version
+header_text e VersionNonce = decimal e.nonce
+
+abbrev pub header_pair : Drawn → Header → Pair
+header_pair e header = (header_name header, header_text e header)
+
+-- the header members of a kind in the order of their names
+abbrev pub headers_of : Kind → List Header
+headers_of kinds.Text =
+    BoundElements ∷ ContainerId ∷ FrameId ∷ GroupIds ∷ Id ∷ Index ∷ IsDeleted ∷ KindName ∷ Updated ∷ Version ∷ VersionNonce ∷ []
+headers_of kinds.Arrow =
+    BoundElements ∷ EndBinding ∷ FrameId ∷ GroupIds ∷ Id ∷ Index ∷ IsDeleted ∷ StartBinding ∷ KindName ∷ Updated ∷ Version
+    ∷ VersionNonce ∷ []
+headers_of kinds.Image =
+    BoundElements ∷ FileId ∷ FrameId ∷ GroupIds ∷ Id ∷ Index ∷ IsDeleted ∷ KindName ∷ Updated ∷ Version ∷ VersionNonce ∷ []
+headers_of _ = BoundElements ∷ FrameId ∷ GroupIds ∷ Id ∷ Index ∷ IsDeleted ∷ KindName ∷ Updated ∷ Version ∷ VersionNonce ∷ []

@@ -1,0 +1,86 @@
+//! Objects whose members are appended one after another.
+
+ghost use Rattle.std.specs.Prelude.{◌≡◌, ℕ, ◌≤◌, List as Items, [], ◌∷◌, ◌++◌, IfOk, OnOk, All, length};
+ghost use Rattle.std.specs.List.{prefix_len};
+ghost use Rattle.std.specs.Str.{IsUtf8};
+ghost use Rattle.scene_json.specs.Characters.{quote};
+ghost use Rattle.scene_json.specs.Compact.{Member as Pair};
+ghost use Rattle.scene_json.specs.Members.{pairs};
+ghost use Rattle.frac_keys.specs.Keys.{bytes_less};
+ghost use Rattle.elem.specs.Printing.{IsBegun, mark, front, back};
+
+use scene_json::{Member, push_member, push_quoted};
+use std::alloc::AllocError;
+
+/// Appends the first members, whose names are less than this one, and gives the others.
+pub(crate) fn push_below<'a>(
+    out: &mut Vec<u8>,
+    start: usize,
+    members: &'a [Member],
+    name: &str,
+) -> Result<&'a [Member], AllocError>
+    ensures begun { OnOk result ((before : Items ℕ) (first : Items Pair) → start ≡ length before
+        → IsBegun before first out.old.items → IsBegun before (first ++ pairs (front name.now members.now)) out.new.items) }
+    ensures left { IfOk result (λ left. left.now ≡ back name.now members.now) }
+    ensures named { OnOk result (All (λ m. IsUtf8 m.name) (front name.now members.now)) }
+{
+    let (below, left) = members.split_at(count_below(members, name));
+    push_members(out, start, below)?;
+    Ok(left)
+}
+
+/// How many of the first members have names that are less than this one.
+fn count_below(members: &[Member], name: &str) -> usize
+    ensures count { result ≡ prefix_len (λ m. bytes_less m.name name.now) members.now }
+    ensures bound { result ≤ length members.now }
+{
+    members
+        .iter()
+        .take_while(|member| is_below(member, name))
+        .count()
+}
+
+/// Whether the name of a member is less than this one.
+fn is_below(member: &Member, name: &str) -> bool
+    ensures { result ≡ bytes_less member.now.name name.now }
+{
+    member.name.as_bytes().cmp(name.as_bytes()).is_lt()
+}
+
+/// Appends members to an object that begins at an offset.
+pub(crate) fn push_members(
+    out: &mut Vec<u8>,
+    start: usize,
+    members: &[Member],
+) -> Result<(), AllocError>
+    ensures begun { OnOk result ((before : Items ℕ) (first : Items Pair) → start ≡ length before
+        → IsBegun before first out.old.items → IsBegun before (first ++ pairs members.now) out.new.items) }
+    ensures named { OnOk result (All (λ m. IsUtf8 m.name) members.now) }
+{
+    for member in members {
+        push_mark(out, start)?;
+        push_member(out, &member.name, &member.value)?;
+    }
+    Ok(())
+}
+
+/// Begins a member of this name in an object that begins at an offset.
+pub(crate) fn begin_member(out: &mut Vec<u8>, start: usize, name: &str) -> Result<(), AllocError>
+    ensures text { OnOk result (out.new.items
+        ≡ (out.old.items ++ mark start out.old.items ∷ []) ++ (quote name.now ++ 58 ∷ [])) }
+    ensures utf8 { IsUtf8 name.now }
+{
+    push_mark(out, start)?;
+    push_quoted(out, name)?;
+    out.push(b':')?;
+    Ok(())
+}
+
+/// Appends what stands before a member of an object that begins at an offset: `{` before the first, and else a comma.
+fn push_mark(out: &mut Vec<u8>, start: usize) -> Result<(), AllocError>
+    ensures { OnOk result (out.new.items ≡ out.old.items ++ mark start out.old.items ∷ []) }
+{
+    let mark = if out.len() == start { b'{' } else { b',' };
+    out.push(mark)?;
+    Ok(())
+}

@@ -1,0 +1,4 @@
+pub mod Lists
+pub mod FrameLaws
+pub mod GroupLaws
+pub mod FrameIds

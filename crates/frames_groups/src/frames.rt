@@ -1,0 +1,79 @@
+//! Frame names.
+
+ghost use Rattle.std.specs.Prelude.{◌≡◌, ℕ, List as Items, map, IfOk};
+ghost use Rattle.std.specs.Ordering.{nat_cmp};
+ghost use Rattle.std.specs.Cmp.Lexicographic.{slice_cmp};
+ghost use Rattle.std.specs.BTreeSet.{contains};
+ghost use Rattle.frames_groups.specs.Frames.{is_frame, has_frame, keeps_frame, without_frame, framed, frames_settled, NameFrames};
+
+use board_io::List;
+use elem::{Element, Kind};
+use scene_json::Text;
+use std::alloc::{AllocError, Global};
+use std::collections::BTreeSet;
+
+/// The elements, each with the frame name that it keeps: a frame or magicframe of the list has none, and another element
+/// keeps a name that names one of these. Fails only for want of memory.
+pub fn settle_frames(alloc: Global, list: List<Element>) -> Result<List<Element>, AllocError>
+    ensures exact { IfOk result (λ settled. settled ≡ frames_settled list) }
+    ensures named { IfOk result NameFrames }
+    ensures others { IfOk result (λ settled. map without_frame settled ≡ map without_frame list) }
+    ensures again { IfOk result (λ settled. frames_settled settled ≡ settled) }
+{
+    let elements = list.into_vec();
+    let frames = frames_of(alloc, &elements)?;
+    let settled = elements
+        .into_iter()
+        .map(|e| framed(&frames, e))
+        .collect(alloc)?;
+    Ok(List::from_vec(settled))
+}
+
+/// The ids of the frames among the elements.
+fn frames_of(alloc: Global, elements: &Vec<Element>) -> Result<BTreeSet<Text>, AllocError>
+    ensures { IfOk result (λ frames. (id : Items ℕ) → contains (slice_cmp nat_cmp) frames id ≡ has_frame elements.now.items id) }
+{
+    let mut frames = BTreeSet::new(alloc);
+    for e in elements {
+        if is_frame(e) {
+            frames.insert(e.id.try_clone()?)?;
+        }
+    }
+    Ok(frames)
+}
+
+/// Whether an element is a frame or a magicframe.
+fn is_frame(e: &Element) -> bool
+    ensures { result ≡ is_frame e.now }
+{
+    matches!(e.kind, Kind::Frame | Kind::Magicframe)
+}
+
+/// The element, its frame name gone if that isn't kept.
+fn framed(frames: &BTreeSet<Text>, e: Element) -> Element
+    ensures { result ≡ framed (contains (slice_cmp nat_cmp) frames.now) e }
+{
+    if keeps_frame(frames, &e) {
+        e
+    } else {
+        without_frame(e)
+    }
+}
+
+/// Whether an element keeps its frame name.
+fn keeps_frame(frames: &BTreeSet<Text>, e: &Element) -> bool
+    ensures { result ≡ keeps_frame (contains (slice_cmp nat_cmp) frames.now) e.now }
+{
+    match &e.frame {
+        Some(frame) => !is_frame(e) && frames.contains(frame),
+        None => false,
+    }
+}
+
+/// The element without a frame name.
+fn without_frame(mut e: Element) -> Element
+    ensures { result ≡ without_frame e }
+{
+    e.frame = None;
+    e
+}

@@ -1,0 +1,11 @@
+//! Frames and groups of a board: frame names that name no frame go, and so do groups that an element names again.
+#![tactic(auto)]
+
+mod frames;
+mod groups;
+pub mod laws;
+#[cfg(test)]
+mod tests;
+
+pub use frames::settle_frames;
+pub use groups::settle_groups;

@@ -1,0 +1,5 @@
+pub mod Listings
+pub mod Merging
+pub mod Nesting
+pub mod RestoredLaws
+pub mod Rows

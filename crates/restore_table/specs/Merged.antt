@@ -1,0 +1,51 @@
+-- How the table is laid between given members. Only contracts of private functions cite this.
+use Rattle.std.specs.Prelude.{◌≡◌, ◌≢◌, ℕ, List, [], ◌∷◌, Option, Some, None, map, bytes_eq, if◌then◌else◌}
+use Rattle.std.specs.Cmp.Lexicographic.{slice_cmp}
+use Rattle.std.specs.List.{AllByRecursion, IsDistinct}
+use Rattle.std.specs.Ordering.{nat_cmp, match_ordering}
+use Rattle.std.specs.Str.{IsUtf8}
+use Rattle.scene_json.specs.Characters.{quote}
+use Rattle.scene_json.specs.Compact.{Member as Pair, array_text}
+use Rattle.scene_json.specs.Named.{value_at}
+use Rattle.scene_json.specs.Parts.{names_of}
+use Rattle.scene_json.specs.TheOne.{IsTheOne}
+use Rattle.scene_json.specs.Tree.{null_word}
+use Rattle.restore_table.specs.declared.table.Row.{Row}
+use Rattle.restore_table.specs.Restored.{HasOldListing, listing_name, old_name, listing_text}
+
+abbrev pub row_pair : Row → Pair
+row_pair row = (row.name.now, row.default.now)
+
+-- a member of which the table has a row
+abbrev pub chosen : Pair → Pair → Pair
+chosen row member = (member.0, if bytes_eq member.1 null_word then row.1 else member.1)
+
+-- the rows before a member, the member, and what is made of the rows behind it
+abbrev pub spliced : Pair → List Pair → (List Pair → List Pair) → List Pair
+spliced member [] rest = member ∷ rest []
+spliced member (row ∷ rows) rest =
+    match_ordering (slice_cmp nat_cmp row.0 member.0)
+    (row ∷ spliced member rows rest) (chosen row member ∷ rest rows) (member ∷ rest (row ∷ rows))
+
+-- the members between the rows
+abbrev pub merged : List Pair → List Pair → List Pair
+merged [] rows = rows
+merged (member ∷ members) rows = spliced member rows (merged members)
+
+-- The value is an array of these texts.
+abbrev pub AreOldIds : List ℕ → List (List ℕ) → Type 0
+AreOldIds value ids = AllByRecursion IsUtf8 ids × (value ≡ array_text (map quote ids))
+
+-- the listing that takes the place of what is given there
+abbrev pub listing_over : Option (List (List ℕ)) → Option (List ℕ) → Option (List ℕ)
+listing_over (Some ids) given = Some (listing_text ids)
+listing_over None given = given
+
+-- The members with their old listing, if they have one, in its present form.
+pub record AreUpdated (members updated : List Pair) : Type 0 where
+  pub ids : Option (List (List ℕ))
+  pub old : IsTheOne (HasOldListing members) ids
+  pub distinct : IsDistinct bytes_eq (names_of updated)
+  pub gone : value_at old_name updated ≡ None
+  pub listing : value_at listing_name updated ≡ listing_over ids (value_at listing_name members)
+  pub others : (name : List ℕ) → name ≢ old_name → name ≢ listing_name → value_at name updated ≡ value_at name members

@@ -1,0 +1,120 @@
+//! Members with the defaults of those that are missing.
+
+ghost use Rattle.std.specs.Prelude.{◌≡◌, ◌≤◌, ◌++◌, ℕ, List as Items, map, All, IfOk, OnOk, bytes_eq};
+ghost use Rattle.std.specs.List.{IsDistinct, AllByRecursion};
+ghost use Rattle.scene_json.specs.Compact.{Member as Pair};
+ghost use Rattle.scene_json.specs.Members.{pairs, pair_of};
+ghost use Rattle.scene_json.specs.Value.{IsCompact};
+ghost use Rattle.restore_table.specs.Merged.{row_pair, chosen, spliced, merged};
+ghost use Rattle.restore_table.specs.Restored.{AreRestored};
+ghost use Rattle.restore_table.specs.Table.{defaults};
+
+use crate::legacy::updated;
+use crate::table::{Row, rows};
+use board_io::List;
+use scene_json::{Member, Raw, Text, is_null};
+use std::alloc::{AllocError, Global};
+use std::cmp::Ordering;
+
+/// The members with the default of each one of the table that is missing or null, in the order of the bytes of their
+/// names; an old listing of ids becomes one of arrows. Fails only for want of memory.
+pub fn restore(alloc: Global, members: &List<Member>) -> Result<List<Member>, AllocError>
+    requires { IsDistinct bytes_eq (map (λ member. member.name) members.now) }
+    ensures restored { IfOk result (λ restored. AreRestored (pairs members.now) (pairs restored)) }
+    ensures nests { (limit : ℕ) → 2 ≤ limit → All (λ member. IsCompact limit member.value) members.now
+        → IfOk result (λ restored. All (λ member. IsCompact limit member.value) restored) }
+{
+    into_restored(alloc, members.try_clone_with(Member::try_clone)?)
+}
+
+/// As `restore`, but of members that are handed over. For want of memory they are dropped.
+pub fn into_restored(alloc: Global, members: List<Member>) -> Result<List<Member>, AllocError>
+    requires { IsDistinct bytes_eq (map (λ member. member.name) members) }
+    ensures restored { IfOk result (λ restored. AreRestored (pairs members) (pairs restored)) }
+    ensures nests { (limit : ℕ) → 2 ≤ limit → All (λ member. IsCompact limit member.value) members
+        → IfOk result (λ restored. All (λ member. IsCompact limit member.value) restored) }
+{
+    let mut members = updated(alloc, members)?;
+    members.sort_by(|a, b| a.name.cmp(&b.name))?;
+    Ok(List::from_vec(between_defaults(alloc, members)?))
+}
+
+/// The members, whose names rise, between the defaults of those that are missing; a null has its default.
+fn between_defaults(alloc: Global, members: Vec<Member>) -> Result<Vec<Member>, AllocError>
+    ensures { IfOk result (λ all. pairs all.items ≡ merged (pairs members.items) defaults) }
+{
+    let mut all = Vec::new(alloc);
+    let mut left = rows();
+    for member in members {
+        left = place(&mut all, left, member)?;
+    }
+    push_defaults(&mut all, left)?;
+    Ok(all)
+}
+
+/// Appends the defaults before the member, and the member or its default. Gives the rows behind it.
+fn place(
+    all: &mut Vec<Member>,
+    rows: &'static [Row],
+    member: Member,
+) -> Result<&'static [Row], AllocError>
+    requires { AllByRecursion (λ row. IsCompact 1 row.default.now) rows.now }
+    ensures compact { IfOk result (λ left. AllByRecursion (λ row. IsCompact 1 row.default.now) left.now) }
+    ensures placed { IfOk result (λ left. (rest : Items Pair → Items Pair)
+        → pairs all.new.items ++ rest (map row_pair left.now)
+        ≡ pairs all.old.items ++ spliced (pair_of member) (map row_pair rows.now) rest) }
+{
+    let mut left = rows;
+    while let Some((row, others)) = left.split_first() {
+        match row.name.as_bytes().cmp(member.name.as_bytes()) {
+            Ordering::Less => all.push(default_member(row))?,
+            Ordering::Equal => {
+                all.push(filled(row, member))?;
+                return Ok(others);
+            }
+            Ordering::Greater => {
+                all.push(member)?;
+                return Ok(left);
+            }
+        }
+        left = others;
+    }
+    all.push(member)?;
+    Ok(left)
+}
+
+/// Appends the defaults of these rows.
+fn push_defaults(all: &mut Vec<Member>, rows: &'static [Row]) -> Result<(), AllocError>
+    requires { AllByRecursion (λ row. IsCompact 1 row.default.now) rows.now }
+    ensures { OnOk result (pairs all.new.items ≡ pairs all.old.items ++ map row_pair rows.now) }
+{
+    for row in rows {
+        all.push(default_member(row))?;
+    }
+    Ok(())
+}
+
+/// The member with the default of a row.
+fn default_member(row: &Row) -> Member
+    requires { IsCompact 1 row.now.default.now }
+    ensures { pair_of result ≡ row_pair row.now }
+{
+    Member {
+        name: Text::fixed(row.name),
+        value: Raw::fixed(row.default),
+    }
+}
+
+/// The member, with the default of its row where it is null.
+fn filled(row: &Row, member: Member) -> Member
+    requires { IsCompact 1 row.now.default.now }
+    ensures { pair_of result ≡ chosen (row_pair row.now) (pair_of member) }
+{
+    if is_null(&member.value) {
+        return Member {
+            name: member.name,
+            value: Raw::fixed(row.default),
+        };
+    }
+    member
+}

@@ -1,0 +1,134 @@
+-- Finding the members that have a name among those that are kept.
+use Rattle.std.proofs.Common.{◌≡◌, ◌<◌, ◌≤◌, ℕ, suc, ◌+◌, ◌-◌, List, [], ◌∷◌, ◌++◌, Option, Some, None, Bool, true, false, if◌then◌else◌, cond, refl, sym, ap, ◌∙◌, arith, length, get_or, take, drop, map, bytes_eq, inl, inr}
+use Rattle.std.proofs.Common.{append_assoc, drop-cons, add-one}
+use Rattle.std.proofs.lemmas.Bool.{cases_Bool}
+use Rattle.std.proofs.lemmas.List.{take_more, map-append, map-set, length-map, get_or-map}
+use Rattle.std.proofs.Math.ListN.{set}
+use Rattle.scene_json.specs.Compact.{Member, collapsed}
+use Rattle.scene_json.specs.Places.{cut, entry, entries, joined}
+use Rattle.scene_json.specs.declared.collapsing.Span.{Span}
+use Rattle.scene_json.specs.declared.collapsing.Place.{Place}
+use Rattle.scene_json.proofs.Collapsed.{bytes_eq-true, bytes_eq-same, bytes_eq-apart, bytes_eq-flip, insert_entry, collapsed-push}
+
+-- the place of the first member of this name, counted from a number on
+abbrev pub place_from : ℕ → List ℕ → List Member → Option ℕ
+place_from n name [] = None
+place_from n name (m ∷ ms) = if bytes_eq name m.0 then Some n else place_from (suc n) name ms
+
+-- a member of a new name
+pub place-push : (n : ℕ) (ms : List Member) (name value q : List ℕ) → place_from n name ms ≡ None →
+    place_from n q (ms ++ (name, value) ∷ []) ≡ cond (bytes_eq name q) (Some (n + length ms)) (place_from n q ms)
+place-push n [] name value q none = elim (cases_Bool (bytes_eq name q)) [
+  | inl e ↦ let flip : bytes_eq q name ≡ true = rw (bytes_eq-true name q e) (bytes_eq-same q) in let here : n ≡ n + 0 = omega arith in rw (e, flip) (ap Some here)
+  | inr e ↦ rw (e, bytes_eq-flip name q e) refl
+]
+place-push n (m ∷ ms) name value q none = elim (cases_Bool (bytes_eq name m.0)) [
+  | inl e ↦ let some : Some n ≡ None = rw e at none in cc
+  | inr e ↦
+      let rest : place_from (suc n) name ms ≡ None = rw e at none in
+      elim (cases_Bool (bytes_eq q m.0)) [
+        | inl f ↦
+            let other : bytes_eq name q ≡ false = rw (bytes_eq-true q m.0 f) e in
+            rw (f, other) refl
+        | inr f ↦
+            let more : suc n + length ms ≡ n + suc (length ms) = omega arith in
+            rw f (place-push (suc n) ms name value q rest ∙ ap (λ k. cond (bytes_eq name q) (Some k) (place_from (suc n) q ms)) more)
+      ]
+]
+
+pub insert-push : (n : ℕ) (ms : List Member) (name value : List ℕ) → place_from n name ms ≡ None → insert_entry ms name value ≡ ms ++ (name, value) ∷ []
+insert-push n [] name value none = refl
+insert-push n (m ∷ ms) name value none = elim (cases_Bool (bytes_eq name m.0)) [
+  | inl e ↦ let some : Some n ≡ None = rw e at none in cc
+  | inr e ↦ let rest : place_from (suc n) name ms ≡ None = rw e at none in rw e (ap (λ s. m ∷ s) (insert-push (suc n) ms name value rest))
+]
+
+-- a member of a name that is there
+pub insert-place : (n : ℕ) (ms : List Member) (name value q : List ℕ) (i : ℕ) → place_from n name ms ≡ Some i → place_from n q (insert_entry ms name value) ≡ place_from n q ms
+insert-place n [] name value q i some = cc
+insert-place n (m ∷ ms) name value q i some = elim (cases_Bool (bytes_eq name m.0)) [
+  | inl e ↦ rw e refl
+  | inr e ↦
+      let rest : place_from (suc n) name ms ≡ Some i = rw e at some in
+      rw e (ap (λ (r : Option ℕ). if bytes_eq q m.0 then Some n else r) (insert-place (suc n) ms name value q i rest))
+]
+
+-- which is at that place, and takes the new value
+pub record IsSet (n : ℕ) (ms : List Member) (name value : List ℕ) (i : ℕ) : Type 0 where
+  pub at : ℕ
+  pub is : i ≡ n + at
+  pub within : at < length ms
+  pub sets : (d : Member) → insert_entry ms name value ≡ set ms at ((get_or ms at d).0, value)
+
+pub insert-set : (n : ℕ) (ms : List Member) (name value : List ℕ) (i : ℕ) → place_from n name ms ≡ Some i → IsSet n ms name value i
+insert-set n [] name value i some = cc
+insert-set n (m ∷ ms) name value i some = elim (cases_Bool (bytes_eq name m.0)) [
+  | inl e ↦
+      let same : Some n ≡ Some i = rw e at some in
+      let here : n ≡ i = cc in
+      record { at = 0; is = omega arith; within = omega arith; sets = λ d. rw e refl }
+  | inr e ↦
+      let rest : place_from (suc n) name ms ≡ Some i = rw e at some in
+      let s = insert-set (suc n) ms name value i rest in
+      record { at = suc s.at; is = omega (arith, s.is); within = omega (arith, s.within); sets = λ d. rw e (ap (λ x. m ∷ x) (s.sets d)) }
+]
+
+-- ---- members that stand in a text
+abbrev pub nowhere : Place
+nowhere = record { name = record { start = 0; end = 0 }; value = record { start = 0; end = 0 } }
+
+-- one member of an object is written
+pub object-step : (bytes : List ℕ) (places : List Place) (i mark : ℕ) (text total : List ℕ) → i < length places →
+    text ++ joined mark (entries bytes (drop i places)) ≡ total →
+    ((((text ++ mark ∷ []) ++ cut bytes (get_or places i nowhere).name) ++ 58 ∷ []) ++ cut bytes (get_or places i nowhere).value)
+    ++ joined 44 (entries bytes (drop (i + 1) places)) ≡ total
+object-step bytes places i mark text total here before =
+    let place = get_or places i nowhere in
+    let split : drop i places ≡ place ∷ drop (i + 1) places = drop-cons places i nowhere here ∙ ap (λ k. place ∷ drop k places) (sym (add-one i)) in
+    let rest = joined 44 (entries bytes (drop (i + 1) places)) in
+    let written : ((((text ++ mark ∷ []) ++ cut bytes place.name) ++ 58 ∷ []) ++ cut bytes place.value) ++ rest
+    ≡ text ++ mark ∷ (cut bytes place.name ++ 58 ∷ (cut bytes place.value ++ rest)) = simp append_assoc in
+    written ∙ ap (λ ps. text ++ joined mark (entries bytes ps)) (sym split) ∙ before
+
+-- one member more is looked at
+pub entries-more : (bytes : List ℕ) (places : List Place) (i : ℕ) → i < length places →
+    collapsed (entries bytes (take (i + 1) places))
+    ≡ insert_entry (collapsed (entries bytes (take i places))) (cut bytes (get_or places i nowhere).name) (cut bytes (get_or places i nowhere).value)
+entries-more bytes places i here =
+    let place = get_or places i nowhere in
+    ap (λ ps. collapsed (entries bytes ps)) (take_more places i nowhere here)
+    ∙ ap collapsed (map-append (entry bytes) (take i places) (place ∷ []))
+    ∙ collapsed-push (entries bytes (take i places)) (cut bytes place.name) (cut bytes place.value)
+
+-- its name is there
+pub within-kept : (bytes : List ℕ) (kept : List Place) (name : List ℕ) (first : ℕ) → place_from 0 name (entries bytes kept) ≡ Some first → first < length kept
+within-kept bytes kept name first some =
+    let s = insert-set 0 (entries bytes kept) name [] first some in
+    omega (arith, s.is, s.within, length-map kept (entry bytes))
+
+pub keeps-last : (bytes : List ℕ) (kept : List Place) (name : List ℕ) (first : ℕ) (value : Span) (d : Place) → place_from 0 name (entries bytes kept) ≡ Some first →
+    entries bytes (set kept first (record { name = (get_or kept first d).name; value = value })) ≡ insert_entry (entries bytes kept) name (cut bytes value)
+keeps-last bytes kept name first value d some =
+    let s = insert-set 0 (entries bytes kept) name (cut bytes value) first some in
+    let new : Place = record { name = (get_or kept first d).name; value = value } in
+    let at : s.at ≡ first = omega (arith, s.is) in
+    let inside : first < length kept = within-kept bytes kept name first some in
+    let old : get_or (entries bytes kept) first (entry bytes d) ≡ entry bytes (get_or kept first d) = get_or-map (entry bytes) kept first d (entry bytes d) inside in
+    map-set (entry bytes) kept first new
+    ∙ ap (λ (m : Member). set (entries bytes kept) first (m.0, cut bytes value)) (sym old)
+    ∙ ap (λ k. set (entries bytes kept) k ((get_or (entries bytes kept) k (entry bytes d)).0, cut bytes value)) (sym at)
+    ∙ sym (s.sets (entry bytes d))
+
+-- its name is new
+pub keeps-new : (bytes : List ℕ) (kept : List Place) (place : Place) → place_from 0 (cut bytes place.name) (entries bytes kept) ≡ None →
+    entries bytes (kept ++ place ∷ []) ≡ insert_entry (entries bytes kept) (cut bytes place.name) (cut bytes place.value)
+keeps-new bytes kept place none =
+    map-append (entry bytes) kept (place ∷ []) ∙ sym (insert-push 0 (entries bytes kept) (cut bytes place.name) (cut bytes place.value) none)
+
+pub finds-new : (bytes : List ℕ) (kept : List Place) (place : Place) (q : List ℕ) → place_from 0 (cut bytes place.name) (entries bytes kept) ≡ None →
+    place_from 0 q (entries bytes (kept ++ place ∷ [])) ≡ cond (bytes_eq (cut bytes place.name) q) (Some (length kept)) (place_from 0 q (entries bytes kept))
+finds-new bytes kept place q none =
+    let count : 0 + length (entries bytes kept) ≡ length kept = omega (arith, length-map kept (entry bytes)) in
+    ap (place_from 0 q) (map-append (entry bytes) kept (place ∷ []))
+    ∙ place-push 0 (entries bytes kept) (cut bytes place.name) (cut bytes place.value) q none
+    ∙ ap (λ k. cond (bytes_eq (cut bytes place.name) q) (Some k) (place_from 0 q (entries bytes kept))) count

@@ -1,9 +1,0 @@
-use Rattle.std.proofs.Common.{◌≡◌, ◌++◌, flat_map, length}
-use Rattle.scene_json.specs.Characters.{quoted_byte}
-use Rattle.scene_json.proofs.build.push_quoted.Given as goal
-
-abbrev pub invariant-loop-plain : goal.invariant-loop-plain
-invariant-loop-plain l = l.out.items ++ flat_map quoted_byte l.rest ≡ l.initial.out.items ++ flat_map quoted_byte l.text
-
-abbrev pub decreases-loop-plain : goal.decreases-loop-plain
-decreases-loop-plain l = length l.rest

@@ -1,6 +1,0 @@
-use Rattle.std.proofs.Common.{◌≡◌, ◌*◌, ◌++◌}
-use Rattle.scene_json.specs.Layout.{line}
-use Rattle.scene_json.proofs.layout.new_line.Given as goal
-
-abbrev pub invariant-loop : goal.invariant-loop
-invariant-loop l = l.bytes.items ≡ l.fn.bytes.items ++ line (2 * l.counter)

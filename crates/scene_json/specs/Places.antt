@@ -1,0 +1,31 @@
+-- Where members stand in a text that is written. Only contracts of private functions cite this.
+use Rattle.std.specs.Prelude.{ℕ, ◌+◌, ◌-◌, ◌≤◌, List, [], ◌∷◌, ◌++◌, map, take, drop, All}
+use Rattle.scene_json.specs.Characters.{quote}
+use Rattle.scene_json.specs.Compact.{Member}
+use Rattle.scene_json.specs.declared.collapsing.Span.{Span}
+use Rattle.scene_json.specs.declared.collapsing.Place.{Place}
+
+abbrev pub cut : List ℕ → Span → List ℕ
+cut bytes span = take (span.end - span.start) (drop span.start bytes)
+
+-- the quoted name and the value of the member that stands there
+abbrev pub entry : List ℕ → Place → Member
+entry bytes place = (cut bytes place.name, cut bytes place.value)
+
+abbrev pub entries : List ℕ → List Place → List Member
+entries bytes places = map (entry bytes) places
+
+abbrev pub IsWithin : ℕ → Span → Type 0
+IsWithin size span = (span.start ≤ span.end) × (span.end ≤ size)
+
+abbrev pub AreWithin : ℕ → List Place → Type 0
+AreWithin size places = All (λ (place : Place). IsWithin size place.name × IsWithin size place.value) places
+
+-- a member with its name quoted
+abbrev pub quoted : Member → Member
+quoted member = (quote member.0, member.1)
+
+-- members whose names are quoted, each behind a mark, and the bracket that closes an object
+abbrev pub joined : ℕ → List Member → List ℕ
+joined mark [] = 125 ∷ []
+joined mark (member ∷ members) = mark ∷ (member.0 ++ 58 ∷ (member.1 ++ joined 44 members))

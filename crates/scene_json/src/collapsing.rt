@@ -1,0 +1,108 @@
+//! Keeping each name of an object once.
+
+ghost use Rattle.std.specs.Prelude.{◌≡◌, ◌<◌, ◌≤◌, ◌++◌, take, drop, length, slice_set, slice_index_or, IfOk, OnOk, IfSome, MatchOption};
+ghost use Rattle.scene_json.specs.Compact.{collapsed};
+ghost use Rattle.scene_json.specs.Places.{cut, entries, IsWithin, AreWithin, joined};
+
+use std::alloc::{AllocError, Global};
+use std::collections::BTreeMap;
+
+/// A stretch of bytes, by the offsets of its first byte and of the byte after it.
+#[derive(Clone, Copy)]
+pub(crate) struct Span {
+    pub start: usize,
+    pub end: usize,
+}
+
+/// Where a member stands: its quoted name and its value.
+#[derive(Clone, Copy)]
+pub(crate) struct Place {
+    pub name: Span,
+    pub value: Span,
+}
+
+/// Where a name comes again in the object that stands from an offset on, writes the object anew: the last value stands at
+/// the first one's place. Names are equal where their quotes are. An ordered map finds them, so that no choice of names
+/// makes this slow.
+pub(crate) fn collapse(
+    alloc: Global,
+    out: &mut Vec<u8>,
+    start: usize,
+    places: &[Place],
+) -> Result<(), AllocError>
+    requires within { AreWithin (length out.old.items) places.now }
+    requires written { drop start out.old.items ≡ joined 123 (entries out.old.items places.now) }
+    ensures { OnOk result (out.new.items ≡ take start out.old.items ++ joined 123 (collapsed (entries out.old.items places.now))) }
+{
+    if let Some(kept) = kept_places(alloc, out.as_slice(), places)? {
+        let text = object_of(alloc, out.as_slice(), kept.as_slice())?;
+        out.truncate(start);
+        out.extend_from_slice(text.as_slice())?;
+    }
+    Ok(())
+}
+
+/// Where the members stand that are kept, or `None` if no name comes again.
+fn kept_places(
+    alloc: Global,
+    bytes: &[u8],
+    places: &[Place],
+) -> Result<Option<Vec<Place>>, AllocError>
+    requires { AreWithin (length bytes.now) places.now }
+    ensures kept { IfOk result (λ found. MatchOption found (collapsed (entries bytes.now places.now) ≡ entries bytes.now places.now)
+        (λ kept. entries bytes.now kept.items ≡ collapsed (entries bytes.now places.now))) }
+    ensures within { IfOk result (λ found. IfSome found (λ kept. AreWithin (length bytes.now) kept.items)) }
+{
+    let mut kept: Vec<Place> = Vec::new(alloc);
+    let mut known: BTreeMap<&[u8], usize> = BTreeMap::new(alloc);
+    let mut repeats = false;
+    for place in places {
+        let name = bytes_at(bytes, place.name);
+        match known.get(&name).copied() {
+            Some(first) => {
+                keep_last(&mut kept, first, place.value);
+                repeats = true;
+            }
+            None => {
+                known.insert(name, kept.len())?;
+                kept.push(*place)?;
+            }
+        }
+    }
+    Ok(if repeats { Some(kept) } else { None })
+}
+
+/// Has this value stand at a place.
+fn keep_last(kept: &mut Vec<Place>, first: usize, value: Span)
+    requires { first < length kept.old.items }
+    ensures { kept.new.items ≡ slice_set kept.old.items first (record { name = (slice_index_or kept.old.items first (record { name = value; value = value })).name; value = value }) }
+{
+    let name = kept[first].name;
+    kept[first] = Place { name, value };
+}
+
+/// The object of the members that stand at these places.
+fn object_of(alloc: Global, bytes: &[u8], places: &[Place]) -> Result<Vec<u8>, AllocError>
+    requires { AreWithin (length bytes.now) places.now }
+    ensures { IfOk result (λ text. text.items ≡ joined 123 (entries bytes.now places.now)) }
+{
+    let mut text = Vec::new(alloc);
+    let mut mark = b'{';
+    for place in places {
+        text.push(mark)?;
+        text.extend_from_slice(bytes_at(bytes, place.name))?;
+        text.push(b':')?;
+        text.extend_from_slice(bytes_at(bytes, place.value))?;
+        mark = b',';
+    }
+    text.push(b'}')?;
+    Ok(text)
+}
+
+/// The bytes that stand there.
+fn bytes_at(bytes: &[u8], span: Span) -> &[u8]
+    requires { IsWithin (length bytes.now) span }
+    ensures { result.now ≡ cut bytes.now span }
+{
+    &bytes[span.start..span.end]
+}
