@@ -107,7 +107,7 @@ letter-takes xs b old new first second other e text after u =
 low-unit : (p : Piece) → IsPiece p → is_low (piece_value p) ≡ true → (rest : List ℕ) → StartsWithUnit (piece_spelling p ++ rest) (piece_value p)
 low-unit (bare c) good h rest = absurd (both_ways (is_low c) (scalar-not-low c good.0) h)
 low-unit (letter b) good h rest = absurd (both_ways (is_low (letter_meaning b)) (scalar-not-low (letter_meaning b) (meaning-scalar b)) h)
-low-unit (unit a b c d) good h rest = record { a = a; b = b; c = c; d = d; tail = rest; parts = refl; is = refl }
+low-unit (unit a b c d) good h rest = record { a = a; b = b; c = c; d = d; tail = rest; parts = refl; spells = refl }
 
 alone : (u : ℕ) (ps : List Piece) (after : List ℕ) → AllByRecursion IsPiece ps →
     ((second : ℕ) → is_high u ≡ true → is_low second ≡ true → StartsWithUnit (flat_map piece_spelling ps ++ 34 ∷ after) second → ⊥) →
@@ -169,7 +169,7 @@ first-unit (unit a b c d ∷ ps) after value good s = record {
   others = ps;
   same = refl;
   good = good.1;
-  is = value-places (flat_map piece_spelling (unit a b c d ∷ ps) ++ 34 ∷ after) s.a s.b s.c s.d s.tail s.parts ∙ s.is;
+  is = value-places (flat_map piece_spelling (unit a b c d ∷ ps) ++ 34 ∷ after) s.a s.b s.c s.d s.tail s.parts ∙ s.spells;
 }
 
 pub pair-takes : (xs : List ℕ) (first second : ℕ) (old new : List ℕ) → get_or xs 0 0 ≡ 92 → get_or xs 1 0 ≡ 117 →
@@ -255,7 +255,7 @@ starts-ahead {xs} {text} {after} h v e = record {
   d = h.d;
   tail = flat_map piece_spelling h.pieces ++ 34 ∷ after;
   parts = h.parts;
-  is = sym (value-places xs h.a h.b h.c h.d _ h.parts) ∙ sym e;
+  spells = sym (value-places xs h.a h.b h.c h.d _ h.parts) ∙ sym e;
 }
 
 -- a pair of surrogates is one character
