@@ -101,8 +101,16 @@ behind_is o h = grind arith
 less_is : (o : Ordering) → is_lt o ≡ true → is_le o ≡ true
 less_is o h = grind arith
 
+turned_eq : (o : Ordering) → is_eq (ordering_reverse o) ≡ is_eq o
+turned_eq Less = refl
+turned_eq Equal = refl
+turned_eq Greater = refl
+
+pub bytes_eq-cmp : (a b : List ℕ) → bytes_eq a b ≡ is_eq (slice_cmp nat_cmp b a)
+bytes_eq-cmp a b = texts_ties a b ∙ ap is_eq (nat_list_cmp_total.antisymm a b) ∙ turned_eq (slice_cmp nat_cmp b a)
+
 under_is : (key : List ℕ) (row : Row) → is_under key row ≡ is_eq (slice_cmp nat_cmp row.key.now key)
-under_is key row = texts_ties row.key.now key
+under_is key row = bytes_eq-cmp key row.key.now
 
 module _ (rows : List Row) (key : List ℕ) (a b : ℕ)
     (start : IsPartitionPoint (λ row. is_below key row ≡ true) (λ row. is_below key row ≡ false) rows a)
@@ -121,8 +129,21 @@ module _ (rows : List Row) (key : List ℕ) (a b : ℕ)
 -- ---- rows of one id keep their order
 blank : Drawn
 blank = record {
-  id = []; kind = Rectangle; version = 0; nonce = 0; updated = 0; deleted = false; index = None; groups = []; frame = None;
-  bound = []; container = None; start_binding = None; end_binding = None; file = None; rest = []
+  id = [];
+  kind = Rectangle;
+  version = 0;
+  nonce = 0;
+  updated = 0;
+  deleted = false;
+  index = None;
+  groups = [];
+  frame = None;
+  bound = [];
+  container = None;
+  start_binding = None;
+  end_binding = None;
+  file = None;
+  rest = [];
 }
 
 row_at : List ℕ → Row

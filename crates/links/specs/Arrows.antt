@@ -6,18 +6,18 @@ use Rattle.elem.specs.declared.kind.Role.TheVariants.{Arrow, Text}
 use Rattle.elem.specs.declared.parts.BoundRef.{BoundRef}
 use Rattle.elem.specs.declared.parts.Binding.{Binding}
 use Rattle.elem.specs.Drawn.{Drawn}
-use Rattle.links.specs.Names.{has_id, id_of, is_id, is_target, has_end_at}
+use Rattle.links.specs.Names.{has_id, id_of, is_id, target_of, is_target, has_end_at}
 use Rattle.links.specs.Entries.{arrow_entry, text_entry, first_occurrences}
 use Rattle.links.specs.Texts.{text_of}
 
--- whether a binding is kept: it names a bindable target of the list
-unfoldable pub keeps_binding : List Drawn → Binding → Bool
-keeps_binding list binding = list_any (λ target. has_id binding.target target && is_target target) list
+-- whether what an end names is a bindable target of the list
+abbrev pub names_target : List Drawn → Option (List ℕ) → Bool
+names_target list None = false
+names_target list (Some id) = list_any (λ target. has_id id target && is_target target) list
 
--- an end that keeps its binding, or has none
+-- an end as it is if it names a bindable target of the list, or without a binding
 abbrev pub settled_end : List Drawn → Option Binding → Option Binding
-settled_end list None = None
-settled_end list (Some binding) = if keeps_binding list binding then Some binding else None
+settled_end list end' = if names_target list (target_of end') then end' else None
 
 -- whether an arrow is bound to an element: an end names it, and it is a bindable target
 abbrev pub is_bound_to : Drawn → Drawn → Bool
@@ -50,7 +50,7 @@ abbrev pub with_settled_links : List Drawn → Drawn → Drawn
 with_settled_links list e = record e {
   start_binding = settled_end list e.start_binding;
   end_binding = settled_end list e.end_binding;
-  bound = listing list e
+  bound = listing list e;
 }
 
 -- each element with its links settled

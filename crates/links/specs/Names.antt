@@ -90,10 +90,13 @@ is_id id (Some other) = bytes_eq id other
 abbrev pub names_container : List ℕ → Drawn → Bool
 names_container id e = is_text e.kind && is_id id e.container
 
--- whether an end is bound to an element of this id
+-- what an end is bound to, and whether that is an element of this id
+abbrev pub target_of : Option Binding → Option (List ℕ)
+target_of None = None
+target_of (Some binding) = Some binding.target
+
 abbrev pub end_names : List ℕ → Option Binding → Bool
-end_names id None = false
-end_names id (Some binding) = bytes_eq id binding.target
+end_names id end' = is_id id (target_of end')
 
 -- whether an element is an arrow with an end that names one of this id
 abbrev pub has_end_at : List ℕ → Drawn → Bool

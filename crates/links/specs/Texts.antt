@@ -31,10 +31,14 @@ unfoldable pub text_of : List Drawn → Drawn → Option (List ℕ)
 text_of list container =
     if can_hold_text container.kind then option_or (listed_text list container) (first_text list container) else None
 
--- whether a text keeps its container: it names an element of the list whose text it is
+-- whether a text of this id is that container's text
+abbrev pub is_text_of : List Drawn → List ℕ → Drawn → Bool
+is_text_of list id container = is_id id (text_of list container)
+
+-- whether a text keeps its container: it is the text of an element of the list that it names
 unfoldable pub keeps_container : List Drawn → Drawn → Bool
 keeps_container list text =
-    list_any (λ container. names_container container.id text && is_id text.id (text_of list container)) list
+    list_any (λ container. is_text_of list text.id container && names_container container.id text) list
 
 -- the settled element of texts: as it is, but without a container that it doesn't keep
 abbrev pub with_settled_container : List Drawn → Drawn → Drawn
