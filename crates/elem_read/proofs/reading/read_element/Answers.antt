@@ -17,7 +17,7 @@ unfolding quote
 returns-then-has_value-clause-read c =
     let value = c.args.value.now in
     let found : c.members.result ≡ Ok c.in-Some.given = c.shaped.ensures.found c.in-Some.given (c.in_ok-given.was ∙ ap Ok c.in-Some.is) in
-    let object = is-object value (pairs c.in-Some.given) (IfOk-at_ok _ found c.members.ensures.spelled) (IfOk-at_ok _ found c.members.ensures.are) in
+    let object = is-object value (pairs c.in-Some.given) (IfOk-at_ok _ found c.members.ensures.spelled) (IfOk-at_ok _ found c.members.ensures.kept) in
     selection value (pairs c.in-Some.given) object (c.has_value.ensures.0 c.if-has_value.true)
 
 pub returns-then-depth_of-gt-DEEPEST-clause-fault : goal.returns-then-depth_of-gt-DEEPEST-clause-fault
@@ -25,7 +25,7 @@ unfolding quote
 returns-then-depth_of-gt-DEEPEST-clause-fault c = λ fault e.
     let value = c.args.value.now in
     let found : c.members.result ≡ Ok c.in-Some.given = c.shaped.ensures.found c.in-Some.given (c.in_ok-given.was ∙ ap Ok c.in-Some.is) in
-    let object = is-object value (pairs c.in-Some.given) (IfOk-at_ok _ found c.members.ensures.spelled) (IfOk-at_ok _ found c.members.ensures.are) in
+    let object = is-object value (pairs c.in-Some.given) (IfOk-at_ok _ found c.members.ensures.spelled) (IfOk-at_ok _ found c.members.ensures.kept) in
     let draws = drawing value (pairs c.in-Some.given) object (λ e. both_ways _ c.if-has_value.false (c.has_value.ensures.1 e)) in
     let same : Depth ≡ fault = cc in
     subst (IsFaultIn value) same (too-deep value (pairs c.in-Some.given) c.depth_of.result draws c.if-depth_of-gt-DEEPEST.true c.depth_of.ensures.least)
@@ -33,7 +33,7 @@ returns-then-depth_of-gt-DEEPEST-clause-fault c = λ fault e.
 pub into_restored-requires : goal.into_restored-requires
 into_restored-requires c =
     let found : c.members.result ≡ Ok c.in-Some.given = c.shaped.ensures.found c.in-Some.given (c.in_ok-given.was ∙ ap Ok c.in-Some.is) in
-    AreMembers-distinct 127 c.in-Some.given (IfOk-at_ok _ found c.members.ensures.are)
+    AreMembers-distinct 127 c.in-Some.given (IfOk-at_ok _ found c.members.ensures.kept)
 
 pub element_of-requires-clause-kept : goal.element_of-requires-clause-kept
 unfolding quote
@@ -44,7 +44,7 @@ pub element_of-requires-clause-nest : goal.element_of-requires-clause-nest
 element_of-requires-clause-nest c =
     let value = c.args.value.now in
     let found : c.members.result ≡ Ok c.in-Some.given = c.shaped.ensures.found c.in-Some.given (c.in_ok-given.was ∙ ap Ok c.in-Some.is) in
-    let object = is-object value (pairs c.in-Some.given) (IfOk-at_ok _ found c.members.ensures.spelled) (IfOk-at_ok _ found c.members.ensures.are) in
+    let object = is-object value (pairs c.in-Some.given) (IfOk-at_ok _ found c.members.ensures.spelled) (IfOk-at_ok _ found c.members.ensures.kept) in
     let shallow = shallow-is value c.depth_of.result c.depth_of.ensures.holds c.if-depth_of-gt-DEEPEST.false in
     c.in_ok-restored.ensures.nests 119 (lit≤ tt) (given-nest value c.in-Some.given object shallow)
 
@@ -53,7 +53,7 @@ unfolding quote
 returns-in_err-element-clause-fault c =
     let value = c.args.value.now in
     let found : c.members.result ≡ Ok c.in-Some.given = c.shaped.ensures.found c.in-Some.given (c.in_ok-given.was ∙ ap Ok c.in-Some.is) in
-    let object = is-object value (pairs c.in-Some.given) (IfOk-at_ok _ found c.members.ensures.spelled) (IfOk-at_ok _ found c.members.ensures.are) in
+    let object = is-object value (pairs c.in-Some.given) (IfOk-at_ok _ found c.members.ensures.spelled) (IfOk-at_ok _ found c.members.ensures.kept) in
     let draws = drawing value (pairs c.in-Some.given) object (λ e. both_ways _ c.if-has_value.false (c.has_value.ensures.1 e)) in
     let shallow = shallow-is value c.depth_of.result c.depth_of.ensures.holds c.if-depth_of-gt-DEEPEST.false in
     let p = err_from_is_err_and c.from_residual-in_err-element.result c.from_residual-in_err-element.ensures.1 in
@@ -65,7 +65,7 @@ unfolding quote
 returns-clause-read c =
     let value = c.args.value.now in
     let found : c.members.result ≡ Ok c.in-Some.given = c.shaped.ensures.found c.in-Some.given (c.in_ok-given.was ∙ ap Ok c.in-Some.is) in
-    let object = is-object value (pairs c.in-Some.given) (IfOk-at_ok _ found c.members.ensures.spelled) (IfOk-at_ok _ found c.members.ensures.are) in
+    let object = is-object value (pairs c.in-Some.given) (IfOk-at_ok _ found c.members.ensures.spelled) (IfOk-at_ok _ found c.members.ensures.kept) in
     let draws = drawing value (pairs c.in-Some.given) object (λ e. both_ways _ c.if-has_value.false (c.has_value.ensures.1 e)) in
     let shallow = shallow-is value c.depth_of.result c.depth_of.ensures.holds c.if-depth_of-gt-DEEPEST.false in
     element-in value (pairs c.in-Some.given) (pairs c.in_ok-restored.restored) c.in_ok-element.element draws shallow c.in_ok-restored.ensures.restored c.in_ok-element.ensures.says
@@ -75,7 +75,7 @@ unfolding quote
 returns-clause-whole c =
     let value = c.args.value.now in
     let found : c.members.result ≡ Ok c.in-Some.given = c.shaped.ensures.found c.in-Some.given (c.in_ok-given.was ∙ ap Ok c.in-Some.is) in
-    let object = is-object value (pairs c.in-Some.given) (IfOk-at_ok _ found c.members.ensures.spelled) (IfOk-at_ok _ found c.members.ensures.are) in
+    let object = is-object value (pairs c.in-Some.given) (IfOk-at_ok _ found c.members.ensures.spelled) (IfOk-at_ok _ found c.members.ensures.kept) in
     let draws = drawing value (pairs c.in-Some.given) object (λ e. both_ways _ c.if-has_value.false (c.has_value.ensures.1 e)) in
     let shallow = shallow-is value c.depth_of.result c.depth_of.ensures.holds c.if-depth_of-gt-DEEPEST.false in
     whole value c.in_ok-element.element
