@@ -135,7 +135,7 @@ abbrev pub EndsItself : List ℕ → Type 0
 EndsItself v = IsCompact 127 v ⊎ ((t : List ℕ) × (v ≡ quote t))
 
 stands : (v r : List ℕ) → IsCompact 127 v → Follows v r → Stands (v ++ r) v r
-stands v r compact ends = record { blank = []; value = v; parts = refl; space = refl; is = Value-deeper (omega arith) compact; ends = ends }
+stands v r compact ends = record { blank = []; value = v; parts = refl; space = refl; reads = Value-deeper (omega arith) compact; ends = ends }
 
 compact-quote : (v u r s : List ℕ) → IsCompact 127 v → v ++ r ≡ quote u ++ s → (v ≡ quote u) × (r ≡ s)
 unfolding quote

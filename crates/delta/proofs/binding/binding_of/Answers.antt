@@ -13,7 +13,7 @@ use Rattle.delta.proofs.binding.binding_of.Goals.{In_ok-rest}
 
 found : (c : In_ok-rest) → IsFound c.args.value.now c.in_ok-rest.rest.items
 found c =
-    binding-found c.args.value.now c.requires.0 c.requires.1 c.requires.2 (λ e. false≢true (sym c.if-is_null.false ∙ c.is_null.ensures.1 e)) c.in_ok-rest.rest.items c.in_ok-rest.ensures.spelled c.in_ok-rest.ensures.are.valued
+    binding-found c.args.value.now c.requires.0 c.requires.1 c.requires.2 (λ e. false≢true (sym c.if-is_null.false ∙ c.is_null.ensures.1 e)) c.in_ok-rest.rest.items c.in_ok-rest.ensures.spelled c.in_ok-rest.ensures.kept.valued
 
 pub target_in-requires-clause-rise : goal.target_in-requires-clause-rise
 target_in-requires-clause-rise c = binding-rise (found (goal.at.target_in-requires-clause-rise c).In_ok-rest)
