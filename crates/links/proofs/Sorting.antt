@@ -1,0 +1,153 @@
+-- Rows in the order of their ids.
+use Rattle.std.proofs.Common.{◌≡◌, ℕ, zero, suc, ◌+◌, ◌-◌, ◌<◌, ◌≤◌, Bool, true, false, cond, not, ◌&&◌, List, [], ◌∷◌, length, get_or, take, drop, filter, Ordering, is_lt, nat_cmp, bytes_eq, refl, sym, ap, ◌∙◌, arith}
+use Rattle.std.specs.List.{AllWithin}
+use Rattle.std.specs.List.Sorted.{IsSortedBy, IsStableBy, IsPartitionedBy, IsPartitionPoint, ties}
+use Rattle.std.specs.Cmp.{IsStrictWeakOrder}
+use Rattle.std.specs.Cmp.Lexicographic.{slice_cmp, nat_list_cmp_total, texts_ties}
+use Rattle.std.specs.Ordering.{is_eq, is_le, ordering_reverse}
+use Rattle.std.specs.declared.cmp.Ordering.TheVariants.{Less, Equal, Greater}
+use Rattle.std.proofs.lemmas.Bool.{and_left, both_ways, false_from_ne_true, true_from_ne_false, not-true, not_from_false, cond-true, cond-false}
+use Rattle.std.proofs.lemmas.List.Elements.{filter_agree}
+use Rattle.std.proofs.lemmas.List.Sorted.{ranks_by, sorted_far}
+use Rattle.std.proofs.Math.Seq.{take-nil, drop-nil}
+use Rattle.elem.specs.Drawn.{Drawn}
+use Rattle.elem.specs.declared.kind.Kind.TheVariants.{Rectangle}
+use Rattle.elem.specs.declared.kind.Kind.{Kind}
+use Rattle.std.proofs.Common.{None}
+use Rattle.links.specs.declared.table.Row.{Row}
+use Rattle.links.specs.Tables.{is_under, row_less}
+
+-- ---- what lies between the places where two tests of a list turn
+module _ {X : Type 0} (below up_to among : X → Bool)
+    (before : (x : X) → below x ≡ true → among x ≡ false) (at' : (x : X) → below x ≡ false → up_to x ≡ true → among x ≡ true)
+    (behind : (x : X) → up_to x ≡ false → among x ≡ false) (less : (x : X) → below x ≡ true → up_to x ≡ true) where
+  turns_tail : (p : X → Bool) (x : X) (xs : List X) (i j : ℕ) → j ≡ i - 1 → IsPartitionPoint (λ y. p y ≡ true) (λ y. p y ≡ false) (x ∷ xs) i → IsPartitionPoint (λ y. p y ≡ true) (λ y. p y ≡ false) xs j
+  turns_tail p x xs i j is h = (λ k d l m. h.0 (suc k) d (omega arith) (omega arith), λ k d l m. h.1 (suc k) d (omega arith) (omega arith))
+
+  pub between-filter : (xs : List X) (a b : ℕ)
+      → IsPartitionPoint (λ y. below y ≡ true) (λ y. below y ≡ false) xs a → IsPartitionPoint (λ y. up_to y ≡ true) (λ y. up_to y ≡ false) xs b
+      → take (b - a) (drop a xs) ≡ filter among xs
+  between-filter [] a b f g = ap (take (b - a)) (drop-nil a) ∙ take-nil (b - a)
+  between-filter (x ∷ xs) zero zero f g =
+      between-filter xs 0 0 (turns_tail below x xs 0 0 (omega arith) f) (turns_tail up_to x xs 0 0 (omega arith) g)
+      ∙ sym (cond-false (among x) (x ∷ filter among xs) (filter among xs) (behind x (g.1 0 x (omega arith) (omega arith))))
+  between-filter (x ∷ xs) zero (suc b) f g =
+      let e : suc b - 0 ≡ suc (b - 0) = omega arith in
+      ap (λ n. take n (x ∷ xs)) e
+      ∙ ap (λ ys. x ∷ ys) (between-filter xs 0 b (turns_tail below x xs 0 0 (omega arith) f) (turns_tail up_to x xs (suc b) b (omega arith) g))
+      ∙ sym (cond-true (among x) (x ∷ filter among xs) (filter among xs) (at' x (f.1 0 x (omega arith) (omega arith)) (g.0 0 x (omega arith) (omega arith))))
+  between-filter (x ∷ xs) (suc a) zero f g =
+      absurd (both_ways (up_to x) (g.1 0 x (omega arith) (omega arith)) (less x (f.0 0 x (omega arith) (omega arith))))
+  between-filter (x ∷ xs) (suc a) (suc b) f g =
+      let e : suc b - suc a ≡ b - a = omega arith in
+      ap (λ n. take n (drop a xs)) e
+      ∙ between-filter xs a b (turns_tail below x xs (suc a) a (omega arith) f) (turns_tail up_to x xs (suc b) b (omega arith) g)
+      ∙ sym (cond-false (among x) (x ∷ filter among xs) (filter among xs) (before x (f.0 0 x (omega arith) (omega arith))))
+
+  pub turns-ordered : (xs : List X) (a b : ℕ) → a ≤ length xs
+      → IsPartitionPoint (λ y. below y ≡ true) (λ y. below y ≡ false) xs a → IsPartitionPoint (λ y. up_to y ≡ true) (λ y. up_to y ≡ false) xs b → a ≤ b
+  turns-ordered [] zero b l f g = omega arith
+  turns-ordered [] (suc a) b l f g = absurd (omega arith)
+  turns-ordered (x ∷ xs) zero b l f g = omega arith
+  turns-ordered (x ∷ xs) (suc a) zero l f g =
+      absurd (both_ways (up_to x) (g.1 0 x (omega arith) (omega arith)) (less x (f.0 0 x (omega arith) (omega arith))))
+  turns-ordered (x ∷ xs) (suc a) (suc b) l f g =
+      let m = turns-ordered xs a b (omega arith) (turns_tail below x xs (suc a) a (omega arith) f) (turns_tail up_to x xs (suc b) b (omega arith) g) in
+      omega arith
+
+-- ---- the order of rows
+less-order : IsStrictWeakOrder (λ a b. is_lt (slice_cmp nat_cmp a b))
+less-order = ranks_by nat_list_cmp_total (λ a. a)
+
+pub row_less-order : IsStrictWeakOrder row_less
+row_less-order = ranks_by nat_list_cmp_total (λ (row : Row). row.key.now)
+
+-- whether a row's id is less than another one, and whether it isn't greater
+abbrev pub is_below : List ℕ → Row → Bool
+is_below key row = is_lt (slice_cmp nat_cmp row.key.now key)
+
+abbrev pub is_up_to : List ℕ → Row → Bool
+is_up_to key row = is_le (slice_cmp nat_cmp row.key.now key)
+
+le_is : (o : Ordering) → is_le o ≡ not (is_lt (ordering_reverse o))
+le_is Less = refl
+le_is Equal = refl
+le_is Greater = refl
+
+up_to_is : (key : List ℕ) (row : Row) → is_up_to key row ≡ not (is_lt (slice_cmp nat_cmp key row.key.now))
+up_to_is key row = le_is (slice_cmp nat_cmp row.key.now key) ∙ ap (λ o. not (is_lt o)) (sym (nat_list_cmp_total.antisymm key row.key.now))
+
+module _ (rows : List Row) (key : List ℕ) (up : IsSortedBy row_less rows) where
+  pub below-partitioned : IsPartitionedBy (is_below key) rows
+  below-partitioned i j d l m h =
+      true_from_ne_false (is_below key (get_or rows i d))
+      (λ no. both_ways (is_below key (get_or rows j d)) (less-order.chain (get_or rows j d).key.now (get_or rows i d).key.now key (sorted_far row_less row_less-order rows up i j d l m) no) h)
+
+  pub up_to-partitioned : IsPartitionedBy (is_up_to key) rows
+  up_to-partitioned i j d l m h =
+      let not_less = not-true _ (sym (up_to_is key (get_or rows j d)) ∙ h) in
+      up_to_is key (get_or rows i d)
+      ∙ not_from_false _ (less-order.chain key (get_or rows j d).key.now (get_or rows i d).key.now not_less (sorted_far row_less row_less-order rows up i j d l m))
+
+before_is : (o : Ordering) → is_lt o ≡ true → is_eq o ≡ false
+before_is o h = grind arith
+
+at_is : (o : Ordering) → is_lt o ≡ false → is_le o ≡ true → is_eq o ≡ true
+at_is o h k = grind arith
+
+behind_is : (o : Ordering) → is_le o ≡ false → is_eq o ≡ false
+behind_is o h = grind arith
+
+less_is : (o : Ordering) → is_lt o ≡ true → is_le o ≡ true
+less_is o h = grind arith
+
+turned_eq : (o : Ordering) → is_eq (ordering_reverse o) ≡ is_eq o
+turned_eq Less = refl
+turned_eq Equal = refl
+turned_eq Greater = refl
+
+pub bytes_eq-cmp : (a b : List ℕ) → bytes_eq a b ≡ is_eq (slice_cmp nat_cmp b a)
+bytes_eq-cmp a b = texts_ties a b ∙ ap is_eq (nat_list_cmp_total.antisymm a b) ∙ turned_eq (slice_cmp nat_cmp b a)
+
+under_is : (key : List ℕ) (row : Row) → is_under key row ≡ is_eq (slice_cmp nat_cmp row.key.now key)
+under_is key row = bytes_eq-cmp key row.key.now
+
+module _ (rows : List Row) (key : List ℕ) (a b : ℕ)
+    (start : IsPartitionPoint (λ row. is_below key row ≡ true) (λ row. is_below key row ≡ false) rows a)
+    (end' : IsPartitionPoint (λ row. is_up_to key row ≡ true) (λ row. is_up_to key row ≡ false) rows b) where
+  pub rows-between : take (b - a) (drop a rows) ≡ filter (is_under key) rows
+  rows-between =
+      between-filter (is_below key) (is_up_to key) (λ row. is_eq (slice_cmp nat_cmp row.key.now key))
+      (λ row h. before_is _ h) (λ row h k. at_is _ h k) (λ row h. behind_is _ h) (λ row h. less_is _ h) rows a b start end'
+      ∙ filter_agree (λ row. is_eq (slice_cmp nat_cmp row.key.now key)) (is_under key) (λ row. sym (under_is key row)) rows
+
+  pub rows-ordered : a ≤ length rows → a ≤ b
+  rows-ordered l =
+      turns-ordered (is_below key) (is_up_to key) (λ row. is_eq (slice_cmp nat_cmp row.key.now key))
+      (λ row h. before_is _ h) (λ row h k. at_is _ h k) (λ row h. behind_is _ h) (λ row h. less_is _ h) rows a b l start end'
+
+-- ---- rows of one id keep their order
+blank : Drawn
+blank = record {
+  id = []; kind = Rectangle; version = 0; nonce = 0; updated = 0; deleted = false; index = None; groups = []; frame = None;
+  bound = []; container = None; start_binding = None; end_binding = None; file = None; rest = []
+}
+
+row_at : List ℕ → Row
+row_at key = record { key = record { ref_ptr = (0, 0); now = key }; element = record { ref_ptr = (0, 0); now = blank } }
+
+ties_are : (o : Ordering) → (not (is_lt (ordering_reverse o)) && not (is_lt o)) ≡ is_eq o
+ties_are Less = refl
+ties_are Equal = refl
+ties_are Greater = refl
+
+ties-under : (key : List ℕ) (row : Row) → ties row_less (row_at key) row ≡ is_under key row
+unfolding row_at
+ties-under key row =
+    ap (λ o. not (is_lt o) && not (is_lt (slice_cmp nat_cmp row.key.now key))) (nat_list_cmp_total.antisymm key row.key.now)
+    ∙ ties_are (slice_cmp nat_cmp row.key.now key) ∙ sym (under_is key row)
+
+pub kept-under : (rows new : List Row) → IsStableBy row_less rows new → (key : List ℕ) → filter (is_under key) new ≡ filter (is_under key) rows
+kept-under rows new stable key =
+    sym (filter_agree (ties row_less (row_at key)) (is_under key) (ties-under key) new)
+    ∙ stable (row_at key) ∙ filter_agree (ties row_less (row_at key)) (is_under key) (ties-under key) rows

@@ -1,0 +1,258 @@
+-- Tables of a list: what a row adds, and what a test finds among the rows of an id.
+use Rattle.std.proofs.Common.{◌≡◌, ℕ, ◌+◌, ◌<◌, Bool, true, false, cond, ◌&&◌, ◌||◌, List, [], ◌∷◌, ◌++◌, length, get_or, take, find, filter, map, slice_get, Option, Some, None, bytes_eq, nat_cmp, refl, sym, ap, ap₂, ◌∙◌, append_assoc, append-nil}
+use Rattle.std.specs.Cmp.Lexicographic.{slice_cmp}
+use Rattle.std.specs.List.{list_any, zip}
+use Rattle.std.specs.List.Sorted.{IsSortedBy}
+use Rattle.std.specs.Option.{option_copied, option_map, option_or}
+use Rattle.std.specs.Ordering.{is_eq}
+use denote.Ref.{Bor}
+use Rattle.std.proofs.lemmas.Bool.{cond-true, cond-false}
+use Rattle.std.proofs.lemmas.List.{map-append, take_more}
+use Rattle.std.proofs.lemmas.List.Elements.{filter-append, filter_more}
+use Rattle.std.proofs.lemmas.Slice.Eq.{bytes_eq-Decides}
+use Rattle.elem.specs.declared.kind.Role.TheVariants.{Arrow}
+use Rattle.elem.specs.declared.parts.BoundRef.{BoundRef}
+use Rattle.elem.specs.Drawn.{Drawn}
+use Rattle.links.specs.declared.table.Row.{Row}
+use Rattle.links.specs.Arrows.{is_bound_to, is_true_as, is_true_entry, arrow_entries, text_entries, listing}
+use Rattle.links.specs.Entries.{arrow_entry, first_occurrences}
+use Rattle.links.specs.Names.{has_id, id_of, is_arrow, is_id, can_hold_text, names_container, target_of, end_names, has_end_at, is_target}
+use Rattle.links.specs.Tables.{is_under, element_of, elements_under, row_less, Adds, IsTable, with_entry, with_entries}
+use Rattle.links.specs.Texts.{is_for_text, is_text_entry, listed_text, first_text, text_of, is_text_of, keeps_container}
+use Rattle.links.proofs.EntryLaws.{first_occurrences-push, with_entries-first, with_entries-push}
+use Rattle.links.proofs.Sorting.{bytes_eq-cmp}
+
+pub elements_under-append : (key : List ℕ) (rows others : List Row) → elements_under key (rows ++ others) ≡ elements_under key rows ++ elements_under key others
+elements_under-append key rows others =
+    ap (map element_of) (filter-append (is_under key) rows others) ∙ map-append element_of (filter (is_under key) rows) (filter (is_under key) others)
+
+-- what one row has under an id
+under_one : (key : List ℕ) (row : Row) (b : Bool) → is_under key row ≡ b → elements_under key (row ∷ []) ≡ cond b (element_of row ∷ []) []
+under_one key row true h = ap (map element_of) (cond-true (is_under key row) (row ∷ []) [] h)
+under_one key row false h = ap (map element_of) (cond-false (is_under key row) (row ∷ []) [] h)
+
+module _ (names : List ℕ → Drawn → Bool) (e : Drawn) (old new : List Row) where
+  pub Adds-none : ((key : List ℕ) → names key e ≡ false) → new ≡ old → Adds names e old new
+  Adds-none none same = record {
+    each = λ key. ap (elements_under key) same ∙ sym (append-nil (elements_under key old))
+        ∙ ap (λ more. elements_under key old ++ more) (sym (cond-false (names key e) (e ∷ []) [] (none key)));
+  }
+
+  pub Adds-one : (row : Row) → element_of row ≡ e → ((key : List ℕ) → names key e ≡ is_under key row) → new ≡ old ++ row ∷ [] → Adds names e old new
+  Adds-one row is same made = record {
+    each = λ key. ap (elements_under key) made ∙ elements_under-append key old (row ∷ [])
+        ∙ ap (λ more. elements_under key old ++ more)
+        (under_one key row (is_under key row) refl ∙ ap₂ (λ b (f : Drawn). cond b (f ∷ []) []) (sym (same key)) is);
+  }
+
+  either_one : (b d : Bool) → (b ≡ true → d ≡ false) → (cond b (e ∷ []) [] ++ cond d (e ∷ []) []) ≡ cond (b || d) (e ∷ []) []
+  either_one true d h = ap (λ x. e ∷ cond x (e ∷ []) []) (h refl)
+  either_one false d h = refl
+
+  pub Adds-two : (row other : Row) → element_of row ≡ e → element_of other ≡ e → ((key : List ℕ) → names key e ≡ (is_under key row || is_under key other))
+      → ((key : List ℕ) → is_under key row ≡ true → is_under key other ≡ false) → new ≡ (old ++ row ∷ []) ++ other ∷ [] → Adds names e old new
+  Adds-two row other is is' same apart made = record {
+    each = λ key.
+        let under = λ (r : Row) (i : element_of r ≡ e). under_one key r (is_under key r) refl ∙ ap (λ (f : Drawn). cond (is_under key r) (f ∷ []) []) i in
+        ap (elements_under key) (made ∙ append_assoc old (row ∷ []) (other ∷ [])) ∙ elements_under-append key old (row ∷ other ∷ [])
+        ∙ ap (λ more. elements_under key old ++ more)
+        (elements_under-append key (row ∷ []) (other ∷ []) ∙ ap₂ (λ xs ys. xs ++ ys) (under row is) (under other is')
+        ∙ either_one (is_under key row) (is_under key other) (apart key) ∙ ap (λ b. cond b (e ∷ []) []) (sym (same key)));
+  }
+
+-- rows under way: they have under each id the elements of a first part of the list that name it
+pub record HasUnder (names : List ℕ → Drawn → Bool) (list : List Drawn) (rows : List Row) : Type 0 where
+  pub each : (key : List ℕ) → elements_under key rows ≡ filter (names key) list
+
+pub HasUnder-more : (names : List ℕ → Drawn → Bool) (list : List Drawn) (i : ℕ) (e : Drawn) (old new : List Row) → i < length list → e ≡ get_or list i e
+    → HasUnder names (take i list) old → Adds names e old new → HasUnder names (take (i + 1) list) new
+HasUnder-more names list i e old new l is so_far added = record {
+  each = λ key. added.each key ∙ ap₂ (λ xs (f : Drawn). xs ++ cond (names key f) (f ∷ []) []) (so_far.each key) is
+      ∙ sym (filter_more (names key) list i e l);
+}
+
+pub IsTable-sorted : (names : List ℕ → Drawn → Bool) (list : List Drawn) (rows new : List Row) → HasUnder names list rows
+    → IsSortedBy row_less new → ((key : List ℕ) → filter (is_under key) new ≡ filter (is_under key) rows) → IsTable names list new
+IsTable-sorted names list rows new under ordered kept = record {
+  ordered = ordered;
+  found = λ key. ap (map element_of) (kept key) ∙ under.each key;
+}
+
+-- ---- the ends of an arrow that has both
+module _ (e : Drawn) (s t : List ℕ) (arrow : is_arrow e.kind ≡ true) (start : target_of e.start_binding ≡ Some s) (end' : target_of e.end_binding ≡ Some t) where
+  pub has_end_at-both : (key : List ℕ) → has_end_at key e ≡ (bytes_eq key s || bytes_eq key t)
+  has_end_at-both key =
+      ap (λ b. b && (end_names key e.start_binding || end_names key e.end_binding)) arrow
+      ∙ ap₂ (λ x y. is_id key x || is_id key y) start end'
+
+  pub has_end_at-same : bytes_eq s t ≡ true → (key : List ℕ) → has_end_at key e ≡ bytes_eq key s
+  has_end_at-same same key =
+      has_end_at-both key ∙ ap (λ x. bytes_eq key s || bytes_eq key x) (sym ((bytes_eq-Decides s t).0 same)) ∙ or_itself (bytes_eq key s)
+    where
+      or_itself : (b : Bool) → (b || b) ≡ b
+      or_itself true = refl
+      or_itself false = refl
+
+pub bytes_eq-apart : (s t : List ℕ) → bytes_eq s t ≡ false → (key : List ℕ) → bytes_eq key s ≡ true → bytes_eq key t ≡ false
+bytes_eq-apart s t apart key h = ap (λ k. bytes_eq k t) ((bytes_eq-Decides key s).0 h) ∙ apart
+
+-- ---- what a test finds among the rows of an id
+pub list_any-map : {X Y : Type 0} (f : X → Y) (p : Y → Bool) (xs : List X) → list_any p (map f xs) ≡ list_any (λ x. p (f x)) xs
+list_any-map f p [] = refl
+list_any-map f p (x ∷ xs) = ap (λ b. p (f x) || b) (list_any-map f p xs)
+
+pub list_any-filter : {X : Type 0} (p q : X → Bool) (xs : List X) → list_any q (filter p xs) ≡ list_any (λ x. p x && q x) xs
+list_any-filter p q [] = refl
+list_any-filter p q (x ∷ xs) =
+    elim (p x) as (λ b. list_any q (cond b (x ∷ filter p xs) (filter p xs)) ≡ ((b && q x) || list_any (λ x. p x && q x) xs)) [
+      | true ↦ ap (λ b. q x || b) (list_any-filter p q xs)
+      | false ↦ list_any-filter p q xs
+    ]
+
+find-filter : {X : Type 0} (p : X → Bool) (xs : List X) → find p xs ≡ slice_get (filter p xs) 0
+find-filter p [] = refl
+find-filter p (x ∷ xs) =
+    elim (p x) as (λ b. cond b (Some x) (find p xs) ≡ slice_get (cond b (x ∷ filter p xs) (filter p xs)) 0) [ true ↦ refl | false ↦ find-filter p xs ]
+
+-- q is what the rows are under
+module _ (q : Drawn → Bool) (rows : List Row) (list : List Drawn) (under : map element_of rows ≡ filter q list) where
+  pub any-under : (p : Drawn → Bool) → list_any (λ row. p (element_of row)) rows ≡ list_any (λ e. q e && p e) list
+  any-under p = sym (list_any-map element_of p rows) ∙ ap (list_any p) under ∙ list_any-filter q p list
+
+  pub first-under : option_map element_of (slice_get rows 0) ≡ find q list
+  first-under = mapped rows ∙ ap (λ es. slice_get es 0) under ∙ sym (find-filter q list) where
+    mapped : (rows : List Row) → option_map element_of (slice_get rows 0) ≡ slice_get (map element_of rows) 0
+    mapped [] = refl
+    mapped (row ∷ rows) = refl
+
+-- ---- what the code looks up
+first_text-is : (list : List Drawn) (c : Drawn) (id : List ℕ) (rows : List Row) (r : Option (Bor Row))
+    → id ≡ c.id → map element_of rows ≡ filter (names_container id) list → option_copied r ≡ slice_get rows 0
+    → option_map (λ (row : Bor Row). row.now.element.now.id) r ≡ first_text list c
+first_text-is list c id rows r is under first =
+    mapped r ∙ ap (λ o. option_map id_of (option_map element_of o)) first
+    ∙ ap (option_map id_of) (first-under (names_container id) rows list under ∙ ap (λ i. find (names_container i) list) is)
+  where
+    mapped : (r : Option (Bor Row)) → option_map (λ (row : Bor Row). row.now.element.now.id) r ≡ option_map id_of (option_map element_of (option_copied r))
+    mapped None = refl
+    mapped (Some row) = refl
+
+pub first_text-None : (list : List Drawn) (c : Drawn) (id : List ℕ) (rows : List Row) (r : Option (Bor Row))
+    → id ≡ c.id → map element_of rows ≡ filter (names_container id) list → option_copied r ≡ slice_get rows 0 → r ≡ None → first_text list c ≡ None
+first_text-None list c id rows r is under first none =
+    sym (first_text-is list c id rows r is under first) ∙ ap (option_map (λ (row : Bor Row). row.now.element.now.id)) none
+
+pub first_text-Some : (list : List Drawn) (c : Drawn) (id : List ℕ) (rows : List Row) (r : Option (Bor Row)) (row : Bor Row)
+    → id ≡ c.id → map element_of rows ≡ filter (names_container id) list → option_copied r ≡ slice_get rows 0 → r ≡ Some row → first_text list c ≡ Some row.now.element.now.id
+first_text-Some list c id rows r row is under first some =
+    sym (first_text-is list c id rows r is under first) ∙ ap (option_map (λ (row : Bor Row). row.now.element.now.id)) some
+
+pub text_entry-is : (list : List Drawn) (c : Drawn) (id : List ℕ) (entry : BoundRef) → id ≡ c.id → is_for_text entry.role ≡ true
+    → list_any (λ e. has_id entry.id e && names_container id e) list ≡ is_text_entry list c entry
+text_entry-is list c id entry is for_text =
+    ap (λ i. list_any (λ e. has_id entry.id e && names_container i e) list) is
+    ∙ ap (λ b. b && list_any (λ e. has_id entry.id e && names_container c.id e) list) (sym for_text)
+
+pub keeps_container-is : (list : List Drawn) (e : Drawn) (rows : List Row) → IsTable (is_text_of list) list rows
+    → list_any (λ (container : Drawn). names_container container.id e) (elements_under e.id rows) ≡ keeps_container list e
+unfolding keeps_container
+keeps_container-is list e rows table =
+    ap (list_any (λ (container : Drawn). names_container container.id e)) (table.found e.id)
+    ∙ list_any-filter (is_text_of list e.id) (λ container. names_container container.id e) list
+
+-- ---- the text of a container
+pub text_of-none : (list : List Drawn) (c : Drawn) → can_hold_text c.kind ≡ false → None ≡ text_of list c
+unfolding text_of
+text_of-none list c h = sym (cond-false (can_hold_text c.kind) (option_or (listed_text list c) (first_text list c)) None h)
+
+holds : (list : List Drawn) (c : Drawn) → can_hold_text c.kind ≡ true → text_of list c ≡ option_or (listed_text list c) (first_text list c)
+unfolding text_of
+holds list c h = cond-true (can_hold_text c.kind) (option_or (listed_text list c) (first_text list c)) None h
+
+pub text_of-listed : (list : List Drawn) (c : Drawn) (id : List ℕ) → can_hold_text c.kind ≡ true → listed_text list c ≡ Some id → Some id ≡ text_of list c
+text_of-listed list c id h listed = sym (holds list c h ∙ ap (λ o. option_or o (first_text list c)) listed)
+
+pub text_of-first : (list : List Drawn) (c : Drawn) → can_hold_text c.kind ≡ true → listed_text list c ≡ None → first_text list c ≡ text_of list c
+text_of-first list c h listed = sym (holds list c h ∙ ap (λ o. option_or o (first_text list c)) listed)
+
+-- ---- arrows that are bound to an element
+list_any-none : {X : Type 0} (p : X → Bool) (xs : List X) → ((x : X) → p x ≡ false) → list_any p xs ≡ false
+list_any-none p [] h = refl
+list_any-none p (x ∷ xs) h = ap (λ b. b || list_any p xs) (h x) ∙ list_any-none p xs h
+
+pub bound_arrow-is : (list : List Drawn) (e : Drawn) (id arrow : List ℕ) → id ≡ e.id → is_target e ≡ true
+    → list_any (λ a. has_id arrow a && has_end_at id a) list ≡ is_true_as Arrow list e arrow
+bound_arrow-is list e id arrow is target =
+    ap (λ i. list_any (λ a. has_id arrow a && has_end_at i a) list) is
+    ∙ ap (λ b. list_any (λ a. has_id arrow a && (b && has_end_at e.id a)) list) (sym target)
+
+pub bound_arrow-none : (list : List Drawn) (e : Drawn) (arrow : List ℕ) → is_target e ≡ false → false ≡ is_true_as Arrow list e arrow
+bound_arrow-none list e arrow target =
+    sym (list_any-none (λ a. has_id arrow a && is_bound_to e a) list (λ a. ap (λ b. has_id arrow a && (b && has_end_at e.id a)) target ∙ and_false (has_id arrow a)))
+  where
+    and_false : (a : Bool) → (a && false) ≡ false
+    and_false true = refl
+    and_false false = refl
+
+filter-none : {X : Type 0} (xs : List X) → filter (λ _. false) xs ≡ []
+filter-none [] = refl
+filter-none (x ∷ xs) = filter-none xs
+
+pub arrow_entries-none : (list : List Drawn) (e : Drawn) → is_target e ≡ false → arrow_entries list e ≡ []
+arrow_entries-none list e target =
+    ap (λ b. map (λ (arrow : Drawn). arrow_entry arrow.id) (filter (λ a. b && has_end_at e.id a) list)) target
+    ∙ ap (map (λ (arrow : Drawn). arrow_entry arrow.id)) (filter-none list)
+
+pub arrow_entries-some : (list : List Drawn) (e : Drawn) (id : List ℕ) (rows : List Row) → id ≡ e.id → is_target e ≡ true
+    → map element_of rows ≡ filter (has_end_at id) list → map (λ (arrow : Drawn). arrow_entry arrow.id) (map element_of rows) ≡ arrow_entries list e
+arrow_entries-some list e id rows is target under =
+    ap (map (λ (arrow : Drawn). arrow_entry arrow.id)) (under ∙ ap (λ i. filter (has_end_at i) list) is)
+    ∙ ap (λ b. map (λ (arrow : Drawn). arrow_entry arrow.id) (filter (λ a. b && has_end_at e.id a) list)) (sym target)
+
+-- ---- loops that add entries
+pub with_entries-row : (start : List BoundRef) (rows : List Row) (i : ℕ) (row : Row) (id : List ℕ) (entries new : List BoundRef) → i < length rows → row ≡ get_or rows i row
+    → id ≡ row.element.now.id → entries ≡ with_entries start (map (λ (e : Drawn). arrow_entry e.id) (map element_of (take i rows))) → new ≡ with_entry entries (arrow_entry id)
+    → new ≡ with_entries start (map (λ (e : Drawn). arrow_entry e.id) (map element_of (take (i + 1) rows)))
+with_entries-row start rows i row id entries new l is same so_far added =
+    let more : take (i + 1) rows ≡ take i rows ++ row ∷ [] = take_more rows i row l ∙ ap (λ r. take i rows ++ r ∷ []) (sym is) in
+    added ∙ ap₂ with_entry so_far (ap arrow_entry same)
+    ∙ sym (with_entries-push start (map (λ (e : Drawn). arrow_entry e.id) (map element_of (take i rows))) (arrow_entry row.element.now.id))
+    ∙ ap (with_entries start) (sym (ap (λ rs. map (λ (e : Drawn). arrow_entry e.id) (map element_of rs)) more
+      ∙ ap (map (λ (e : Drawn). arrow_entry e.id)) (map-append element_of (take i rows) (row ∷ []))
+      ∙ map-append (λ (e : Drawn). arrow_entry e.id) (map element_of (take i rows)) (element_of row ∷ [])))
+
+module _ (p : BoundRef → Bool) (xs : List BoundRef) (i : ℕ) (x : BoundRef) (entries new : List BoundRef) (l : i < length xs) (is : x ≡ get_or xs i x)
+    (so_far : entries ≡ first_occurrences (filter p (take i xs))) where
+  kept_more : filter p (take (i + 1) xs) ≡ filter p (take i xs) ++ cond (p x) (x ∷ []) []
+  kept_more = filter_more p xs i x l ∙ ap (λ (y : BoundRef). filter p (take i xs) ++ cond (p y) (y ∷ []) []) (sym is)
+
+  pub first_occurrences-kept : p x ≡ true → new ≡ with_entry entries x → new ≡ first_occurrences (filter p (take (i + 1) xs))
+  first_occurrences-kept h added =
+      added ∙ ap (λ ys. with_entry ys x) so_far ∙ sym (first_occurrences-push (filter p (take i xs)) x)
+      ∙ ap first_occurrences (sym (kept_more ∙ ap (λ b. filter p (take i xs) ++ cond b (x ∷ []) []) h))
+
+  pub first_occurrences-left : p x ≡ false → entries ≡ first_occurrences (filter p (take (i + 1) xs))
+  first_occurrences-left h =
+      so_far ∙ ap first_occurrences (sym (kept_more ∙ ap (λ b. filter p (take i xs) ++ cond b (x ∷ []) []) h ∙ append-nil (filter p (take i xs))))
+
+pub listing-made : (list : List Drawn) (e : Drawn) (own entries : List BoundRef) → own ≡ first_occurrences (filter (is_true_entry list e) e.bound)
+    → entries ≡ with_entries own (arrow_entries list e) → with_entries entries (text_entries (text_of list e)) ≡ listing list e
+unfolding listing
+listing-made list e own entries is made =
+    let true' = filter (is_true_entry list e) e.bound in
+    ap (λ es. with_entries es (text_entries (text_of list e))) (made ∙ ap (λ es. with_entries es (arrow_entries list e)) is ∙ with_entries-first true' (arrow_entries list e))
+    ∙ with_entries-first (true' ++ arrow_entries list e) (text_entries (text_of list e))
+    ∙ ap first_occurrences (append_assoc true' (arrow_entries list e) (text_entries (text_of list e)))
+
+-- ---- each element with what was found of it
+pub zip-map : {X Y Z : Type 0} (f : X → Y) (g : X → Y → Z) (xs : List X) → map (λ (p : X × Y). g p.0 p.1) (zip xs (map f xs)) ≡ map (λ x. g x (f x)) xs
+zip-map f g [] = refl
+zip-map f g (x ∷ xs) = ap (λ zs. g x (f x) ∷ zs) (zip-map f g xs)
+
+-- ---- ids that were seen
+or-is : (b d : Bool) → cond b true d ≡ (b || d)
+or-is true d = refl
+or-is false d = refl
+
+pub seen-more : (id other : List ℕ) (seen : Bool) → cond (is_eq (slice_cmp nat_cmp id other)) true seen ≡ (bytes_eq other id || seen)
+seen-more id other seen = ap (λ b. cond b true seen) (sym (bytes_eq-cmp other id)) ∙ or-is (bytes_eq other id) seen

@@ -1,0 +1,9 @@
+use Rattle.std.proofs.Common.{◌∙◌}
+use Rattle.links.specs.Tables.{has_seen}
+use Rattle.links.proofs.Tabled.{seen-more}
+use Rattle.links.proofs.listing.see.Goals as goal
+
+pub returns-clause-seen : goal.returns-clause-seen
+returns-clause-seen c = λ other.
+    c.in_ok-insert.ensures.updates.0 (record { ref_ptr = (0, 0); now = other })
+    ∙ seen-more c.args.id.now other (has_seen c.args.seen.now other)

@@ -1,0 +1,13 @@
+use Rattle.std.proofs.Common.{rules}
+use Rattle.std.proofs.lemmas.List.Sorted.{answers_always}
+use Rattle.links.specs.Tables.{row_less}
+use Rattle.links.proofs.Sorting.{row_less-order, kept-under}
+use Rattle.links.proofs.table.sorted.Goals as goal
+
+pub returns-clause-ordered : goal.returns-clause-ordered
+returns-clause-ordered c =
+    c.in_ok-sort_by.ensures.sorted row_less row_less-order (answers_always _ _ _ (λ f a r g k. search rules))
+
+pub returns-clause-kept : goal.returns-clause-kept
+returns-clause-kept c =
+    kept-under _ _ (c.in_ok-sort_by.ensures.stable row_less row_less-order (answers_always _ _ _ (λ f a r g k. search rules)))

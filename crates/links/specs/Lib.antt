@@ -1,0 +1,6 @@
+pub mod Arrows
+pub mod Entries
+pub mod Names
+pub mod Settled
+pub mod Tables
+pub mod Texts

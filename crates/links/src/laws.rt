@@ -1,0 +1,35 @@
+//! Laws on settled links, for all lists of elements. They do nothing when they run.
+
+ghost use Rattle.std.specs.Prelude.{◌≡◌, List, map};
+ghost use Rattle.elem.specs.Drawn.{Drawn};
+ghost use Rattle.links.specs.Arrows.{settled_arrows};
+ghost use Rattle.links.specs.Names.{HaveDistinctIds};
+ghost use Rattle.links.specs.Settled.{unlinked, unplaced, settled_links, ArrowsAgree, TextsAgree, HaveOneText, NameTargets};
+ghost use Rattle.links.specs.Texts.{settled_texts};
+
+/// After texts and then arrows are settled, an arrow names an element exactly if that element lists it, a text names a
+/// container exactly if the container lists it, an element lists one text at most, and each binding names a bindable
+/// target of the list.
+pub fn settled_links_agree()
+    ensures arrows { (list : List Drawn) → HaveDistinctIds list → ArrowsAgree (settled_links list) }
+    ensures texts { (list : List Drawn) → HaveDistinctIds list → TextsAgree (settled_links list) }
+    ensures one_text { (list : List Drawn) → HaveOneText (settled_links list) }
+    ensures targets { (list : List Drawn) → NameTargets (settled_links list) }
+{}
+
+/// Elements that are settled and settled again stay as they are.
+pub fn settled_links_stay()
+    ensures texts { (list : List Drawn) → HaveDistinctIds list → settled_texts (settled_links list) ≡ settled_links list }
+    ensures arrows { (list : List Drawn) → settled_arrows (settled_links list) ≡ settled_links list }
+    ensures both { (list : List Drawn) → HaveDistinctIds list → settled_links (settled_links list) ≡ settled_links list }
+{}
+
+/// Settling changes listings, containers and bindings alone: order, ids, kinds, keys, stamps and all other parts stay.
+pub fn other_parts_stay()
+    ensures { (list : List Drawn) → map unlinked (settled_links list) ≡ map unlinked list }
+{}
+
+/// Settling looks at no key and no stamp: with others in their place it leaves the same.
+pub fn keys_and_stamps_play_no_part()
+    ensures { (list : List Drawn) → settled_links (map unplaced list) ≡ map unplaced (settled_links list) }
+{}
