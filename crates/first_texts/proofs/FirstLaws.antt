@@ -45,7 +45,7 @@ AllByRecursion-weaker : {P Q : List ℕ → Type 0} (xs : List (List ℕ)) → (
 AllByRecursion-weaker [] f h = tt
 AllByRecursion-weaker (x ∷ xs) f h = (f x h.0, AllByRecursion-weaker xs f h.1)
 
-IsDistinct-filter : (p : List ℕ → Bool) (xs : List (List ℕ)) → IsDistinct bytes_eq xs → IsDistinct bytes_eq (filter p xs)
+pub IsDistinct-filter : (p : List ℕ → Bool) (xs : List (List ℕ)) → IsDistinct bytes_eq xs → IsDistinct bytes_eq (filter p xs)
 unfolding IsDistinct
 IsDistinct-filter p [] h = tt
 IsDistinct-filter p (x ∷ xs) h =

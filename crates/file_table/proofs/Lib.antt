@@ -1,0 +1,6 @@
+pub mod Lesser
+pub mod Least
+pub mod Urls
+pub mod Tables
+pub mod Referred
+pub mod Pictures

@@ -1,0 +1,66 @@
+-- The files that elements name.
+use Rattle.std.proofs.Common.{◌≡◌, ℕ, Bool, true, false, cond, List, [], ◌∷◌, ◌++◌, Option, Some, None, IfSome, is_some, map, filter, bytes_eq, refl, sym, ap, ◌∙◌, subst}
+use Rattle.std.specs.List.{AllByRecursion, IsDistinct, filter_map, cons_option}
+use Rattle.std.specs.Option.{option_map}
+use Rattle.std.proofs.lemmas.List.{append-nil}
+use Rattle.std.proofs.lemmas.List.Elements.{filter_map-append}
+use Rattle.scene_json.specs.Compact.{Member as Pair}
+use Rattle.scene_json.specs.Named.{value_at}
+use Rattle.scene_json.specs.Parts.{names_of}
+use Rattle.scene_json.specs.Value.{IsCompact}
+use Rattle.first_texts.proofs.FirstLaws.{IsDistinct-filter}
+use Rattle.elem.specs.Drawn.{Drawn}
+use Rattle.file_table.specs.References.{references, file_of}
+use Rattle.file_table.specs.Table.{EntriesNest}
+
+-- ---- one element more
+pub references-some : (elements : List Drawn) (e : Drawn) (id : List ℕ) → e.file ≡ Some id → references (elements ++ e ∷ []) ≡ references elements ++ id ∷ []
+references-some elements e id h =
+    filter_map-append (λ (d : Drawn). d.file) elements (e ∷ []) ∙ ap (λ o. references elements ++ cons_option o []) h
+
+pub references-none : (elements : List Drawn) (e : Drawn) → e.file ≡ None → references (elements ++ e ∷ []) ≡ references elements
+references-none elements e h =
+    filter_map-append (λ (d : Drawn). d.file) elements (e ∷ []) ∙ ap (λ o. references elements ++ cons_option o []) h ∙ append-nil (references elements)
+
+-- ---- one id more
+abbrev pub found : List Pair → List (List ℕ) → List Pair
+found files ids = filter_map (file_of files) ids
+
+pub found-some : (files : List Pair) (ids : List (List ℕ)) (id entry : List ℕ) → value_at id files ≡ Some entry → found files (ids ++ id ∷ []) ≡ found files ids ++ (id, entry) ∷ []
+found-some files ids id entry h =
+    filter_map-append (file_of files) ids (id ∷ []) ∙ ap (λ o. found files ids ++ cons_option (option_map (λ e. (id, e)) o) []) h
+
+pub found-none : (files : List Pair) (ids : List (List ℕ)) (id : List ℕ) → value_at id files ≡ None → found files (ids ++ id ∷ []) ≡ found files ids
+found-none files ids id h =
+    filter_map-append (file_of files) ids (id ∷ []) ∙ ap (λ o. found files ids ++ cons_option (option_map (λ e. (id, e)) o) []) h ∙ append-nil (found files ids)
+
+-- ---- their ids are distinct, and their entries nest as those of the table
+names-found : (files : List Pair) (ids : List (List ℕ)) → names_of (found files ids) ≡ filter (λ id. is_some (value_at id files)) ids
+names-found files [] = refl
+names-found files (id ∷ ids) =
+    elim (value_at id files) as (λ o. names_of (cons_option (option_map (λ e. (id, e)) o) (found files ids))
+    ≡ cond (is_some o) (id ∷ filter (λ i. is_some (value_at i files)) ids) (filter (λ i. is_some (value_at i files)) ids)) [
+      | None ↦ names-found files ids
+      | Some e ↦ ap (λ x. id ∷ x) (names-found files ids)
+    ]
+
+pub IsDistinct-found : (files : List Pair) (ids : List (List ℕ)) → IsDistinct bytes_eq ids → IsDistinct bytes_eq (names_of (found files ids))
+IsDistinct-found files ids h =
+    subst (IsDistinct bytes_eq) (sym (names-found files ids)) (IsDistinct-filter (λ id. is_some (value_at id files)) ids h)
+
+entry_nests : (limit : ℕ) (files : List Pair) (id : List ℕ) → EntriesNest limit files → IfSome (value_at id files) (IsCompact limit)
+entry_nests limit [] id nest = tt
+entry_nests limit (file ∷ files) id nest =
+    elim (bytes_eq id file.0) as (λ b. IfSome (cond b (Some file.1) (value_at id files)) (IsCompact limit)) [
+      | true ↦ nest.0
+      | false ↦ entry_nests limit files id nest.1
+    ]
+
+pub EntriesNest-found : (limit : ℕ) (files : List Pair) (ids : List (List ℕ)) → EntriesNest limit files → EntriesNest limit (found files ids)
+EntriesNest-found limit files [] nest = tt
+EntriesNest-found limit files (id ∷ ids) nest =
+    go (value_at id files) (entry_nests limit files id nest) (EntriesNest-found limit files ids nest)
+  where
+    go : (o : Option (List ℕ)) → IfSome o (IsCompact limit) → EntriesNest limit (found files ids) → EntriesNest limit (cons_option (option_map (λ e. (id, e)) o) (found files ids))
+    go None h rest = rest
+    go (Some entry) h rest = (h, rest)
