@@ -14,7 +14,7 @@ use Rattle.links.proofs.Members.{map-map}
 use Rattle.links.proofs.SettledLaws.{distinct-texts, links-again, unlinked-links}
 use Rattle.links.proofs.TextLaws.{settled_texts-again}
 use Rattle.links.proofs.UnplacedLaws.{links-unplaced}
-use Rattle.view.specs.Settled.{settled, unsettled}
+use Rattle.view.specs.Settled.{settled, unsettled, AreSettled}
 
 -- what is the same of two lists is the same of them when less of it is looked at
 module _ {A B : Type 0} (keep : Drawn → A) (less : A → B) where
@@ -82,14 +82,6 @@ distinct-settled elements apart =
     subst (IsDistinct bytes_eq) (sym (map-less unsettled id_of (settled elements) elements (unsettled-settled elements))) apart
 
 -- ---- what holds of the settled elements
-pub record AreSettled (elements : List Drawn) : Type 0 where
-  pub arrows : ArrowsAgree elements
-  pub texts : TextsAgree elements
-  pub one_text : HaveOneText elements
-  pub targets : NameTargets elements
-  pub frames : NameFrames elements
-  pub groups : HaveDistinctGroups elements
-
 frames-settled : (elements : List Drawn) → NameFrames (settled elements) × HaveDistinctGroups (settled elements)
 unfolding settled
 frames-settled elements =
