@@ -46,7 +46,7 @@ ends-Follows v [] h = tt
 ends-Follows v (b ∷ bs) h = λ number. no-number b h
 
 value-Stands : (v rest : List ℕ) → IsCompact 127 v → IsEnd rest → Stands (v ++ rest) v rest
-value-Stands v rest is ends = record { blank = []; value = v; parts = refl; space = refl; is = Value-deeper (lit≤ tt) is; ends = ends-Follows v rest ends }
+value-Stands v rest is ends = record { blank = []; value = v; parts = refl; space = refl; reads = Value-deeper (lit≤ tt) is; ends = ends-Follows v rest ends }
 
 value-front : (v w r t : List ℕ) → IsCompact 127 v → IsCompact 127 w → IsEnd r → IsEnd t → v ++ r ≡ w ++ t → (v ≡ w) × (r ≡ t)
 value-front v w r t one two left right e =

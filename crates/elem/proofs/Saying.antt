@@ -141,7 +141,7 @@ all-ascii [] h i = omega arith
 all-ascii (b ∷ bs) h zero = below-limit b (and_parts (nat_lt b 128) (list_all (λ x. nat_lt x 128) bs) h).0
 all-ascii (b ∷ bs) h (suc i) = all-ascii bs (and_parts (nat_lt b 128) (list_all (λ x. nat_lt x 128) bs) h).1 i
 
-literal : (text : List ℕ) → list_all (λ b. nat_lt b 128) text ≡ true → IsUtf8 text
+pub literal : (text : List ℕ) → list_all (λ b. nat_lt b 128) text ≡ true → IsUtf8 text
 literal text h = IsUtf8-from_ascii text (all-ascii text h)
 
 null-compact : (limit : ℕ) → IsCompact limit null_word
@@ -359,11 +359,15 @@ none-unless None P is apart = refl
 none-unless (Some x) P is apart = absurd (apart x is)
 
 -- the kind of a name that it is told by
-named-is : (name : List ℕ) (kind known : Kind) → IsKind kind → IsKind known → kind_name known ≡ name → is_named name kind ≡ true → kind ≡ known
+pub named-is : (name : List ℕ) (kind known : Kind) → IsKind kind → IsKind known → kind_name known ≡ name → is_named name kind ≡ true → kind ≡ known
 named-is name kind known is are e h = kind_of_name-once kind known is are (sym (bytes_eq-true name (kind_name kind) h) ∙ sym e)
 
 unnamed-not : (name : List ℕ) (kind known : Kind) → is_named name known ≡ true → is_named name kind ≡ false → kind ≡ known → ⊥
 unnamed-not name kind known held apart e = both_ways (is_named name kind) apart (ap (is_named name) e ∙ held)
+
+pub element-found : (e : Drawn) → IsElement e → (name value : List ℕ) → value_at name (header_members e ++ pairs e.rest) ≡ Some value → value_at name (element_members e) ≡ Some value
+unfolding element_members
+element-found e is = found-sorted (header_members e ++ pairs e.rest) (IsDistinct-element e is)
 
 pub element-says : (e : Drawn) → IsElement e → IsWritten e → Says (find_in (element_members e)) e
 unfolding element_members

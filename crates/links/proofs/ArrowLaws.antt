@@ -41,7 +41,7 @@ module _ (list : List Drawn) (e : Drawn) where
   arrows-true : (x : BoundRef) → lists (arrow_entries list e) x ≡ true → is_true_entry list e x ≡ true
   arrows-true x h =
       let any = sym (list_any-map (λ (arrow : Drawn). arrow_entry arrow.id) (same_entry x) (filter (is_bound_to e) list)
-        ∙ list_any-filter (is_bound_to e) (λ (arrow : Drawn). same_entry x (arrow_entry arrow.id)) list) ∙ h in
+      ∙ list_any-filter (is_bound_to e) (λ (arrow : Drawn). same_entry x (arrow_entry arrow.id)) list) ∙ h in
       let found = list_any-found (λ (a : Drawn). is_bound_to e a && same_entry x (arrow_entry a.id)) list any in
       let parts = and_parts (is_bound_to e found.0) (same_entry x (arrow_entry found.0.id)) found.2 in
       ap (is_true_entry list e) (same_entry-true x (arrow_entry found.0.id) parts.1)
@@ -72,9 +72,9 @@ module _ (list : List Drawn) (e : Drawn) where
   listed-arrow a there bound =
       let x = arrow_entry a.id in
       let any : lists (arrow_entries list e) x ≡ true =
-          list_any-map (λ (arrow : Drawn). arrow_entry arrow.id) (same_entry x) (filter (is_bound_to e) list)
-          ∙ list_any-filter (is_bound_to e) (λ (arrow : Drawn). same_entry x (arrow_entry arrow.id)) list
-          ∙ list_any-from (λ (b : Drawn). is_bound_to e b && same_entry x (arrow_entry b.id)) list a there (and_from (is_bound_to e a) (same_entry x x) bound (same_entry-refl x)) in
+      list_any-map (λ (arrow : Drawn). arrow_entry arrow.id) (same_entry x) (filter (is_bound_to e) list)
+      ∙ list_any-filter (is_bound_to e) (λ (arrow : Drawn). same_entry x (arrow_entry arrow.id)) list
+      ∙ list_any-from (λ (b : Drawn). is_bound_to e b && same_entry x (arrow_entry b.id)) list a there (and_from (is_bound_to e a) (same_entry x x) bound (same_entry-refl x)) in
       lists-listing x ∙ or_right _ _ (or_left _ _ any)
 
   pub listed-text : (id : List ℕ) → text_of list e ≡ Some id → lists (listing list e) (text_entry id) ≡ true
@@ -120,7 +120,7 @@ module _ (list : List Drawn) where
         | inl t ↦
             let same = (bytes_eq-Decides e.id binding.target).0 t in
             ap (end_names e.id) (cond-true (names_target list (Some binding.target)) (Some binding) None
-              (list_any-from (λ x. has_id binding.target x && is_target x) list e there (and_from (has_id binding.target e) (is_target e) ((bytes_eq-Decides binding.target e.id).1 (sym same)) target)))
+            (list_any-from (λ x. has_id binding.target x && is_target x) list e there (and_from (has_id binding.target e) (is_target e) ((bytes_eq-Decides binding.target e.id).1 (sym same)) target)))
         | inr f ↦ either (names_target list (Some binding.target)) f
       ]
     where
@@ -180,6 +180,7 @@ module _ (list : List Drawn) where
       fails : (b : Bool) → (b ≡ true → ⊥) → b ≡ false
       fails true h = absurd (h refl)
       fails false h = refl
+
       second : (a b : Option (List ℕ)) → option_or a b ≡ None → b ≡ None
       second None b h = h
       second (Some a) b h = cc
@@ -232,8 +233,8 @@ module _ (list : List Drawn) where
       let entries = arrow_entries list e ++ text_entries (text_of list e) in
       let true' = filter (is_true_entry list e) e.bound in
       let kept : filter (is_true_entry (settled_arrows list) (with_settled_links list e)) (listing list e) ≡ listing list e =
-          filter_agree (is_true_entry (settled_arrows list) (with_settled_links list e)) (is_true_entry list e) (λ x. true-settled e x x.role refl there) (listing list e)
-          ∙ filter-listed (is_true_entry list e) (listing list e) (listed-true list e) in
+      filter_agree (is_true_entry (settled_arrows list) (with_settled_links list e)) (is_true_entry list e) (λ x. true-settled e x x.role refl there) (listing list e)
+      ∙ filter-listed (is_true_entry list e) (listing list e) (listed-true list e) in
       ap₂ (λ xs ys. first_occurrences (xs ++ ys)) kept
       (ap₂ (λ xs o. xs ++ text_entries o) (arrows-settled e there) (text_of-linked e))
       ∙ first_occurrences-again (true' ++ entries) entries (suffix-listed true' entries)
@@ -245,7 +246,7 @@ module _ (list : List Drawn) where
       (λ e there. λ i. record e {
         start_binding = end-again e.start_binding i;
         end_binding = end-again e.end_binding i;
-        bound = listing-again e there i
+        bound = listing-again e there i;
       })
 
   -- ---- each binding names a target
@@ -266,9 +267,9 @@ module _ (list : List Drawn) where
   same_ones [] h = omega arith
   same_ones (x ∷ xs) h =
       let none : filter (λ y. not (same_entry x y)) (first_occurrences xs) ≡ [] = nothing (λ y. not (same_entry x y)) (first_occurrences xs)
-          (λ y l. let here = or_left (same_entry x x) (lists xs x) (same_entry-refl x) in
-          let later = or_right (same_entry y x) (lists xs y) (sym (list_any-first_occurrences (same_entry y) xs) ∙ l) in
-          ap not (ap (same_entry x) (sym (h x y here later)) ∙ same_entry-refl x)) in
+      (λ y l. let here = or_left (same_entry x x) (lists xs x) (same_entry-refl x) in
+      let later = or_right (same_entry y x) (lists xs y) (sym (list_any-first_occurrences (same_entry y) xs) ∙ l) in
+      ap not (ap (same_entry x) (sym (h x y here later)) ∙ same_entry-refl x)) in
       subst (λ ys. length (x ∷ ys) ≤ 1) (sym none) (omega arith)
     where
       nothing : (p : BoundRef → Bool) (ys : List BoundRef) → ((y : BoundRef) → lists ys y ≡ true → p y ≡ false) → filter p ys ≡ []
@@ -294,9 +295,11 @@ module _ (list : List Drawn) where
       passed : (zs : List BoundRef) (x : BoundRef) → lists (filter (λ (x : BoundRef). is_for_text x.role) zs) x ≡ true → (lists (first_occurrences zs) x ≡ true) × (is_for_text x.role ≡ true)
       passed zs x l =
           let found = list_any-found (λ z. is_for_text z.role && same_entry x z) zs (sym (list_any-filter (λ (x : BoundRef). is_for_text x.role) (same_entry x) zs) ∙ l) in
-          let parts = and_parts (is_for_text found.0.role) (same_entry x found.0) found.2 in
-          (list_any-first_occurrences (same_entry x) zs ∙ list_any-from (same_entry x) zs found.0 found.1 parts.1,
-          ap (λ (z : BoundRef). is_for_text z.role) (same_entry-true x found.0 parts.1) ∙ parts.0)
+          let parts = and_parts (is_for_text found.0.role) (same_entry x found.0) found.2 in (
+            list_any-first_occurrences (same_entry x) zs ∙ list_any-from (same_entry x) zs found.0 found.1 parts.1,
+            ap (λ (z : BoundRef). is_for_text z.role) (same_entry-true x found.0 parts.1) ∙ parts.0,
+          )
+
       text_is : (e : Drawn) (x : BoundRef) → (lists (listing list e) x ≡ true) × (is_for_text x.role ≡ true) → (text_of list e ≡ Some x.id) × (x.role ≡ Text)
       text_is e x l =
           let role = text_role x.role l.1 in

@@ -115,6 +115,7 @@ list_any-others p x (y ∷ ys) =
     absorb true b d e = refl
     absorb false true d e = cc
     absorb false false d e = refl
+
     swap' : (a b d : Bool) → (a || (b || d)) ≡ (b || (a || d))
     swap' true true d = refl
     swap' true false d = refl
@@ -154,7 +155,7 @@ first_occurrences-push (y ∷ xs) x =
           let apart : is_other y x ≡ true = not_from_false _ (false_from_ne_true (same_entry y x) (λ h. both_ways (same_entry x y) f (same_entry-sym y x h))) in
           let here : lists (y ∷ filter (is_other y) (first_occurrences xs)) x ≡ lists (first_occurrences xs) x = ap (λ b. b || lists (filter (is_other y) (first_occurrences xs)) x) f ∙ lists-others x y (first_occurrences xs) f in
           (elim (lists (first_occurrences xs) x) as (λ b. y ∷ filter (is_other y) (cond b (first_occurrences xs) (first_occurrences xs ++ x ∷ []))
-            ≡ cond b (y ∷ filter (is_other y) (first_occurrences xs)) (y ∷ filter (is_other y) (first_occurrences xs) ++ x ∷ [])) [
+          ≡ cond b (y ∷ filter (is_other y) (first_occurrences xs)) (y ∷ filter (is_other y) (first_occurrences xs) ++ x ∷ [])) [
             | true ↦ refl
             | false ↦ ap (λ ys. y ∷ ys) (filter-one (is_other y) x (first_occurrences xs) true apart)
           ])

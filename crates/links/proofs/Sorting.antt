@@ -129,8 +129,21 @@ module _ (rows : List Row) (key : List ℕ) (a b : ℕ)
 -- ---- rows of one id keep their order
 blank : Drawn
 blank = record {
-  id = []; kind = Rectangle; version = 0; nonce = 0; updated = 0; deleted = false; index = None; groups = []; frame = None;
-  bound = []; container = None; start_binding = None; end_binding = None; file = None; rest = []
+  id = [];
+  kind = Rectangle;
+  version = 0;
+  nonce = 0;
+  updated = 0;
+  deleted = false;
+  index = None;
+  groups = [];
+  frame = None;
+  bound = [];
+  container = None;
+  start_binding = None;
+  end_binding = None;
+  file = None;
+  rest = [];
 }
 
 row_at : List ℕ → Row

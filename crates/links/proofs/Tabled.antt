@@ -218,8 +218,8 @@ with_entries-row start rows i row id entries new l is same so_far added =
     added ∙ ap₂ with_entry so_far (ap arrow_entry same)
     ∙ sym (with_entries-push start (map (λ (e : Drawn). arrow_entry e.id) (map element_of (take i rows))) (arrow_entry row.element.now.id))
     ∙ ap (with_entries start) (sym (ap (λ rs. map (λ (e : Drawn). arrow_entry e.id) (map element_of rs)) more
-      ∙ ap (map (λ (e : Drawn). arrow_entry e.id)) (map-append element_of (take i rows) (row ∷ []))
-      ∙ map-append (λ (e : Drawn). arrow_entry e.id) (map element_of (take i rows)) (element_of row ∷ [])))
+    ∙ ap (map (λ (e : Drawn). arrow_entry e.id)) (map-append element_of (take i rows) (row ∷ []))
+    ∙ map-append (λ (e : Drawn). arrow_entry e.id) (map element_of (take i rows)) (element_of row ∷ [])))
 
 module _ (p : BoundRef → Bool) (xs : List BoundRef) (i : ℕ) (x : BoundRef) (entries new : List BoundRef) (l : i < length xs) (is : x ≡ get_or xs i x)
     (so_far : entries ≡ first_occurrences (filter p (take i xs))) where

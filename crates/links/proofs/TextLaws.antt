@@ -70,6 +70,7 @@ module _ (list : List Drawn) (distinct : HaveDistinctIds list) where
       and_true : (a : Bool) → (a && true) ≡ a
       and_true true = refl
       and_true false = refl
+
       and_false : (a : Bool) → (a && false) ≡ false
       and_false true = refl
       and_false false = refl

@@ -71,7 +71,7 @@ module _ (list : List Drawn) where
       (λ e _. λ i. record (unplaced e) {
         start_binding = cond (target-unplaced (target_of e.start_binding) i) e.start_binding None;
         end_binding = cond (target-unplaced (target_of e.end_binding) i) e.end_binding None;
-        bound = listing-unplaced e i
+        bound = listing-unplaced e i;
       })
       ∙ sym (map-map unplaced (with_settled_links list) list)
 

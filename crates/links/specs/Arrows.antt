@@ -50,7 +50,7 @@ abbrev pub with_settled_links : List Drawn → Drawn → Drawn
 with_settled_links list e = record e {
   start_binding = settled_end list e.start_binding;
   end_binding = settled_end list e.end_binding;
-  bound = listing list e
+  bound = listing list e;
 }
 
 -- each element with its links settled

@@ -66,7 +66,7 @@ abbrev pub links_of : List Drawn → Drawn → Links
 links_of list e = record {
   keeps_start = names_target list (target_of e.start_binding);
   keeps_end = names_target list (target_of e.end_binding);
-  bound = listing list e
+  bound = listing list e;
 }
 
 -- the element with its container or without, and with these links
@@ -77,5 +77,5 @@ abbrev pub with_links : Drawn → Links → Drawn
 with_links e links = record e {
   start_binding = if links.keeps_start then e.start_binding else None;
   end_binding = if links.keeps_end then e.end_binding else None;
-  bound = links.bound
+  bound = links.bound;
 }

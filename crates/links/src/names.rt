@@ -125,7 +125,10 @@ fn add_ends<'a>(rows: &mut Vec<Row<'a>>, element: &'a Element) -> Result<(), All
     }
     match ends_of(element) {
         (Some(start), Some(end)) => {
-            rows.push(Row { key: start, element })?;
+            rows.push(Row {
+                key: start,
+                element,
+            })?;
             if start != end {
                 rows.push(Row { key: end, element })?;
             }

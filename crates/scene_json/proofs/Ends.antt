@@ -151,7 +151,7 @@ module _ (bytes : List ℕ) (n : ℕ) (m : Mode) (st : List Bracket) (is : run 1
             value = s.value;
             parts = append_cancel_right bytes (s.blank ++ s.value) (32 ∷ []) (s.parts ∙ sym (append_assoc s.blank s.value (32 ∷ []))) ∙ ap (λ x. s.blank ++ x) (sym (append-nil s.value));
             space = s.space;
-            is = s.is;
+            reads = s.reads;
             ends = tt;
           },
         )

@@ -3,14 +3,16 @@ use Rattle.std.proofs.Common.{◌≡◌, ◌≢◌, ◌<◌, ◌≤◌, ℕ, suc
 use Rattle.std.proofs.lemmas.Bool.{cases_Bool, and_parts, and_from, eqb-false, both_ways}
 use Rattle.std.proofs.lemmas.Bool.Decides.{nat_tests}
 use Rattle.std.proofs.lemmas.Str.{encode_ascii}
+use Rattle.std.proofs.lemmas.List.Concat.{flat_map-append}
+use Rattle.std.proofs.Math.Seq.{take-append-add}
 use Rattle.std.specs.Char.{IsScalar, encode_utf8}
 use lib.Utf8.{low_scalar}
 use Rattle.std.specs.List.{AllByRecursion, list_all, prefix_len}
-use Rattle.scene_json.specs.Characters.{is_hex, is_plain}
+use Rattle.scene_json.specs.Characters.{is_hex, is_plain, quoted_byte}
 use Rattle.scene_json.specs.Tree.{Piece, bare, letter, unit, IsPiece, letter_meaning, piece_spelling}
 use Rattle.scene_json.specs.Compact.{piece_value, is_high, is_low, paired, lone, characters, content}
 use Rattle.scene_json.specs.Walk.{Unread, Takes, StartsWithUnit}
-use Rattle.scene_json.proofs.Strings.{first_code, heads-differ, lone-same, paired-scalar, plain-bare}
+use Rattle.scene_json.proofs.Strings.{first_code, heads-differ, lone-same, paired-scalar, plain-bare, quoted-bare}
 
 -- one character that is no high surrogate stands alone
 characters-first : (u : ℕ) (us : List ℕ) → is_high u ≡ false → characters (u ∷ us) ≡ lone u ∷ characters us
@@ -105,7 +107,7 @@ letter-takes xs b old new first second other e text after u =
 low-unit : (p : Piece) → IsPiece p → is_low (piece_value p) ≡ true → (rest : List ℕ) → StartsWithUnit (piece_spelling p ++ rest) (piece_value p)
 low-unit (bare c) good h rest = absurd (both_ways (is_low c) (scalar-not-low c good.0) h)
 low-unit (letter b) good h rest = absurd (both_ways (is_low (letter_meaning b)) (scalar-not-low (letter_meaning b) (meaning-scalar b)) h)
-low-unit (unit a b c d) good h rest = record { a = a; b = b; c = c; d = d; tail = rest; parts = refl; is = refl }
+low-unit (unit a b c d) good h rest = record { a = a; b = b; c = c; d = d; tail = rest; parts = refl; spells = refl }
 
 alone : (u : ℕ) (ps : List Piece) (after : List ℕ) → AllByRecursion IsPiece ps →
     ((second : ℕ) → is_high u ≡ true → is_low second ≡ true → StartsWithUnit (flat_map piece_spelling ps ++ 34 ∷ after) second → ⊥) →
@@ -167,7 +169,7 @@ first-unit (unit a b c d ∷ ps) after value good s = record {
   others = ps;
   same = refl;
   good = good.1;
-  is = value-places (flat_map piece_spelling (unit a b c d ∷ ps) ++ 34 ∷ after) s.a s.b s.c s.d s.tail s.parts ∙ s.is;
+  is = value-places (flat_map piece_spelling (unit a b c d ∷ ps) ++ 34 ∷ after) s.a s.b s.c s.d s.tail s.parts ∙ s.spells;
 }
 
 pub pair-takes : (xs : List ℕ) (first second : ℕ) (old new : List ℕ) → get_or xs 0 0 ≡ 92 → get_or xs 1 0 ≡ 117 →
@@ -224,6 +226,26 @@ run-pieces (bare c ∷ ps) after good =
 pub unread-Run : {xs text after : List ℕ} → Unread xs text after → Run xs text after (prefix_len is_plain xs)
 unread-Run {xs} {text} {after} u = rw (u.parts, (sym u.means)) (run-pieces u.pieces after u.good)
 
+-- that run is its own quote
+quoted-pieces : (ps : List Piece) (after : List ℕ) → AllByRecursion IsPiece ps → (xs : List ℕ) → xs ≡ flat_map piece_spelling ps ++ 34 ∷ after →
+    flat_map quoted_byte (take (prefix_len is_plain xs) xs) ≡ take (prefix_len is_plain xs) xs
+quoted-pieces [] after good xs e = rw e refl
+quoted-pieces (letter b ∷ ps) after good xs e = rw e refl
+quoted-pieces (unit a b c d ∷ ps) after good xs e = rw e refl
+quoted-pieces (bare c ∷ ps) after good xs e =
+    let bytes = encode_utf8 c in
+    let ys = flat_map piece_spelling ps ++ 34 ∷ after in
+    let n = prefix_len is_plain ys in
+    let same : xs ≡ bytes ++ ys = e ∙ append_assoc bytes (flat_map piece_spelling ps) (34 ∷ after) in
+    let count : prefix_len is_plain (bytes ++ ys) ≡ length bytes + n = prefix-run is_plain bytes ys (plain-bare c good.0.2 good.0.3) in
+    let front : take (prefix_len is_plain xs) xs ≡ bytes ++ take n ys =
+    rw same (ap (λ k. take k (bytes ++ ys)) count ∙ take-append-add bytes ys n) in
+    ap (flat_map quoted_byte) front ∙ flat_map-append quoted_byte bytes (take n ys)
+    ∙ ap₂ (λ x y. x ++ y) (quoted-bare c good.0) (quoted-pieces ps after good.1 ys refl) ∙ sym front
+
+pub unread-quoted : {xs text after : List ℕ} → Unread xs text after → flat_map quoted_byte (take (prefix_len is_plain xs) xs) ≡ take (prefix_len is_plain xs) xs
+unread-quoted {xs} {text} {after} u = quoted-pieces u.pieces after u.good xs u.parts
+
 pub starts-ahead : {xs text after : List ℕ} (h : UnitAhead xs text after) (v : ℕ) →
     v ≡ piece_value (unit (get_or xs 2 0) (get_or xs 3 0) (get_or xs 4 0) (get_or xs 5 0)) → StartsWithUnit xs v
 starts-ahead {xs} {text} {after} h v e = record {
@@ -233,7 +255,7 @@ starts-ahead {xs} {text} {after} h v e = record {
   d = h.d;
   tail = flat_map piece_spelling h.pieces ++ 34 ∷ after;
   parts = h.parts;
-  is = sym (value-places xs h.a h.b h.c h.d _ h.parts) ∙ sym e;
+  spells = sym (value-places xs h.a h.b h.c h.d _ h.parts) ∙ sym e;
 }
 
 -- a pair of surrogates is one character

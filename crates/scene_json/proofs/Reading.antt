@@ -328,10 +328,10 @@ mutual
 -- At the front of a text stands one value at most.
 pub Stands-once : {bytes a b r s : List ℕ} → Stands bytes a r → Stands bytes b s → (a ≡ b) × (r ≡ s)
 Stands-once {bytes} {a} {b} {r} {s} x y =
-    let t = x.is.tree in
-    let u = y.is.tree in
-    let front : bytes ≡ x.blank ++ (spelling t ++ r) = x.parts ∙ ap (λ v. x.blank ++ (v ++ r)) (sym x.is.spells) in
-    let other : bytes ≡ y.blank ++ (spelling u ++ s) = y.parts ∙ ap (λ v. y.blank ++ (v ++ s)) (sym y.is.spells) in
-    let space = run-once is_space x.blank y.blank (spelling t ++ r) (spelling u ++ s) x.space y.space (tree-Stops t r x.is.good) (tree-Stops u s y.is.good) (sym front ∙ other) in
-    let tree = tree-once t u r s x.is.good y.is.good (subst (λ v. Follows v r) (sym x.is.spells) x.ends) (subst (λ v. Follows v s) (sym y.is.spells) y.ends) space.1 in
-    (sym x.is.means ∙ ap compact tree.0 ∙ y.is.means, tree.1)
+    let t = x.reads.tree in
+    let u = y.reads.tree in
+    let front : bytes ≡ x.blank ++ (spelling t ++ r) = x.parts ∙ ap (λ v. x.blank ++ (v ++ r)) (sym x.reads.spells) in
+    let other : bytes ≡ y.blank ++ (spelling u ++ s) = y.parts ∙ ap (λ v. y.blank ++ (v ++ s)) (sym y.reads.spells) in
+    let space = run-once is_space x.blank y.blank (spelling t ++ r) (spelling u ++ s) x.space y.space (tree-Stops t r x.reads.good) (tree-Stops u s y.reads.good) (sym front ∙ other) in
+    let tree = tree-once t u r s x.reads.good y.reads.good (subst (λ v. Follows v r) (sym x.reads.spells) x.ends) (subst (λ v. Follows v s) (sym y.reads.spells) y.ends) space.1 in
+    (sym x.reads.means ∙ ap compact tree.0 ∙ y.reads.means, tree.1)

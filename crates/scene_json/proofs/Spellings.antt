@@ -142,4 +142,4 @@ mutual
 
 -- ---- a value stands for itself
 pub stands-alone : (bytes means : List ℕ) → Value 128 bytes means → Stands bytes means []
-stands-alone bytes means is = record { blank = []; value = bytes; parts = sym (append-nil bytes); space = refl; is = is; ends = tt }
+stands-alone bytes means is = record { blank = []; value = bytes; parts = sym (append-nil bytes); space = refl; reads = is; ends = tt }

@@ -148,6 +148,13 @@ plain-bare c a b = elim (cases_lt c 128) [
   | inr l ↦ plain-high (encode_utf8 c) (high_bytes c l)
 ]
 
+-- a character that stands in a string as it is stands so in a quote too
+pub quoted-bare : (c : ℕ) → IsPiece (bare c) → flat_map quoted_byte (encode_utf8 c) ≡ encode_utf8 c
+quoted-bare c h = elim (cases_lt c 128) [
+  | inl l ↦ let same : quoted_byte c ≡ c ∷ [] = grind (arith, nat_tests) in rw (encode_ascii c l, same) refl
+  | inr l ↦ quoted-same (encode_utf8 c) (high_bytes c l)
+]
+
 high-IsQuoted : (c : ℕ) → IsScalar c → 128 ≤ c → IsQuoted c
 high-IsQuoted c s h = record {
   good = rw (piece_of-high c h) (s, omega arith, omega arith, omega arith);

@@ -106,7 +106,7 @@ value-stands blank v between mark tail space good shallow spaced ends = record {
   value = spelling v;
   parts = refl;
   space = space;
-  is = record { tree = v; good = good; shallow = shallow; spells = refl; means = refl };
+  reads = record { tree = v; good = good; shallow = shallow; spells = refl; means = refl };
   ends = Follows-blank (spelling v) between tail mark spaced ends;
 }
 

@@ -90,7 +90,7 @@ module _ (limit : ℕ) where
 
 -- ---- where a value stands
 pub stands_start : (bytes text rest : List ℕ) → Stands bytes text rest → Reaches 128 rest start bytes
-stands_start bytes text rest s = subst (Reaches 128 rest start) (sym s.parts) (value_start 128 s.blank s.value text rest s.space s.is s.ends)
+stands_start bytes text rest s = subst (Reaches 128 rest start) (sym s.parts) (value_start 128 s.blank s.value text rest s.space s.reads s.ends)
 
 pub start_stands : (bytes rest : List ℕ) → Reaches 128 rest start bytes → (text : List ℕ) × Stands bytes text rest
 start_stands bytes rest r =
@@ -102,7 +102,7 @@ start_stands bytes rest r =
         value = spelling s.tree;
         parts = b.spells ∙ ap (λ x. b.front ++ x) (s.spells ∙ ap (λ x. spelling s.tree ++ x) s.follows);
         space = b.is;
-        is = record { tree = s.tree; good = s.good; shallow = omega (arith, s.shallow); spells = refl; means = refl };
+        reads = record { tree = s.tree; good = s.good; shallow = omega (arith, s.shallow); spells = refl; means = refl };
         ends = subst (Follows (spelling s.tree)) s.follows s.ends;
       },
     )

@@ -39,18 +39,18 @@ At-Stands a = record {
   value = spelling a.tree;
   parts = a.parts;
   space = refl;
-  is = record { tree = a.tree; good = a.good; shallow = a.shallow; spells = refl; means = a.means };
+  reads = record { tree = a.tree; good = a.good; shallow = a.shallow; spells = refl; means = a.means };
   ends = a.ends;
 }
 
 -- the value where it stands, once the white space before it is passed
-tree-At : {xs ys text rest : List ℕ} → (s : Stands xs text rest) → ys ≡ spelling s.is.tree ++ rest → At ys text rest
+tree-At : {xs ys text rest : List ℕ} → (s : Stands xs text rest) → ys ≡ spelling s.reads.tree ++ rest → At ys text rest
 tree-At {xs} {ys} {text} {rest} s e =
-    record { tree = s.is.tree; good = s.is.good; shallow = s.is.shallow; parts = e; means = s.is.means; ends = subst (λ v. Follows v rest) (sym s.is.spells) s.ends }
+    record { tree = s.reads.tree; good = s.reads.good; shallow = s.reads.shallow; parts = e; means = s.reads.means; ends = subst (λ v. Follows v rest) (sym s.reads.spells) s.ends }
 
 pub stands-skip : (bytes : List ℕ) (at start : ℕ) {text rest : List ℕ} → Stands (drop at bytes) text rest → start ≡ at + prefix_len is_space (drop at bytes) → At (drop start bytes) text rest
-stands-skip bytes at start {text} {rest} s is = tree-At s (skip-to bytes at start s.blank (spelling s.is.tree ++ rest) s.space (tree-Stops s.is.tree rest s.is.good)
-    (s.parts ∙ ap (λ v. s.blank ++ (v ++ rest)) (sym s.is.spells)) is)
+stands-skip bytes at start {text} {rest} s is = tree-At s (skip-to bytes at start s.blank (spelling s.reads.tree ++ rest) s.space (tree-Stops s.reads.tree rest s.reads.good)
+    (s.parts ∙ ap (λ v. s.blank ++ (v ++ rest)) (sym s.reads.spells)) is)
 
 -- where the first byte is no white space
 no-blank : (blank s : List ℕ) → is_blank blank ≡ true → is_space (get_or (blank ++ s) 0 0) ≡ false → blank ≡ []
@@ -60,7 +60,7 @@ no-blank (b ∷ bs) s space first = absurd (both_ways (is_space b) first (and_pa
 pub stands-At : {xs text rest : List ℕ} → Stands xs text rest → is_space (get_or xs 0 0) ≡ false → At xs text rest
 stands-At {xs} {text} {rest} s first =
     let none : s.blank ≡ [] = no-blank s.blank (s.value ++ rest) s.space (ap (λ x. is_space (get_or x 0 0)) (sym s.parts) ∙ first) in
-    tree-At s (s.parts ∙ ap₂ (λ b v. b ++ (v ++ rest)) none (sym s.is.spells))
+    tree-At s (s.parts ∙ ap₂ (λ b v. b ++ (v ++ rest)) none (sym s.reads.spells))
 
 -- a string
 pub record StringAt (xs text rest : List ℕ) : Type 0 where

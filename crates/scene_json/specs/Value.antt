@@ -32,7 +32,7 @@ pub record Stands (bytes text rest : List ℕ) : Type 0 where
   pub value : List ℕ
   pub parts : bytes ≡ blank ++ (value ++ rest)
   pub space : is_blank blank ≡ true
-  pub is : Value 128 value text
+  pub reads : Value 128 value text
   pub ends : Follows value rest
 
 -- Some continuation makes these bytes white space and a value of at most so many open brackets.

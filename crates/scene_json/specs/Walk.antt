@@ -34,7 +34,7 @@ pub record StartsWithUnit (bytes : List ℕ) (value : ℕ) : Type 0 where
   pub d : ℕ
   pub tail : List ℕ
   pub parts : bytes ≡ 92 ∷ 117 ∷ a ∷ b ∷ c ∷ d ∷ tail
-  pub is : piece_value (unit a b c d) ≡ value
+  pub spells : piece_value (unit a b c d) ≡ value
 
 -- A number or a word stands at the front; the rest follows it. RFC 8259, sections 3 and 6.
 pub record Literal (bytes text rest : List ℕ) : Type 0 where

@@ -12,8 +12,9 @@ ghost use Rattle.scene_json.specs.Walk.{Quoted, Literal, Filled, AppendsValue, i
 
 use crate::build::push_quote;
 use crate::collapsing::{Place, Span, collapse};
-use crate::content::content_of;
+use crate::content::{content_of, plain_end};
 use crate::end::skip_space;
+use crate::number::extends_number;
 use std::alloc::{AllocError, Global};
 
 /// Appends the compact text of the value that stands behind white space at an offset, and gives the offset after the
@@ -38,7 +39,7 @@ pub(crate) fn push_compact(
     }
 }
 
-/// Appends the string that stands at an offset, quoted anew.
+/// Appends the string that stands at an offset, quoted anew. Where no character is escaped, it is copied as it stands.
 fn push_string(
     alloc: Global,
     bytes: &[u8],
@@ -49,6 +50,10 @@ fn push_string(
     ensures ok { IfOk result (λ end. (text rest : List ℕ) → Quoted (drop at bytes.now) text rest → (out.new.items ≡ out.old.items ++ quote text) × (drop end bytes.now ≡ rest)) }
     ensures within { IfOk result (λ end. (at < end) × (end ≤ length bytes.now)) }
 {
+    if let Some(end) = plain_end(bytes, at) {
+        out.extend_from_slice(&bytes[at..end + 1])?;
+        return Ok(end + 1);
+    }
     let (text, end) = content_of(alloc, bytes, at)?;
     push_quote(out, &text)?;
     Ok(end)
@@ -89,13 +94,6 @@ fn number_end(bytes: &[u8], at: usize) -> usize
         next += 1;
     }
     next
-}
-
-/// A digit, `.`, `e`, `E`, `+` or `-`.
-fn extends_number(byte: u8) -> bool
-    ensures { result ≡ Value.extends_number byte }
-{
-    matches!(byte, b'0'..=b'9' | b'.' | b'e' | b'E' | b'+' | b'-')
 }
 
 /// Appends an array.

@@ -46,7 +46,7 @@ fn begins_with(bytes: &[u8], first: u8) -> bool
 /// The items of an array, in their order. `Shape` comes exactly where the value is no array.
 pub fn items(alloc: Global, value: &Raw) -> Result<List<Raw>, Stop<Shape>>
     ensures spelled { IfOk result (λ found. value.now ≡ array_text found) }
-    ensures are { IfOk result (λ found. AllByRecursion (IsCompact 127) found) }
+    ensures compact { IfOk result (λ found. AllByRecursion (IsCompact 127) found) }
     ensures only { IfOk result (λ found. (others : Items (Items ℕ)) → AllByRecursion (IsCompact 127) others → value.now ≡ array_text others → found ≡ others) }
     ensures shape { result ≡ Err (Stop.Fault (record {})) → (others : Items (Items ℕ)) → value.now ≢ array_text others }
 {
@@ -82,7 +82,7 @@ fn items_from(alloc: Global, value: &Raw) -> Result<Vec<Raw>, AllocError>
 /// The members of an object, in their order. `Shape` comes exactly where the value is no object.
 pub fn members(alloc: Global, value: &Raw) -> Result<List<Member>, Stop<Shape>>
     ensures spelled { IfOk result (λ found. value.now ≡ object_text (pairs found)) }
-    ensures are { IfOk result (λ found. AreMembers 127 (pairs found)) }
+    ensures kept { IfOk result (λ found. AreMembers 127 (pairs found)) }
     ensures only { IfOk result (λ found. (others : Items Pair) → AreMembers 127 others → value.now ≡ object_text others → pairs found ≡ others) }
     ensures shape { result ≡ Err (Stop.Fault (record {})) → (others : Items Pair) → value.now ≢ object_text others }
 {

@@ -36,8 +36,8 @@ returns-clause-spelled c =
     let found = c.in_ok-items_from.ensures form.0 form.1 form.2 in
     form.2 ∙ ap array_text (sym (c.from_vec.ensures ∙ found))
 
-pub returns-clause-are : goal.returns-clause-are
-returns-clause-are c =
+pub returns-clause-compact : goal.returns-clause-compact
+returns-clause-compact c =
     let form = form-listed 128 c.args.value.now (Value-Form c.as_bytes-bytes.ensures.compact) (starts-same 91 c.as_bytes-bytes.ensures.value (c.if-not-begins_with.ensures.yes refl)) in
     let found = c.in_ok-items_from.ensures form.0 form.1 form.2 in
     subst (AllByRecursion (IsCompact 127)) (sym (c.from_vec.ensures ∙ found)) form.1

@@ -19,8 +19,8 @@ returns-then-begins_with-clause-spelled c =
     let form = form-membered 128 c.args.value.now (Value-Form c.as_bytes-bytes.ensures.compact) (starts-same 123 c.as_bytes-bytes.ensures.value (c.if-not-begins_with.ensures.yes refl)) in
     form.2 ∙ ap object_text (closed-empty form.0 _ closed.0 (c.as_bytes-bytes.ensures.value ∙ form.2) (sym c.split_at.ensures.back ∙ closed.1) ∙ sym (ap pairs c.new.ensures))
 
-pub returns-then-begins_with-clause-are : goal.returns-then-begins_with-clause-are
-returns-then-begins_with-clause-are c =
+pub returns-then-begins_with-clause-kept : goal.returns-then-begins_with-clause-kept
+returns-then-begins_with-clause-kept c =
     let closed = c.if-begins_with.ensures.yes refl in
     let form = form-membered 128 c.args.value.now (Value-Form c.as_bytes-bytes.ensures.compact) (starts-same 123 c.as_bytes-bytes.ensures.value (c.if-not-begins_with.ensures.yes refl)) in
     subst (AreMembers 127) (closed-empty form.0 _ closed.0 (c.as_bytes-bytes.ensures.value ∙ form.2) (sym c.split_at.ensures.back ∙ closed.1) ∙ sym (ap pairs c.new.ensures)) form.1
@@ -42,8 +42,8 @@ returns-clause-spelled c =
     let found = c.in_ok-members_from.ensures form.0 form.1 form.2 in
     form.2 ∙ ap object_text (sym (ap pairs c.from_vec.ensures ∙ found))
 
-pub returns-clause-are : goal.returns-clause-are
-returns-clause-are c =
+pub returns-clause-kept : goal.returns-clause-kept
+returns-clause-kept c =
     let form = form-membered 128 c.args.value.now (Value-Form c.as_bytes-bytes.ensures.compact) (starts-same 123 c.as_bytes-bytes.ensures.value (c.if-not-begins_with.ensures.yes refl)) in
     let found = c.in_ok-members_from.ensures form.0 form.1 form.2 in
     subst (AreMembers 127) (sym (ap pairs c.from_vec.ensures ∙ found)) form.1

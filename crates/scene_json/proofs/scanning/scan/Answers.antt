@@ -8,7 +8,7 @@ from_compact-requires c =
     let found = c.in-Ok.ensures.found in
     let pushed = c.in_ok-push_compact.ensures.ok found.0 _ found.1 in
     let same : c.push_compact.new.out.items ≡ found.0 = pushed.0 ∙ ap (λ (x : List ℕ). x ++ found.0) c.new-text.ensures.items in
-    subst (IsCompact 128) (sym same) (Value-compact found.1.is)
+    subst (IsCompact 128) (sym same) (Value-compact found.1.reads)
 
 pub returns-clause-only : goal.returns-clause-only
 returns-clause-only c =

@@ -11,7 +11,7 @@ pub returns-then-is_target : goal.returns-then-is_target
 returns-then-is_target c =
     let test = has_end_at c.id_of-id.result.now in
     let any : c.any.result ≡ list_any (λ row. test (element_of row)) c.of_id.result.now =
-        any_from_yields_List (λ row. test (element_of row)) _ _ c.any.result c.any.ensures.ran (YieldsList-from_slice c.of_id.result.now cc) (λ x b q k. search (rules, tests)) in
+    any_from_yields_List (λ row. test (element_of row)) _ _ c.any.result c.any.ensures.ran (YieldsList-from_slice c.of_id.result.now cc) (λ x b q k. search (rules, tests)) in
     any ∙ any-under (has_id c.args.arrow.now) c.of_id.result.now c.args.self.now c.of_id.ensures test
     ∙ bound_arrow-is c.args.self.now c.args.e.now c.id_of-id.result.now c.args.arrow.now c.id_of-id.ensures (sym c.is_target.ensures ∙ c.if-is_target.true)
 

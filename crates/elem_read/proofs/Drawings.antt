@@ -1,0 +1,83 @@
+-- The value that is read, its members and the restored ones.
+use Rattle.std.proofs.Common.{◌≡◌, ◌≢◌, ◌≤◌, ◌<◌, ◌-◌, ℕ, List, [], ◌∷◌, Option, Some, None, All, Result, Ok, IfOk, refl, sym, ap, subst, ◌∙◌, bytes_eq, codes, lit≤, arith}
+use Rattle.std.specs.List.{AllByRecursion}
+use Rattle.std.proofs.lemmas.Bool.{both_ways}
+use Rattle.std.proofs.lemmas.List.Elements.{recursion_from_All}
+use Rattle.scene_json.specs.Compact.{Member as Pair, object_text}
+use Rattle.scene_json.specs.Members.{pairs}
+use Rattle.scene_json.specs.Named.{value_at}
+use Rattle.scene_json.specs.Parts.{AreMembers}
+use Rattle.scene_json.specs.Value.{IsCompact}
+use Rattle.scene_json.specs.declared.text.Member.{Member}
+use Rattle.scene_json.proofs.Collapsed.{bytes_eq-same}
+use Rattle.scene_json.proofs.CompactLaws.{Value-deeper}
+use Rattle.scene_json.proofs.Pairs.{AreMembers-values}
+use Rattle.restore_table.specs.Restored.{AreRestored, old_name}
+use Rattle.restore_table.proofs.RestoredLaws.{unknown-stays}
+use Rattle.elem.specs.Drawn.{Drawn}
+use Rattle.elem.specs.Forms.{find_in, IsObject}
+use Rattle.elem.specs.Said.{Says}
+use Rattle.elem_read.specs.Faults.{IsFirst}
+use Rattle.elem_read.specs.Reading.{IsSelection, IsDrawing, IsElementIn, IsTooDeep, HasFault, IsFaultIn, selection_text}
+use Rattle.elem_read.specs.declared.fault.ElemFault.{ElemFault}
+use Rattle.elem_read.specs.declared.fault.ElemFault.TheVariants.{NotObject, Depth, Id, Kind, Version, Nonce, Updated, Index, Deleted, Groups, Frame, Bound, Container, Binding, File}
+use Rattle.elem_read.proofs.Keeping.{AllFound, found-has, object-nests}
+
+pub is-object : (value : List ℕ) (ms : List Pair) → value ≡ object_text ms → AreMembers 127 ms → IsObject value ms
+is-object value ms spelled are = record { are = are; spelled = spelled }
+
+pub no-object : (value : List ℕ) → ((members : List Pair) → value ≢ object_text members) → IsFaultIn value NotObject
+no-object value none = λ members object. none members object.spelled
+
+pub selection : (value : List ℕ) (ms : List Pair) → IsObject value ms → value_at (codes "type") ms ≡ Some selection_text → IsSelection value
+selection value ms object kind = record { members = ms; object = object; kind = kind }
+
+pub drawing : (value : List ℕ) (ms : List Pair) → IsObject value ms → value_at (codes "type") ms ≢ Some selection_text → IsDrawing value ms
+drawing value ms object kind = record { object = object; kind = kind }
+
+pub too-deep : (value : List ℕ) (ms : List Pair) (depth : ℕ) → IsDrawing value ms → 120 < depth → ((limit : ℕ) → IsCompact limit value → depth ≤ limit) → IsFaultIn value Depth
+too-deep value ms depth drawing deep least = record { members = ms; drawing = drawing; deep = λ shallow. let within = least 120 shallow in omega arith }
+
+pub shallow-is : (value : List ℕ) (depth : ℕ) → IsCompact depth value → depth ≤ 120 → IsCompact 120 value
+shallow-is value depth is within = Value-deeper within is
+
+-- the members of a value that nests at most 120
+pub given-nest : (value : List ℕ) (ms : List Member) → IsObject value (pairs ms) → IsCompact 120 value → All (λ (m : Member). IsCompact 119 m.value) ms
+given-nest value ms object shallow = AreMembers-values 119 ms (object-nests 120 value (pairs ms) (lit≤ tt) (lit≤ tt) shallow object)
+
+-- restoring keeps the type
+pub kind-stays : (ms rs : List Pair) → AreRestored ms rs → value_at (codes "type") ms ≢ Some selection_text → value_at (codes "type") rs ≢ Some selection_text
+kind-stays ms rs are kept there =
+    kept (sym (unknown-stays ms rs (codes "type") are (λ e. both_ways (bytes_eq (codes "type") old_name) refl (ap (λ n. bytes_eq n old_name) e ∙ bytes_eq-same old_name)) refl) ∙ there)
+
+values-found : (limit : ℕ) (ms : List Member) → AllByRecursion (λ (m : Member). IsCompact limit m.value) ms → AllByRecursion (λ (m : Pair). IsCompact limit m.1) (pairs ms)
+values-found limit [] is = tt
+values-found limit (m ∷ ms) is = (is.0, values-found limit ms is.1)
+
+pub members-found : (ms : List Member) → All (λ (m : Member). IsCompact 119 m.value) ms → AllFound (λ name value. IsCompact 119 value) (find_in (pairs ms))
+members-found ms is = found-has (λ name value. IsCompact 119 value) (pairs ms) (values-found 119 ms (recursion_from_All (λ (m : Member). IsCompact 119 m.value) ms is))
+
+pub element-in : (value : List ℕ) (ms rs : List Pair) (e : Drawn) → IsDrawing value ms → IsCompact 120 value → AreRestored ms rs → Says (find_in rs) e → IsElementIn value e
+element-in value ms rs e drawing shallow restores says =
+    record { members = ms; restored = rs; drawing = drawing; shallow = shallow; restores = restores; says = says }
+
+pub fault-in : (value : List ℕ) (ms rs : List Pair) (fault : ElemFault) → IsDrawing value ms → IsCompact 120 value → AreRestored ms rs → IsFirst (find_in rs) fault → IsFaultIn value fault
+fault-in value ms rs fault drawing shallow restores first =
+    in-members fault (record { members = ms; restored = rs; drawing = drawing; shallow = shallow; restores = restores; first = first })
+  where
+    in-members : (f : ElemFault) → HasFault value f → IsFaultIn value f
+    in-members NotObject h = absurd h.first.comes
+    in-members Depth h = absurd h.first.comes
+    in-members Id h = h
+    in-members Kind h = h
+    in-members Version h = h
+    in-members Nonce h = h
+    in-members Updated h = h
+    in-members Index h = h
+    in-members Deleted h = h
+    in-members Groups h = h
+    in-members Frame h = h
+    in-members Bound h = h
+    in-members Container h = h
+    in-members Binding h = h
+    in-members File h = h

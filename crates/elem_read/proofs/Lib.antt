@@ -1,0 +1,7 @@
+pub mod Drawings
+pub mod Firsts
+pub mod Keeping
+pub mod Others
+pub mod Parts
+pub mod Unique
+pub mod Whole

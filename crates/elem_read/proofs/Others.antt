@@ -1,0 +1,121 @@
+-- The members that are no header members.
+use Rattle.std.proofs.Common.{◌≡◌, ℕ, List, [], ◌∷◌, Bool, true, false, not, cond, Some, None, refl, sym, ap, subst, ◌∙◌, map, filter, bytes_eq}
+use Rattle.std.specs.Cmp.Lexicographic.{slice_cmp, nat_list_eq_equiv}
+use Rattle.std.specs.List.{AllByRecursion, IsDistinct, list_any}
+use Rattle.std.specs.List.Sorted.{IsPermutation, IsSortedBy}
+use Rattle.std.proofs.lemmas.List.Elements.{All-from_recursion, recursion_from_All}
+use Rattle.std.proofs.lemmas.List.Sorted.{All-permutation, IsPermutation-map}
+use Rattle.std.specs.Ordering.{is_lt, nat_cmp}
+use Rattle.std.specs.declared.cmp.Ordering.TheVariants.{Less}
+use Rattle.std.proofs.lemmas.Bool.{or_parts, or_from, both_ways}
+use Rattle.std.proofs.lemmas.Map.Entries.{lookup_head, lookup_tail}
+use Rattle.scene_json.specs.Compact.{Member as Pair}
+use Rattle.scene_json.specs.Members.{pairs, pair_of}
+use Rattle.scene_json.specs.Named.{value_at, AreSameMembers, HaveRisingNames}
+use Rattle.scene_json.specs.Parts.{names_of}
+use Rattle.scene_json.specs.declared.text.Member.{Member}
+use Rattle.scene_json.proofs.Collapsed.{bytes_eq-true, bytes_eq-apart}
+use Rattle.scene_json.proofs.Lookups.{IsBelow, rising_parts, distinct_moved, same_moved, rising_from_sort}
+use Rattle.scene_json.proofs.Pairs.{names-pairs}
+use Rattle.frac_keys.specs.Keys.{bytes_less}
+use Rattle.frac_keys.specs.Rising.{are_rising}
+use Rattle.elem.specs.Facts.{names}
+use Rattle.elem.specs.Forms.{Find, find_in, AreOthers}
+use Rattle.elem.proofs.Sorting.{IsRising, are_rising-from}
+
+abbrev pub kept : (List ℕ → Bool) → List Member → List Member
+kept test ms = filter (λ (m : Member). not (test m.name)) ms
+
+-- ---- order
+below-more : (name : List ℕ) (ms : List Pair) → IsBelow name ms → AllByRecursion (λ (n : Pair). bytes_less name n.0 ≡ true) ms
+below-more name [] h = tt
+below-more name (m ∷ ms) h = (ap is_lt h.0, below-more name ms h.1)
+
+pub IsRising-names : (ms : List Pair) → HaveRisingNames ms → IsRising ms
+IsRising-names [] rise = tt
+IsRising-names (m ∷ ms) rise = let parts = rising_parts m ms rise in (below-more m.0 ms parts.0, IsRising-names ms parts.1)
+
+kept-all : (P : Pair → Type 0) (test : List ℕ → Bool) (ms : List Member) → AllByRecursion P (pairs ms) → AllByRecursion P (pairs (kept test ms))
+kept-all P test [] h = tt
+kept-all P test (m ∷ ms) h =
+    elim (test m.name) as (λ b. AllByRecursion P (pairs (cond (not b) (m ∷ kept test ms) (kept test ms)))) [
+      | true ↦ kept-all P test ms h.1
+      | false ↦ (h.0, kept-all P test ms h.1)
+    ]
+
+kept-rising : (test : List ℕ → Bool) (ms : List Member) → IsRising (pairs ms) → IsRising (pairs (kept test ms))
+kept-rising test [] rise = tt
+kept-rising test (m ∷ ms) rise =
+    elim (test m.name) as (λ b. IsRising (pairs (cond (not b) (m ∷ kept test ms) (kept test ms)))) [
+      | true ↦ kept-rising test ms rise.1
+      | false ↦ (kept-all (λ n. bytes_less m.name n.0 ≡ true) test ms rise.0, kept-rising test ms rise.1)
+    ]
+
+-- ---- what is left
+pub kept-free : (test : List ℕ → Bool) (ms : List Member) → list_any test (names (kept test ms)) ≡ false
+kept-free test [] = refl
+kept-free test (m ∷ ms) =
+    elim (test m.name) as (λ b. test m.name ≡ b → list_any test (names (cond (not b) (m ∷ kept test ms) (kept test ms))) ≡ false) [
+      | true ↦ λ e. kept-free test ms
+      | false ↦ λ e. or_from _ _ e (kept-free test ms)
+    ] refl
+
+head-or : (name : List ℕ) (m : Pair) (ms ns : List Pair) → value_at name ms ≡ value_at name ns → value_at name (m ∷ ms) ≡ value_at name (m ∷ ns)
+head-or name m ms ns e = ap (λ rest. cond (bytes_eq name m.0) (Some m.1) rest) e
+
+pub kept-same : (test : List ℕ → Bool) (ms : List Member) (name : List ℕ) → test name ≡ false → value_at name (pairs (kept test ms)) ≡ value_at name (pairs ms)
+kept-same test [] name other = refl
+kept-same test (m ∷ ms) name other =
+    elim (test m.name) as (λ b. test m.name ≡ b → value_at name (pairs (cond (not b) (m ∷ kept test ms) (kept test ms))) ≡ value_at name (pairs (m ∷ ms))) [
+      | true ↦ λ e.
+          let apart : bytes_eq name m.name ≡ false = bytes_eq-apart name m.name (λ same. both_ways (test name) other (ap test same ∙ e)) in
+          kept-same test ms name other ∙ sym (lookup_tail (bytes_eq name) (m.name, m.value) (pairs ms) apart)
+      | false ↦ λ e. head-or name (m.name, m.value) (pairs (kept test ms)) (pairs ms) (kept-same test ms name other)
+    ] refl
+
+pub kept-others : (test : List ℕ → Bool) (ms : List Member) → HaveRisingNames (pairs ms) → AreOthers test (find_in (pairs ms)) (kept test ms)
+kept-others test ms rise = record {
+  rise = ap are_rising (sym (names-pairs (kept test ms))) ∙ are_rising-from (pairs (kept test ms)) (kept-rising test ms (IsRising-names (pairs ms) rise));
+  free = kept-free test ms;
+  same = kept-same test ms;
+}
+
+-- ---- sorted
+names-all : (P : List ℕ → Type 0) (ms : List Pair) → AllByRecursion P (names_of ms) → AllByRecursion (λ (m : Pair). P m.0) ms
+names-all P [] h = tt
+names-all P (m ∷ ms) h = (h.0, names-all P ms h.1)
+
+all-names : (P : List ℕ → Type 0) (ms : List Pair) → AllByRecursion (λ (m : Pair). P m.0) ms → AllByRecursion P (names_of ms)
+all-names P [] h = tt
+all-names P (m ∷ ms) h = (h.0, all-names P ms h.1)
+
+kept-distinct : (test : List ℕ → Bool) (ms : List Member) → IsDistinct bytes_eq (names_of (pairs ms)) → IsDistinct bytes_eq (names_of (pairs (kept test ms)))
+unfolding IsDistinct
+kept-distinct test [] apart = tt
+kept-distinct test (m ∷ ms) apart =
+    let P : List ℕ → Type 0 = λ y. bytes_eq m.name y ≡ false in
+    elim (test m.name) as (λ b. IsDistinct bytes_eq (names_of (pairs (cond (not b) (m ∷ kept test ms) (kept test ms))))) [
+      | true ↦ kept-distinct test ms apart.1
+      | false ↦ (all-names P (pairs (kept test ms)) (kept-all (λ n. P n.0) test ms (names-all P (pairs ms) apart.0)), kept-distinct test ms apart.1)
+    ]
+
+free-all : (test : List ℕ → Bool) (ms : List Member) → list_any test (names ms) ≡ false → AllByRecursion (λ (m : Member). test m.name ≡ false) ms
+free-all test [] h = tt
+free-all test (m ∷ ms) h = let parts = or_parts (test m.name) (list_any test (names ms)) h in (parts.0, free-all test ms parts.1)
+
+all-free : (test : List ℕ → Bool) (ms : List Member) → AllByRecursion (λ (m : Member). test m.name ≡ false) ms → list_any test (names ms) ≡ false
+all-free test [] h = refl
+all-free test (m ∷ ms) h = or_from (test m.name) (list_any test (names ms)) h.0 (all-free test ms h.1)
+
+pub sorted-others : (test : List ℕ → Bool) (ms ws : List Member) → IsDistinct bytes_eq (map (λ (m : Member). m.name) ms) → IsPermutation (kept test ms) ws
+    → IsSortedBy (λ (a : Member) (b : Member). is_lt (slice_cmp nat_cmp a.name b.name)) ws → AreOthers test (find_in (pairs ms)) ws
+sorted-others test ms ws apart moved up =
+    let P : Member → Type 0 = λ m. test m.name ≡ false in
+    let paired = IsPermutation-map pair_of (kept test ms) ws moved in
+    let distinct = kept-distinct test ms (subst (IsDistinct bytes_eq) (sym (names-pairs ms)) apart) in
+    let still = subst (IsDistinct bytes_eq) (names-pairs ws) (distinct_moved (pairs (kept test ms)) (pairs ws) paired distinct) in
+    let rise = rising_from_sort ws up still in record {
+      rise = ap are_rising (sym (names-pairs ws)) ∙ are_rising-from (pairs ws) (IsRising-names (pairs ws) rise);
+      free = all-free test ws (recursion_from_All P ws (All-permutation P (kept test ms) ws moved (All-from_recursion P (kept test ms) (free-all test (kept test ms) (kept-free test ms)))));
+      same = λ name other. sym (same_moved (pairs (kept test ms)) (pairs ws) distinct paired name) ∙ kept-same test ms name other;
+    }

@@ -1,0 +1,12 @@
+use Rattle.std.proofs.Common.{sym, subst, Bool}
+use Rattle.scene_json.specs.Members.{pairs}
+use Rattle.scene_json.specs.Named.{value_at}
+use Rattle.elem.specs.Forms.{IsTextOrNull}
+use Rattle.elem.specs.Said.{IsOwn}
+use Rattle.elem_read.specs.Parts.{Reads}
+use Rattle.elem_read.proofs.forms.own_text.Goals as goal
+
+pub returns-then-own : goal.returns-then-own
+returns-then-own c =
+    subst (λ (own : Bool). Reads (IsOwn own IsTextOrNull (value_at c.args.name.now (pairs c.args.members.now))) c.args.fault c.text_or_null.result)
+    (sym c.if-own.true) c.text_or_null.ensures

@@ -1,0 +1,14 @@
+use Rattle.std.proofs.Common.{Bool, true, false, refl}
+use Rattle.scene_json.specs.Members.{pairs}
+use Rattle.scene_json.specs.Named.{value_at}
+use Rattle.elem.specs.Forms.{IsTruth}
+use Rattle.elem_read.proofs.forms.truth.Goals as goal
+
+pub returns-in-None : goal.returns-in-None
+returns-in-None c = (
+  refl,
+  λ truth. elim truth as (λ (b : Bool). IsTruth (value_at c.args.name.now (pairs c.args.members.now)) b → ⊥) [
+    | true ↦ λ is. c.in-None.ensures true is
+    | false ↦ λ is. c.in-None.ensures false is
+  ],
+)

@@ -1,0 +1,73 @@
+//! Bindings.
+
+ghost use Rattle.std.specs.Prelude.{◌≡◌, All, IfOk, IfSome, codes, bytes_eq, map};
+ghost use Rattle.std.specs.List.{IsDistinct};
+ghost use Rattle.scene_json.specs.Members.{pairs};
+ghost use Rattle.scene_json.specs.Named.{value_at};
+ghost use Rattle.scene_json.specs.Parts.{AreMembers};
+ghost use Rattle.scene_json.specs.Value.{IsCompact};
+ghost use Rattle.elem.specs.Facts.{IsBinding, AllNest};
+ghost use Rattle.elem.specs.Forms.{find_in, AreOthers, IsBindingOrNull};
+ghost use Rattle.elem.specs.Said.{IsOwn};
+ghost use Rattle.elem_read.specs.Parts.{Reads};
+ghost use Rattle.elem_read.specs.declared.fault.ElemFault.TheVariants as faults;
+
+use crate::fault::ElemFault;
+use board_io::{List, Stop};
+use elem::Binding;
+use scene_json::{Member, is_null, members, shaped, text_named, value_named};
+use std::alloc::{AllocError, Global};
+
+/// The member in which a binding names its target.
+const TARGET: &str = "elementId";
+
+/// The member of this name where the element's kind has it, a binding or none.
+pub(crate) fn own_binding(
+    alloc: Global,
+    members: &List<Member>,
+    own: bool,
+    name: &str,
+) -> Result<Option<Binding>, Stop<ElemFault>>
+    ensures { Reads (IsOwn own IsBindingOrNull (value_at name.now (pairs members.now))) faults.Binding result }
+{
+    if own {
+        binding_or_null(alloc, members, name)
+    } else {
+        Ok(None)
+    }
+}
+
+/// The member of this name, a binding, or none where it is null, missing or names no target.
+fn binding_or_null(
+    alloc: Global,
+    given: &List<Member>,
+    name: &str,
+) -> Result<Option<Binding>, Stop<ElemFault>>
+    ensures { Reads (IsBindingOrNull (value_at name.now (pairs given.now))) faults.Binding result }
+{
+    let Some(value) = value_named(given, name) else {
+        return Ok(None);
+    };
+    if is_null(value) {
+        return Ok(None);
+    }
+    let Some(members) = shaped(members(alloc, value))? else {
+        return Err(Stop::Fault(ElemFault::Binding));
+    };
+    let Some(target) = text_named(alloc, &members, TARGET)? else {
+        return Ok(None);
+    };
+    let rest = further(members)?;
+    Ok(Some(Binding { target, rest }))
+}
+
+/// The members but the target, in the order of the bytes of their names.
+fn further(members: List<Member>) -> Result<List<Member>, AllocError>
+    requires { IsDistinct bytes_eq (map (λ member. member.name) members) }
+    ensures { IfOk result (AreOthers (bytes_eq (codes "elementId")) (find_in (pairs members))) }
+{
+    let mut rest = members.into_vec();
+    rest.retain(|member| TARGET.as_bytes() != member.name.as_bytes());
+    rest.sort_by(|a, b| a.name.cmp(&b.name))?;
+    Ok(List::from_vec(rest))
+}

@@ -1,0 +1,32 @@
+//! Laws on reading, for all values. They do nothing when they run.
+
+ghost use Rattle.std.specs.Prelude.{◌≡◌, List, ℕ};
+ghost use Rattle.scene_json.specs.Compact.{Member};
+ghost use Rattle.scene_json.specs.Named.{AreSameMembers};
+ghost use Rattle.elem.specs.Drawn.{Drawn};
+ghost use Rattle.elem.specs.Forms.{IsObject};
+ghost use Rattle.elem_read.specs.Reading.{IsSelection, IsElementIn, IsFaultIn};
+ghost use Rattle.elem_read.specs.declared.fault.ElemFault.{ElemFault};
+
+/// A value is read in one way at most: as one element, as no element, or with one first fault.
+pub fn reading_is_unique()
+    ensures element { (value : List ℕ) (e other : Drawn) → IsElementIn value e → IsElementIn value other → e ≡ other }
+    ensures fault { (value : List ℕ) (fault other : ElemFault)
+        → IsFaultIn value fault → IsFaultIn value other → fault ≡ other }
+    ensures faultless { (value : List ℕ) (e : Drawn) (fault : ElemFault) → IsElementIn value e → IsFaultIn value fault → ⊥ }
+    ensures kept { (value : List ℕ) (e : Drawn) → IsElementIn value e → IsSelection value → ⊥ }
+    ensures dropped { (value : List ℕ) (fault : ElemFault) → IsFaultIn value fault → IsSelection value → ⊥ }
+{}
+
+/// The order of an object's members plays no part in what it is read as.
+pub fn order_of_members_plays_no_part()
+    ensures element { (value other : List ℕ) (members others : List Member) (e : Drawn)
+        → IsObject value members → IsObject other others → AreSameMembers members others
+        → IsElementIn value e → IsElementIn other e }
+    ensures fault { (value other : List ℕ) (members others : List Member) (fault : ElemFault)
+        → IsObject value members → IsObject other others → AreSameMembers members others
+        → IsFaultIn value fault → IsFaultIn other fault }
+    ensures selection { (value other : List ℕ) (members others : List Member)
+        → IsObject value members → IsObject other others → AreSameMembers members others
+        → IsSelection value → IsSelection other }
+{}

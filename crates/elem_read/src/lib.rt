@@ -1,0 +1,16 @@
+//! Elements are read: each is one, or has one first fault.
+#![tactic(auto)]
+
+mod binding;
+mod element;
+mod fault;
+mod forms;
+mod kinds;
+pub mod laws;
+mod listing;
+mod reading;
+#[cfg(test)]
+mod tests;
+
+pub use fault::ElemFault;
+pub use reading::read_element;
