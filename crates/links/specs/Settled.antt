@@ -52,5 +52,5 @@ unplaced e = record e {
   groups = [];
   frame = None;
   file = None;
-  rest = []
+  rest = [];
 }

@@ -38,7 +38,7 @@ assembled linked other = record other {
   bound = linked.bound;
   container = linked.container;
   start_binding = linked.start_binding;
-  end_binding = linked.end_binding
+  end_binding = linked.end_binding;
 }
 
 same_elements : (es fs : List Drawn) → map unplaced es ≡ map unplaced fs → map unlinked es ≡ map unlinked fs → es ≡ fs

@@ -17,7 +17,7 @@ unsettled e = record e {
   bound = [];
   container = None;
   start_binding = None;
-  end_binding = None
+  end_binding = None;
 }
 
 -- The elements agree on their links, frames and groups: an arrow names an element exactly if that element lists it, and a

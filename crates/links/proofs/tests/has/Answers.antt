@@ -10,5 +10,5 @@ use Rattle.links.proofs.tests.has.Goals as goal
 pub returns : goal.returns
 returns c =
     let any : c.any.result ≡ list_any (λ (e : Drawn). bytes_eq c.args.id.now e.id) c.args.list.now.items =
-        any_from_yields_List (λ (e : Drawn). bytes_eq c.args.id.now e.id) _ _ c.any.result c.any.ensures.ran (YieldsList-from_slice c.args.list.now.items cc) (λ x b q k. search (rules, tests)) in
+    any_from_yields_List (λ (e : Drawn). bytes_eq c.args.id.now e.id) _ _ c.any.result c.any.ensures.ran (YieldsList-from_slice c.args.list.now.items cc) (λ x b q k. search (rules, tests)) in
     any ∙ sym (list_any-map id_of (bytes_eq c.args.id.now) c.args.list.now.items)
