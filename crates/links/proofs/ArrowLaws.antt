@@ -19,8 +19,8 @@ use Rattle.links.specs.Arrows.{names_target, settled_end, is_bound_to, is_true_a
 use Rattle.links.specs.Settled.{ArrowsAgree, TextsAgree, texts_listed, HaveOneText, NameTargets}
 use Rattle.links.proofs.EntryLaws.{same_entry-true, same_entry-refl, first_occurrences-filter, list_any-first_occurrences, first_occurrences-again}
 use Rattle.links.proofs.Members.{same_bools, bytes_eq-refl, map-same, map-map, map-fixed, filter-map, find-map, Contains-map, Contains-head, Contains-cons, list_any-from, list_any-found, list_any-same, find-Some, find-found, find-None, one_of_id}
-use Rattle.links.proofs.Tabled.{list_any-map, list_any-filter}
-use Rattle.links.proofs.TextLaws.{is_id-from, is_id-true, names-one, held, not_held, text_of-stands, keeps-at}
+use Rattle.links.proofs.Tabled.{list_any-map, list_any-filter, held, not_held}
+use Rattle.links.proofs.TextLaws.{is_id-from, is_id-true, text_of-stands, keeps-at}
 
 -- ---- what a listing has
 module _ (list : List Drawn) (e : Drawn) where
