@@ -2,7 +2,6 @@
 use Rattle.std.proofs.Common.{◌≡◌, ℕ, ◌+◌, ◌<◌, Bool, true, false, cond, ◌&&◌, ◌||◌, List, [], ◌∷◌, ◌++◌, length, get_or, take, find, filter, map, slice_get, Option, Some, None, bytes_eq, nat_cmp, refl, sym, ap, ap₂, ◌∙◌, append_assoc, append-nil}
 use Rattle.std.specs.Cmp.Lexicographic.{slice_cmp}
 use Rattle.std.specs.List.{list_any, zip}
-use Rattle.std.specs.List.Sorted.{IsSortedBy}
 use Rattle.std.specs.Option.{option_copied, option_map, option_or}
 use Rattle.std.specs.Ordering.{is_eq}
 use denote.Ref.{Bor}
@@ -17,7 +16,7 @@ use Rattle.links.specs.declared.table.Row.{Row}
 use Rattle.links.specs.Arrows.{is_bound_to, is_true_as, is_true_entry, arrow_entries, text_entries, listing}
 use Rattle.links.specs.Entries.{arrow_entry, first_occurrences}
 use Rattle.links.specs.Names.{has_id, id_of, is_arrow, is_id, can_hold_text, names_container, target_of, end_names, has_end_at, is_target}
-use Rattle.links.specs.Tables.{is_under, element_of, elements_under, row_less, Adds, IsTable, with_entry, with_entries}
+use Rattle.links.specs.Tables.{is_under, element_of, elements_under, Adds, IsTable, with_entry, with_entries}
 use Rattle.links.specs.Texts.{is_for_text, is_text_entry, listed_text, first_text, text_of, is_text_of, keeps_container}
 use Rattle.links.proofs.EntryLaws.{first_occurrences-push, with_entries-first, with_entries-push}
 use Rattle.links.proofs.Sorting.{bytes_eq-cmp}

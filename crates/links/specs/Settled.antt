@@ -1,5 +1,5 @@
 -- What holds of a list whose links are settled, and what settling leaves as it is. This project's own.
-use Rattle.std.specs.Prelude.{◌≡◌, ℕ, ◌≤◌, List, [], Bool, true, false, Some, None, Contains, IfSome, filter, length, map}
+use Rattle.std.specs.Prelude.{◌≡◌, ◌≤◌, List, [], true, false, Some, None, Contains, IfSome, filter, length}
 use Rattle.elem.specs.declared.parts.BoundRef.{BoundRef}
 use Rattle.elem.specs.declared.parts.Binding.{Binding}
 use Rattle.elem.specs.Drawn.{Drawn}
