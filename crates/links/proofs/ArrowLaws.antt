@@ -2,7 +2,7 @@
 use Rattle.std.proofs.Common.{◌≡◌, ℕ, ◌≤◌, Bool, true, false, cond, not, ◌&&◌, ◌||◌, List, [], ◌∷◌, ◌++◌, length, find, filter, map, Option, Some, None, IfSome, Contains, bytes_eq, refl, sym, ap, ap₂, subst, ◌∙◌, inl, inr, append_assoc, arith}
 use Rattle.std.specs.List.{list_any, list_all}
 use Rattle.std.specs.Option.{option_map, option_or}
-use Rattle.std.proofs.lemmas.Bool.{and_parts, and_from, or_cases, or_left, or_right, both_ways, cases_Bool, cond-true, cond-false, cond_both}
+use Rattle.std.proofs.lemmas.Bool.{and_parts, and_from, or_cases, or_left, or_right, cases_Bool, cond-true, cond-false, cond_both}
 use Rattle.std.proofs.lemmas.List.Elements.{filter_agree}
 use Rattle.std.proofs.lemmas.List.Folds.{list_any-append}
 use Rattle.std.proofs.lemmas.Option.{same_Some}
@@ -13,14 +13,14 @@ use Rattle.elem.specs.declared.parts.BoundRef.{BoundRef}
 use Rattle.elem.specs.declared.parts.Binding.{Binding}
 use Rattle.elem.specs.Drawn.{Drawn}
 use Rattle.links.specs.Names.{has_id, id_of, is_arrow, is_text, is_id, can_hold_text, names_container, target_of, end_names, has_end_at, is_target, HaveDistinctIds}
-use Rattle.links.specs.Entries.{same_role, same_entry, lists, arrow_entry, text_entry, first_occurrences}
+use Rattle.links.specs.Entries.{same_entry, lists, arrow_entry, text_entry, first_occurrences}
 use Rattle.links.specs.Texts.{is_for_text, is_text_entry, listed_text, first_text, text_of, is_text_of, keeps_container, with_settled_container, settled_texts}
 use Rattle.links.specs.Arrows.{names_target, settled_end, is_bound_to, is_true_as, is_true_entry, arrow_entries, text_entries, listing, with_settled_links, settled_arrows}
 use Rattle.links.specs.Settled.{ArrowsAgree, TextsAgree, texts_listed, HaveOneText, NameTargets}
 use Rattle.links.proofs.EntryLaws.{same_entry-true, same_entry-refl, first_occurrences-filter, list_any-first_occurrences, first_occurrences-again}
-use Rattle.links.proofs.Members.{same_bools, bytes_eq-refl, map-same, map-map, map-fixed, filter-map, find-map, Contains-map, Contains-head, Contains-cons, list_any-from, list_any-found, list_any-same, find-Some, find-found, find-None, one_of_id}
-use Rattle.links.proofs.Tabled.{list_any-map, list_any-filter}
-use Rattle.links.proofs.TextLaws.{is_id-from, is_id-true, names-one, held, not_held, text_of-stands, keeps-at}
+use Rattle.links.proofs.Members.{same_bools, bytes_eq-refl, map-same, map-map, map-fixed, filter-map, find-map, Contains-map, list_any-from, list_any-found, list_any-same, find-Some, find-found, find-None, one_of_id}
+use Rattle.links.proofs.Tabled.{list_any-map, list_any-filter, held, not_held}
+use Rattle.links.proofs.TextLaws.{is_id-from, is_id-true, text_of-stands, keeps-at}
 
 -- ---- what a listing has
 module _ (list : List Drawn) (e : Drawn) where

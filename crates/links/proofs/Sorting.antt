@@ -1,19 +1,16 @@
 -- Rows in the order of their ids.
-use Rattle.std.proofs.Common.{◌≡◌, ℕ, zero, suc, ◌+◌, ◌-◌, ◌<◌, ◌≤◌, Bool, true, false, cond, not, ◌&&◌, List, [], ◌∷◌, length, get_or, take, drop, filter, Ordering, is_lt, nat_cmp, bytes_eq, refl, sym, ap, ◌∙◌, arith}
-use Rattle.std.specs.List.{AllWithin}
+use Rattle.std.proofs.Common.{◌≡◌, ℕ, zero, suc, ◌-◌, ◌≤◌, Bool, true, false, not, ◌&&◌, List, [], ◌∷◌, length, get_or, take, drop, filter, Ordering, is_lt, nat_cmp, bytes_eq, refl, sym, ap, ◌∙◌, arith, None}
 use Rattle.std.specs.List.Sorted.{IsSortedBy, IsStableBy, IsPartitionedBy, IsPartitionPoint, ties}
 use Rattle.std.specs.Cmp.{IsStrictWeakOrder}
 use Rattle.std.specs.Cmp.Lexicographic.{slice_cmp, nat_list_cmp_total, texts_ties}
 use Rattle.std.specs.Ordering.{is_eq, is_le, ordering_reverse}
 use Rattle.std.specs.declared.cmp.Ordering.TheVariants.{Less, Equal, Greater}
-use Rattle.std.proofs.lemmas.Bool.{and_left, both_ways, false_from_ne_true, true_from_ne_false, not-true, not_from_false, cond-true, cond-false}
+use Rattle.std.proofs.lemmas.Bool.{both_ways, true_from_ne_false, not-true, not_from_false, cond-true, cond-false}
 use Rattle.std.proofs.lemmas.List.Elements.{filter_agree}
 use Rattle.std.proofs.lemmas.List.Sorted.{ranks_by, sorted_far}
 use Rattle.std.proofs.Math.Seq.{take-nil, drop-nil}
 use Rattle.elem.specs.Drawn.{Drawn}
 use Rattle.elem.specs.declared.kind.Kind.TheVariants.{Rectangle}
-use Rattle.elem.specs.declared.kind.Kind.{Kind}
-use Rattle.std.proofs.Common.{None}
 use Rattle.links.specs.declared.table.Row.{Row}
 use Rattle.links.specs.Tables.{is_under, row_less}
 

@@ -2,7 +2,6 @@
 use Rattle.std.proofs.Common.{◌≡◌, ℕ, ◌+◌, ◌<◌, Bool, true, false, cond, ◌&&◌, ◌||◌, List, [], ◌∷◌, ◌++◌, length, get_or, take, find, filter, map, slice_get, Option, Some, None, bytes_eq, nat_cmp, refl, sym, ap, ap₂, ◌∙◌, append_assoc, append-nil}
 use Rattle.std.specs.Cmp.Lexicographic.{slice_cmp}
 use Rattle.std.specs.List.{list_any, zip}
-use Rattle.std.specs.List.Sorted.{IsSortedBy}
 use Rattle.std.specs.Option.{option_copied, option_map, option_or}
 use Rattle.std.specs.Ordering.{is_eq}
 use denote.Ref.{Bor}
@@ -17,7 +16,7 @@ use Rattle.links.specs.declared.table.Row.{Row}
 use Rattle.links.specs.Arrows.{is_bound_to, is_true_as, is_true_entry, arrow_entries, text_entries, listing}
 use Rattle.links.specs.Entries.{arrow_entry, first_occurrences}
 use Rattle.links.specs.Names.{has_id, id_of, is_arrow, is_id, can_hold_text, names_container, target_of, end_names, has_end_at, is_target}
-use Rattle.links.specs.Tables.{is_under, element_of, elements_under, row_less, Adds, IsTable, with_entry, with_entries}
+use Rattle.links.specs.Tables.{is_under, element_of, elements_under, Adds, IsTable, with_entry, with_entries}
 use Rattle.links.specs.Texts.{is_for_text, is_text_entry, listed_text, first_text, text_of, is_text_of, keeps_container}
 use Rattle.links.proofs.EntryLaws.{first_occurrences-push, with_entries-first, with_entries-push}
 use Rattle.links.proofs.Sorting.{bytes_eq-cmp}
@@ -32,12 +31,6 @@ under_one key row true h = ap (map element_of) (cond-true (is_under key row) (ro
 under_one key row false h = ap (map element_of) (cond-false (is_under key row) (row ∷ []) [] h)
 
 module _ (names : List ℕ → Drawn → Bool) (e : Drawn) (old new : List Row) where
-  pub Adds-none : ((key : List ℕ) → names key e ≡ false) → new ≡ old → Adds names e old new
-  Adds-none none same = record {
-    each = λ key. ap (elements_under key) same ∙ sym (append-nil (elements_under key old))
-        ∙ ap (λ more. elements_under key old ++ more) (sym (cond-false (names key e) (e ∷ []) [] (none key)));
-  }
-
   pub Adds-one : (row : Row) → element_of row ≡ e → ((key : List ℕ) → names key e ≡ is_under key row) → new ≡ old ++ row ∷ [] → Adds names e old new
   Adds-one row is same made = record {
     each = λ key. ap (elements_under key) made ∙ elements_under-append key old (row ∷ [])
@@ -63,20 +56,6 @@ module _ (names : List ℕ → Drawn → Bool) (e : Drawn) (old new : List Row) 
 -- rows under way: they have under each id the elements of a first part of the list that name it
 pub record HasUnder (names : List ℕ → Drawn → Bool) (list : List Drawn) (rows : List Row) : Type 0 where
   pub each : (key : List ℕ) → elements_under key rows ≡ filter (names key) list
-
-pub HasUnder-more : (names : List ℕ → Drawn → Bool) (list : List Drawn) (i : ℕ) (e : Drawn) (old new : List Row) → i < length list → e ≡ get_or list i e
-    → HasUnder names (take i list) old → Adds names e old new → HasUnder names (take (i + 1) list) new
-HasUnder-more names list i e old new l is so_far added = record {
-  each = λ key. added.each key ∙ ap₂ (λ xs (f : Drawn). xs ++ cond (names key f) (f ∷ []) []) (so_far.each key) is
-      ∙ sym (filter_more (names key) list i e l);
-}
-
-pub IsTable-sorted : (names : List ℕ → Drawn → Bool) (list : List Drawn) (rows new : List Row) → HasUnder names list rows
-    → IsSortedBy row_less new → ((key : List ℕ) → filter (is_under key) new ≡ filter (is_under key) rows) → IsTable names list new
-IsTable-sorted names list rows new under ordered kept = record {
-  ordered = ordered;
-  found = λ key. ap (map element_of) (kept key) ∙ under.each key;
-}
 
 -- ---- the ends of an arrow that has both
 module _ (e : Drawn) (s t : List ℕ) (arrow : is_arrow e.kind ≡ true) (start : target_of e.start_binding ≡ Some s) (end' : target_of e.end_binding ≡ Some t) where
@@ -161,19 +140,19 @@ keeps_container-is list e rows table =
     ∙ list_any-filter (is_text_of list e.id) (λ container. names_container container.id e) list
 
 -- ---- the text of a container
-pub text_of-none : (list : List Drawn) (c : Drawn) → can_hold_text c.kind ≡ false → None ≡ text_of list c
+pub held : (list : List Drawn) (c : Drawn) → can_hold_text c.kind ≡ true → text_of list c ≡ option_or (listed_text list c) (first_text list c)
 unfolding text_of
-text_of-none list c h = sym (cond-false (can_hold_text c.kind) (option_or (listed_text list c) (first_text list c)) None h)
+held list c h = cond-true (can_hold_text c.kind) (option_or (listed_text list c) (first_text list c)) None h
 
-holds : (list : List Drawn) (c : Drawn) → can_hold_text c.kind ≡ true → text_of list c ≡ option_or (listed_text list c) (first_text list c)
+pub not_held : (list : List Drawn) (c : Drawn) → can_hold_text c.kind ≡ false → text_of list c ≡ None
 unfolding text_of
-holds list c h = cond-true (can_hold_text c.kind) (option_or (listed_text list c) (first_text list c)) None h
+not_held list c h = cond-false (can_hold_text c.kind) (option_or (listed_text list c) (first_text list c)) None h
 
 pub text_of-listed : (list : List Drawn) (c : Drawn) (id : List ℕ) → can_hold_text c.kind ≡ true → listed_text list c ≡ Some id → Some id ≡ text_of list c
-text_of-listed list c id h listed = sym (holds list c h ∙ ap (λ o. option_or o (first_text list c)) listed)
+text_of-listed list c id h listed = sym (held list c h ∙ ap (λ o. option_or o (first_text list c)) listed)
 
 pub text_of-first : (list : List Drawn) (c : Drawn) → can_hold_text c.kind ≡ true → listed_text list c ≡ None → first_text list c ≡ text_of list c
-text_of-first list c h listed = sym (holds list c h ∙ ap (λ o. option_or o (first_text list c)) listed)
+text_of-first list c h listed = sym (held list c h ∙ ap (λ o. option_or o (first_text list c)) listed)
 
 -- ---- arrows that are bound to an element
 list_any-none : {X : Type 0} (p : X → Bool) (xs : List X) → ((x : X) → p x ≡ false) → list_any p xs ≡ false
@@ -202,12 +181,6 @@ pub arrow_entries-none : (list : List Drawn) (e : Drawn) → is_target e ≡ fal
 arrow_entries-none list e target =
     ap (λ b. map (λ (arrow : Drawn). arrow_entry arrow.id) (filter (λ a. b && has_end_at e.id a) list)) target
     ∙ ap (map (λ (arrow : Drawn). arrow_entry arrow.id)) (filter-none list)
-
-pub arrow_entries-some : (list : List Drawn) (e : Drawn) (id : List ℕ) (rows : List Row) → id ≡ e.id → is_target e ≡ true
-    → map element_of rows ≡ filter (has_end_at id) list → map (λ (arrow : Drawn). arrow_entry arrow.id) (map element_of rows) ≡ arrow_entries list e
-arrow_entries-some list e id rows is target under =
-    ap (map (λ (arrow : Drawn). arrow_entry arrow.id)) (under ∙ ap (λ i. filter (has_end_at i) list) is)
-    ∙ ap (λ b. map (λ (arrow : Drawn). arrow_entry arrow.id) (filter (λ a. b && has_end_at e.id a) list)) (sym target)
 
 -- ---- loops that add entries
 pub with_entries-row : (start : List BoundRef) (rows : List Row) (i : ℕ) (row : Row) (id : List ℕ) (entries new : List BoundRef) → i < length rows → row ≡ get_or rows i row

@@ -1,15 +1,15 @@
 -- What settling the texts of a list leaves.
-use Rattle.std.proofs.Common.{◌≡◌, ℕ, Bool, true, false, cond, ◌&&◌, List, [], ◌∷◌, find, map, Option, Some, None, Contains, bytes_eq, refl, sym, ap, ap₂, subst, ◌∙◌, inl, inr}
+use Rattle.std.proofs.Common.{◌≡◌, ℕ, Bool, true, false, cond, ◌&&◌, List, find, Option, Some, None, Contains, refl, sym, ap, subst, ◌∙◌, inl, inr}
 use Rattle.std.specs.List.{list_any}
 use Rattle.std.specs.Option.{option_map, option_or}
-use Rattle.std.proofs.lemmas.Bool.{and_parts, and_from, both_ways, cases_Bool, cond-true, cond-false}
+use Rattle.std.proofs.lemmas.Bool.{and_parts, and_from, cases_Bool, cond-true}
 use Rattle.std.proofs.lemmas.Slice.Eq.{bytes_eq-Decides}
 use Rattle.elem.specs.declared.parts.BoundRef.{BoundRef}
 use Rattle.elem.specs.Drawn.{Drawn}
 use Rattle.links.specs.Names.{has_id, id_of, is_text, is_id, can_hold_text, names_container, HaveDistinctIds}
 use Rattle.links.specs.Texts.{is_for_text, is_text_entry, listed_text, first_text, text_of, is_text_of, keeps_container, with_settled_container, settled_texts}
 use Rattle.links.proofs.Members.{same_bools, bytes_eq-refl, map-same, map-map, find-map, list_any-from, list_any-found, list_any-same, list_any-and, find-Some, find-narrow, one_of_id}
-use Rattle.links.proofs.Tabled.{list_any-map}
+use Rattle.links.proofs.Tabled.{list_any-map, held, not_held}
 
 -- ---- ids that are there
 pub is_id-from : (id : List ℕ) (o : Option (List ℕ)) → o ≡ Some id → is_id id o ≡ true
@@ -25,16 +25,7 @@ names-one e a b h k =
     let second = is_id-true b e.container (and_parts (is_text e.kind) (is_id b e.container) k).1 in
     cc (sym first ∙ second)
 
--- ---- the text of a container, by where it is found
-pub held : (list : List Drawn) (c : Drawn) → can_hold_text c.kind ≡ true → text_of list c ≡ option_or (listed_text list c) (first_text list c)
-unfolding text_of
-held list c h = cond-true (can_hold_text c.kind) (option_or (listed_text list c) (first_text list c)) None h
-
-pub not_held : (list : List Drawn) (c : Drawn) → can_hold_text c.kind ≡ false → text_of list c ≡ None
-unfolding text_of
-not_held list c h = cond-false (can_hold_text c.kind) (option_or (listed_text list c) (first_text list c)) None h
-
--- it names the container
+-- ---- the text of a container names it
 stands_from : (list : List Drawn) (c : Drawn) (id : List ℕ) (l : Option BoundRef) (f : Option Drawn) → find (is_text_entry list c) c.bound ≡ l → find (names_container c.id) list ≡ f
     → option_or (option_map (λ (entry : BoundRef). entry.id) l) (option_map id_of f) ≡ Some id → list_any (λ text. has_id id text && names_container c.id text) list ≡ true
 stands_from list c id (Some entry) f listed first is =

@@ -1,5 +1,5 @@
 -- Settling looks at no key and no stamp.
-use Rattle.std.proofs.Common.{◌≡◌, ℕ, Bool, cond, ◌&&◌, List, ◌++◌, find, filter, map, Option, Some, None, refl, sym, ap, ap₂, ◌∙◌}
+use Rattle.std.proofs.Common.{◌≡◌, ℕ, cond, ◌&&◌, List, ◌++◌, find, filter, map, Option, Some, None, refl, sym, ap, ap₂, ◌∙◌}
 use Rattle.std.specs.List.{list_any}
 use Rattle.std.specs.Option.{option_map, option_or}
 use Rattle.elem.specs.declared.kind.Role.{Role}
@@ -9,7 +9,7 @@ use Rattle.elem.specs.Drawn.{Drawn}
 use Rattle.links.specs.Names.{has_id, id_of, is_id, can_hold_text, names_container, target_of, is_target}
 use Rattle.links.specs.Entries.{arrow_entry, first_occurrences}
 use Rattle.links.specs.Texts.{is_for_text, is_text_entry, listed_text, first_text, text_of, is_text_of, keeps_container, with_settled_container, settled_texts}
-use Rattle.links.specs.Arrows.{names_target, settled_end, is_bound_to, is_true_as, is_true_entry, arrow_entries, text_entries, listing, with_settled_links, settled_arrows}
+use Rattle.links.specs.Arrows.{names_target, is_bound_to, is_true_as, arrow_entries, text_entries, listing, with_settled_links, settled_arrows}
 use Rattle.links.specs.Settled.{unplaced, settled_links}
 use Rattle.links.proofs.Members.{map-same, map-map, filter-map, find-map}
 use Rattle.links.proofs.Tabled.{list_any-map}

@@ -1,12 +1,12 @@
 -- Bound arrows and the listings of what they are bound to. This project's own, after Excalidraw's bindings.
-use Rattle.std.specs.Prelude.{ℕ, List, [], ◌∷◌, ◌++◌, Bool, true, false, ◌&&◌, Option, Some, None, filter, map, if◌then◌else◌}
+use Rattle.std.specs.Prelude.{ℕ, List, [], ◌∷◌, ◌++◌, Bool, false, ◌&&◌, Option, Some, None, filter, map, if◌then◌else◌}
 use Rattle.std.specs.List.{list_any}
 use Rattle.elem.specs.declared.kind.Role.{Role}
 use Rattle.elem.specs.declared.kind.Role.TheVariants.{Arrow, Text}
 use Rattle.elem.specs.declared.parts.BoundRef.{BoundRef}
 use Rattle.elem.specs.declared.parts.Binding.{Binding}
 use Rattle.elem.specs.Drawn.{Drawn}
-use Rattle.links.specs.Names.{has_id, id_of, is_id, target_of, is_target, has_end_at}
+use Rattle.links.specs.Names.{has_id, is_id, target_of, is_target, has_end_at}
 use Rattle.links.specs.Entries.{arrow_entry, text_entry, first_occurrences}
 use Rattle.links.specs.Texts.{text_of}
 

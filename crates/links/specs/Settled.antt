@@ -1,5 +1,5 @@
 -- What holds of a list whose links are settled, and what settling leaves as it is. This project's own.
-use Rattle.std.specs.Prelude.{◌≡◌, ℕ, ◌≤◌, List, [], Bool, true, Some, None, Contains, IfSome, filter, length, map}
+use Rattle.std.specs.Prelude.{◌≡◌, ◌≤◌, List, [], true, false, Some, None, Contains, IfSome, filter, length}
 use Rattle.elem.specs.declared.parts.BoundRef.{BoundRef}
 use Rattle.elem.specs.declared.parts.Binding.{Binding}
 use Rattle.elem.specs.Drawn.{Drawn}
@@ -41,6 +41,16 @@ unlinked e = record e { bound = []; container = None; start_binding = None; end_
 abbrev pub settled_links : List Drawn → List Drawn
 settled_links list = settled_arrows (settled_texts list)
 
--- the element without its key and its stamp
+-- the element without what settling doesn't look at: all but its id, its kind, its listing, its container and its bindings
 abbrev pub unplaced : Drawn → Drawn
-unplaced e = record e { version = 0; nonce = 0; updated = 0; index = None }
+unplaced e = record e {
+  version = 0;
+  nonce = 0;
+  updated = 0;
+  deleted = false;
+  index = None;
+  groups = [];
+  frame = None;
+  file = None;
+  rest = [];
+}

@@ -4,7 +4,6 @@ use Rattle.std.specs.Prelude.{◌≡◌, ℕ, List, [], ◌∷◌, ◌++◌, Boo
 use Rattle.std.specs.List.Sorted.{IsSortedBy}
 use Rattle.frac_keys.specs.Keys.{bytes_less}
 use Rattle.elem.specs.Drawn.{Drawn}
-use denote.Ref.{Bor}
 use Rattle.std.specs.BTreeSet.{BTreeSet}
 use Rattle.std.specs.Cmp.Lexicographic.{slice_cmp}
 use Rattle.std.specs.List.{list_any}
@@ -45,8 +44,8 @@ pub record AreTables (list : List Drawn) (by_id by_container by_end : List Row) 
   pub arrows : IsTable has_end_at list by_end
 
 -- whether an id is among those that were seen
-abbrev pub has_seen : BTreeSet (Bor (List ℕ)) → List ℕ → Bool
-has_seen seen id = list_any (λ key. is_eq (slice_cmp nat_cmp id key.now)) seen.keys
+abbrev pub has_seen : BTreeSet (List ℕ) → List ℕ → Bool
+has_seen seen id = list_any (λ key. is_eq (slice_cmp nat_cmp id key)) seen.keys
 
 -- entries and one more, which is added where it is missing
 abbrev pub with_entry : List BoundRef → BoundRef → List BoundRef
@@ -57,7 +56,7 @@ with_entries entries [] = entries
 with_entries entries (entry ∷ others) = with_entries (with_entry entries entry) others
 
 -- The ids that were seen are those of the entries.
-pub record AreSeen (entries : List BoundRef) (arrows texts : BTreeSet (Bor (List ℕ))) : Type 0 where
+pub record AreSeen (entries : List BoundRef) (arrows texts : BTreeSet (List ℕ)) : Type 0 where
   pub arrow_ids : (id : List ℕ) → has_seen arrows id ≡ lists entries (arrow_entry id)
   pub text_ids : (id : List ℕ) → has_seen texts id ≡ lists entries (text_entry id)
 

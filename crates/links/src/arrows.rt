@@ -75,7 +75,7 @@ impl<'a> Names<'a> {
     /// Adds the true entries of an element's own listing.
     fn add_own(
         &self,
-        listing: &mut Listing<'a>,
+        listing: &mut Listing,
         e: &'a Element,
         text: Option<&Text>,
     ) -> Result<(), AllocError>
@@ -94,7 +94,7 @@ impl<'a> Names<'a> {
     }
 
     /// Adds the entries of the arrows that are bound to an element.
-    fn add_arrows(&self, listing: &mut Listing<'a>, e: &Element) -> Result<(), AllocError>
+    fn add_arrows(&self, listing: &mut Listing, e: &Element) -> Result<(), AllocError>
         requires { AreSeen listing.old.entries.items listing.old.arrows listing.old.texts }
         ensures entries { OnOk result (listing.new.entries.items ≡ with_entries listing.old.entries.items (words.arrow_entries self.now e.now)) }
         ensures seen { OnOk result (AreSeen listing.new.entries.items listing.new.arrows listing.new.texts) }

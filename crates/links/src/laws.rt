@@ -29,7 +29,8 @@ pub fn other_parts_stay()
     ensures { (list : List Drawn) → map unlinked (settled_links list) ≡ map unlinked list }
 {}
 
-/// Settling looks at no key and no stamp: with others in their place it leaves the same.
-pub fn keys_and_stamps_play_no_part()
+/// Settling looks at ids, kinds, listings, containers and bindings alone: with other keys, stamps, groups, frames and
+/// further members it leaves the same.
+pub fn other_parts_play_no_part()
     ensures { (list : List Drawn) → settled_links (map unplaced list) ≡ map unplaced (settled_links list) }
 {}

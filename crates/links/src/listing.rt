@@ -10,15 +10,15 @@ use std::collections::BTreeSet;
 
 /// Entries, with the ids of those of arrows and of those of texts.
 #[derive(Drop)]
-pub(crate) struct Listing<'a> {
+pub(crate) struct Listing {
     pub(crate) entries: Vec<BoundRef>,
-    pub(crate) arrows: BTreeSet<&'a Text>,
-    pub(crate) texts: BTreeSet<&'a Text>,
+    pub(crate) arrows: BTreeSet<Text>,
+    pub(crate) texts: BTreeSet<Text>,
 }
 
-impl<'a> Listing<'a> {
+impl Listing {
     /// Without an entry.
-    pub(crate) fn new(alloc: Global) -> Listing<'a>
+    pub(crate) fn new(alloc: Global) -> Listing
         ensures empty { result.entries.items ≡ [] }
         ensures seen { AreSeen result.entries.items result.arrows result.texts }
     {
@@ -30,7 +30,7 @@ impl<'a> Listing<'a> {
     }
 
     /// Adds an entry where it is missing.
-    pub(crate) fn add(&mut self, id: &'a Text, role: Role) -> Result<(), AllocError>
+    pub(crate) fn add(&mut self, id: &Text, role: Role) -> Result<(), AllocError>
         requires { AreSeen self.old.entries.items self.old.arrows self.old.texts }
         ensures entries { OnOk result (self.new.entries.items ≡ with_entry self.old.entries.items (record { id = id.now; role = role })) }
         ensures seen { OnOk result (AreSeen self.new.entries.items self.new.arrows self.new.texts) }
@@ -52,11 +52,11 @@ impl<'a> Listing<'a> {
 }
 
 /// Notes that an id is seen, and tells whether it is for the first time.
-fn see<'a>(seen: &mut BTreeSet<&'a Text>, id: &'a Text) -> Result<bool, AllocError>
+fn see(seen: &mut BTreeSet<Text>, id: &Text) -> Result<bool, AllocError>
     ensures first { IfOk result (λ first. first ≡ not (has_seen seen.old id.now)) }
     ensures seen { OnOk result ((other : Items ℕ) → has_seen seen.new other ≡ (bytes_eq other id.now || has_seen seen.old other)) }
 {
-    Ok(seen.insert(id)?)
+    Ok(seen.insert(id.try_clone()?)?)
 }
 
 /// Adds an entry.

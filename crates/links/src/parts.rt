@@ -1,7 +1,7 @@
 //! What an element is and what it names.
 
 ghost use Rattle.std.specs.Prelude.{◌≡◌};
-ghost use Rattle.std.specs.Option.{option_copied, option_map};
+ghost use Rattle.std.specs.Option.{option_copied};
 ghost use Rattle.links.specs.Names as names;
 ghost use Rattle.links.specs.Texts as texts;
 

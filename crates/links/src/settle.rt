@@ -1,6 +1,6 @@
 //! Settling the links of a list of elements.
 
-ghost use Rattle.std.specs.Prelude.{◌≡◌, map, None, IfOk, if◌then◌else◌};
+ghost use Rattle.std.specs.Prelude.{◌≡◌, map, IfOk};
 ghost use Rattle.std.specs.List.{zip};
 ghost use Rattle.links.specs.Arrows.{settled_arrows};
 ghost use Rattle.links.specs.Names.{HaveDistinctIds};

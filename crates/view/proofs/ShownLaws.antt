@@ -1,4 +1,4 @@
--- What is shown: the live elements in scene order, with rising keys; and the view of a view is that view.
+-- What is shown: the live elements in scene order, with rising keys, and settled; and the view of a view is that view.
 use Rattle.std.proofs.Common.{◌≡◌, ℕ, zero, suc, ◌+◌, ◌<◌, Bool, true, false, ◌&&◌, cond, List, [], ◌∷◌, ◌++◌, length, map, get_or, take, append-nil, Option, Some, None, bytes_eq, refl, sym, ap, ap₂, ◌∙◌, subst, subst₂, arith}
 use Rattle.std.proofs.lemmas.List.{length-map}
 use Rattle.std.specs.Prelude.{filter, slice_get}
@@ -22,7 +22,10 @@ use Rattle.index_repair.proofs.RepairLaws.{repaired-law, repaired-rising}
 use Rattle.elem.specs.Drawn.{Drawn}
 use Rattle.elem_store.specs.Updates.{ids_of}
 use Rattle.elem_store.proofs.Rising.{less-other}
-use Rattle.view.specs.Shown.{is_live, live_elements, place_less, comes_before, in_scene_order, AreInSceneOrder, IsSceneOrder, HaveDistinctIds, index_of, keyed, shown, HaveKeysOrNone, HaveRisingKeys, without_index, with_index, IsView}
+use Rattle.view.specs.Shown.{is_live, live_elements, place_less, comes_before, in_scene_order, AreInSceneOrder, IsSceneOrder, HaveDistinctIds, index_of, keyed, placed, shown, bare, HaveKeysOrNone, HaveRisingKeys, without_index, with_index, IsView}
+use Rattle.links.proofs.Members.{map-map}
+use Rattle.view.specs.Settled.{settled, unsettled, AreSettled}
+use Rattle.view.proofs.SettledLaws.{map-less, unsettled-settled, settled-are, settled-again}
 use Rattle.view.proofs.SceneOrder.{IsPermutation-in_scene_order, in_scene_order-only, in_scene_order-permuted, in_scene_order-is}
 
 -- ---- ids that rise
@@ -130,16 +133,16 @@ keys_of_live live h =
     repaired-law (map index_of (in_scene_order live))
     (list_all-permuted is_key_or_none (map index_of live) (map index_of (in_scene_order live)) (IsPermutation-map index_of live (in_scene_order live) (IsPermutation-in_scene_order live)) h)
 
-pub record IsShown (live elements : List Drawn) : Type 0 where
+record IsPlaced (live elements : List Drawn) : Type 0 where
   pub keys : HaveRisingKeys elements
   pub along : ids_of elements ≡ ids_of (in_scene_order live)
   pub ids : IsPermutation (ids_of live) (ids_of elements)
   pub others : IsPermutation (map without_index live) (map without_index elements)
   pub stay_live : list_all is_live live ≡ true → list_all is_live elements ≡ true
 
-pub shown-is : (live : List Drawn) → HaveKeysOrNone live → IsShown live (shown live)
-unfolding shown
-shown-is live h =
+placed-is : (live : List Drawn) → HaveKeysOrNone live → IsPlaced live (placed live)
+unfolding placed
+placed-is live h =
     let ordered = in_scene_order live in
     let keys = repaired (map index_of ordered) in
     let moved = IsPermutation-in_scene_order live in
@@ -154,14 +157,14 @@ shown-is live h =
     }
 
 -- ---- the order of the elements plays no part
-pub shown-permuted : (live others : List Drawn) → HaveDistinctIds live → IsPermutation live others → shown others ≡ shown live
-unfolding shown
-shown-permuted live others apart moved = ap (λ ordered. keyed ordered (repaired (map index_of ordered))) (in_scene_order-permuted live others apart moved)
+placed-permuted : (live others : List Drawn) → HaveDistinctIds live → IsPermutation live others → placed others ≡ placed live
+unfolding placed
+placed-permuted live others apart moved = ap (λ ordered. keyed ordered (repaired (map index_of ordered))) (in_scene_order-permuted live others apart moved)
 
--- ---- the view of a view is that view
-shown-rising : (es : List Drawn) → HaveDistinctIds es → HaveRisingKeys es → shown es ≡ es
-unfolding shown
-shown-rising es apart h =
+-- ---- elements that are placed stay in their places
+placed-rising : (es : List Drawn) → HaveDistinctIds es → HaveRisingKeys es → placed es ≡ es
+unfolding placed
+placed-rising es apart h =
     let sorted : in_scene_order es ≡ es = sym (in_scene_order-only es es apart (IsPermutation-refl es) (AreInSceneOrder-from_keys es h)) in
     let keys : repaired (map index_of es) ≡ h.keys = ap repaired h.each ∙ repaired-rising h.keys h.rise in
     ap (λ ordered. keyed ordered (repaired (map index_of ordered))) sorted ∙ (ap (keyed es) keys ∙ keyed-own es h.keys h.each)
@@ -172,20 +175,73 @@ all_pass p (x ∷ xs) h =
     let both = and_parts (p x) (list_all p xs) h in
     cond-true (p x) (x ∷ filter p xs) (filter p xs) both.0 ∙ ap (λ ys. x ∷ ys) (all_pass p xs both.1)
 
+-- ---- what is shown of live elements
+list_all-of : {X : Type 0} (p : X → Bool) (xs : List X) → list_all p xs ≡ list_all (λ (b : Bool). b) (map p xs)
+list_all-of p [] = refl
+list_all-of p (x ∷ xs) = ap (λ b. p x && b) (list_all-of p xs)
+
+-- what settling leaves as it is is the same of what is shown and of what was placed
+same_part : {A : Type 0} (part : Drawn → A) (live : List Drawn) → map (λ e. part (unsettled e)) (shown live) ≡ map (λ e. part (unsettled e)) (placed live)
+unfolding shown
+same_part part live = map-less unsettled part (settled (placed live)) (placed live) (unsettled-settled (placed live))
+
+pub shown-keys : (live : List Drawn) → HaveKeysOrNone live → HaveRisingKeys (shown live)
+shown-keys live h =
+    let keys = (placed-is live h).keys in
+    record { keys = keys.keys; each = same_part index_of live ∙ keys.each; rise = keys.rise }
+
+pub record IsShown (live elements : List Drawn) : Type 0 where
+  pub along : ids_of elements ≡ ids_of (in_scene_order live)
+  pub ids : IsPermutation (ids_of live) (ids_of elements)
+  pub others : IsPermutation (map bare live) (map bare elements)
+  pub stay_live : list_all is_live live ≡ true → list_all is_live elements ≡ true
+
+pub shown-is : (live : List Drawn) → HaveKeysOrNone live → IsShown live (shown live)
+shown-is live h =
+    let is = placed-is live h in
+    let ids : ids_of (shown live) ≡ ids_of (placed live) = same_part (λ (e : Drawn). e.id) live in
+    let others = IsPermutation-map unsettled (map without_index live) (map without_index (placed live)) is.others in
+    record {
+      along = ids ∙ is.along;
+      ids = subst (IsPermutation (ids_of live)) (sym ids) is.ids;
+      others = subst₂ IsPermutation (map-map unsettled without_index live) (map-map unsettled without_index (placed live) ∙ sym (same_part without_index live)) others;
+      stay_live = λ all. list_all-of is_live (shown live) ∙ (ap (list_all (λ (b : Bool). b)) (same_part is_live live) ∙ (sym (list_all-of is_live (placed live)) ∙ is.stay_live all));
+    }
+
+pub placed-distinct : (live : List Drawn) → HaveDistinctIds live → HaveKeysOrNone live → HaveDistinctIds (placed live)
+placed-distinct live apart h =
+    IsDistinct-IsPermutation bytes_eq nat_list_eq_equiv.symm (ids_of live) (ids_of (placed live)) (placed-is live h).ids apart
+
+pub shown-settled : (live : List Drawn) → HaveDistinctIds live → HaveKeysOrNone live → AreSettled (shown live)
+unfolding shown
+shown-settled live apart h = settled-are (placed live) (placed-distinct live apart h)
+
+-- ---- the order of the elements plays no part
+pub shown-permuted : (live others : List Drawn) → HaveDistinctIds live → IsPermutation live others → shown others ≡ shown live
+unfolding shown
+shown-permuted live others apart moved = ap settled (placed-permuted live others apart moved)
+
+-- ---- the view of a view is that view
+shown-shown : (live : List Drawn) → HaveDistinctIds live → HaveKeysOrNone live → HaveDistinctIds (shown live) → shown (shown live) ≡ shown live
+unfolding shown
+shown-shown live apart h distinct =
+    ap settled (placed-rising (shown live) distinct (shown-keys live h)) ∙ settled-again (placed live) (placed-distinct live apart h)
+
 pub shown-again : (live others : List Drawn) → HaveDistinctIds live → HaveKeysOrNone live → list_all is_live live ≡ true → IsPermutation (shown live) others
     → shown (live_elements others) ≡ shown live
 shown-again live others apart h all moved =
     let is = shown-is live h in
     let distinct : HaveDistinctIds (shown live) = IsDistinct-IsPermutation bytes_eq nat_list_eq_equiv.symm (ids_of live) (ids_of (shown live)) is.ids apart in
     let passed : live_elements others ≡ others = all_pass is_live others (list_all-permuted is_live (shown live) others moved (is.stay_live all)) in
-    ap shown passed ∙ (shown-permuted (shown live) others distinct moved ∙ shown-rising (shown live) distinct is.keys)
+    ap shown passed ∙ (shown-permuted (shown live) others distinct moved ∙ shown-shown live apart h distinct)
 
 -- ---- for the code
 pub record IsViewOf (live elements : List Drawn) : Type 0 where
   pub keys : HaveRisingKeys elements
   pub order : (ordered : List Drawn) × IsSceneOrder live ordered × (ids_of elements ≡ ids_of ordered)
   pub ids : IsPermutation (ids_of live) (ids_of elements)
-  pub others : IsPermutation (map without_index live) (map without_index elements)
+  pub others : IsPermutation (map bare live) (map bare elements)
+  pub are_settled : AreSettled elements
   pub again : (stored : List Drawn) → IsPermutation elements stored → shown (live_elements stored) ≡ elements
 
 pub IsViewOf-from : (live elements : List Drawn) → IsView live elements → IsViewOf live elements
@@ -193,10 +249,11 @@ IsViewOf-from live elements view =
     let is = shown-is live view.keys in
     let apart = HaveDistinctIds-rising live view.ordered in
     subst (IsViewOf live) (sym view.exact) (record {
-      keys = is.keys;
+      keys = shown-keys live view.keys;
       order = (in_scene_order live, in_scene_order-is live apart, is.along);
       ids = is.ids;
       others = is.others;
+      are_settled = shown-settled live apart view.keys;
       again = λ stored moved. shown-again live stored apart view.keys view.all_live moved;
     })
 
@@ -223,17 +280,17 @@ within_stored (e ∷ stored) (suc i) l h = within_stored stored i (omega arith) 
 pub live_elements-live : (stored : List Drawn) → list_all is_live (live_elements stored) ≡ true
 live_elements-live stored = list_all-from_AllPass is_live (live_elements stored) (filter_passes is_live stored)
 
--- the steps by which the shown elements are made
+-- the steps by which the placed elements are made
 keyed-zip : (es : List Drawn) (keys : List (List ℕ)) → map (λ (p : Drawn × List ℕ). with_index p.0 p.1) (zip es keys) ≡ keyed es keys
 keyed-zip [] [] = refl
 keyed-zip [] (key ∷ keys) = refl
 keyed-zip (e ∷ es) [] = refl
 keyed-zip (e ∷ es) (key ∷ keys) = ap (λ fs. with_index e key ∷ fs) (keyed-zip es keys)
 
-pub shown-made : (live ordered new : List Drawn) (indices : List (Option (List ℕ))) (keys : List (List ℕ))
-    → ordered ≡ in_scene_order live → indices ≡ map index_of ordered → keys ≡ repaired indices → new ≡ map (λ (p : Drawn × List ℕ). with_index p.0 p.1) (zip ordered keys) → new ≡ shown live
-unfolding shown
-shown-made live ordered new indices keys sorted read repair made =
+pub placed-made : (live ordered new : List Drawn) (indices : List (Option (List ℕ))) (keys : List (List ℕ))
+    → ordered ≡ in_scene_order live → indices ≡ map index_of ordered → keys ≡ repaired indices → new ≡ map (λ (p : Drawn × List ℕ). with_index p.0 p.1) (zip ordered keys) → new ≡ placed live
+unfolding placed
+placed-made live ordered new indices keys sorted read repair made =
     made ∙ (keyed-zip ordered keys ∙ (ap (keyed ordered) (repair ∙ ap repaired read) ∙ ap (λ es. keyed es (repaired (map index_of es))) sorted))
 
 pub keys-made : (live ordered : List Drawn) (indices : List (Option (List ℕ))) → ordered ≡ in_scene_order live → indices ≡ map index_of ordered → list_all is_key_or_none indices ≡ true → HaveKeysOrNone live

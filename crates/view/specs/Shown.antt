@@ -1,7 +1,4 @@
 -- What a board shows of its stored elements. The order of ids and the repair are this project's own.
---
--- Here an element is shown as it is stored, but for its key. That is all on plain elements; the rules on texts in
--- containers, bound arrows, frames and groups join `shown` later, as further steps over the whole list.
 use Rattle.std.specs.Prelude.{◌≡◌, ℕ, List, [], ◌∷◌, Bool, true, false, not, ◌&&◌, ◌||◌, Option, Some, None, filter, map, bytes_eq, if◌then◌else◌, AllPairs, IsPermutation}
 use Rattle.std.specs.List.{list_all, IsDistinct}
 use Rattle.frac_keys.specs.Keys.{bytes_less}
@@ -9,6 +6,7 @@ use Rattle.frac_keys.specs.Rising.{are_rising}
 use Rattle.index_repair.specs.Repair.{repaired, is_key_or_none}
 use Rattle.elem.specs.Drawn.{Drawn}
 use Rattle.elem_store.specs.Updates.{ids_of}
+use Rattle.view.specs.Settled.{settled, unsettled}
 
 -- the live elements: those that aren't deleted
 abbrev pub is_live : Drawn → Bool
@@ -67,8 +65,12 @@ keyed (e ∷ elements) [] = []
 keyed (e ∷ elements) (key ∷ keys) = with_index e key ∷ keyed elements keys
 
 -- the live elements in scene order, with repaired keys
+unfoldable pub placed : List Drawn → List Drawn
+placed live = let ordered = in_scene_order live in keyed ordered (repaired (map index_of ordered))
+
+-- what a board shows of its live elements: they are placed, and then their links, frames and groups are settled
 unfoldable pub shown : List Drawn → List Drawn
-shown live = let ordered = in_scene_order live in keyed ordered (repaired (map index_of ordered))
+shown live = settled (placed live)
 
 -- each index is a key, if it is there
 abbrev pub HaveKeysOrNone : List Drawn → Type 0
@@ -80,9 +82,12 @@ pub record HaveRisingKeys (elements : List Drawn) : Type 0 where
   pub each : map index_of elements ≡ map Some keys
   pub rise : are_rising keys ≡ true
 
--- the element without its key
+-- the element without its key, and without that and what settling may change
 abbrev pub without_index : Drawn → Drawn
 without_index e = record e { index = None }
+
+abbrev pub bare : Drawn → Drawn
+bare e = unsettled (without_index e)
 
 -- These elements are what is shown of the live ones, which are in the order of their ids.
 pub record IsView (live elements : List Drawn) : Type 0 where

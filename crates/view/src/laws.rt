@@ -5,6 +5,7 @@ ghost use Rattle.std.specs.List.{list_all};
 ghost use Rattle.frac_keys.specs.Rising.{are_rising};
 ghost use Rattle.elem.specs.Drawn.{Drawn};
 ghost use Rattle.elem_store.specs.Updates.{ids_of};
+ghost use Rattle.view.specs.Settled.{AreSettled};
 ghost use Rattle.view.specs.Shown.{is_live, live_elements, in_scene_order, IsSceneOrder, HaveDistinctIds, HaveKeysOrNone, HaveRisingKeys, shown};
 
 /// The scene order is the one permutation in which each element comes before those behind it.
@@ -28,6 +29,11 @@ pub fn given_order_plays_no_part()
 /// The keys of what is shown rise strictly.
 pub fn shown_keys_rise()
     ensures { (live : List Drawn) → HaveKeysOrNone live → HaveRisingKeys (shown live) }
+{}
+
+/// What is shown agrees on its links, frames and groups.
+pub fn shown_elements_are_settled()
+    ensures { (live : List Drawn) → HaveDistinctIds live → HaveKeysOrNone live → AreSettled (shown live) }
 {}
 
 /// The view of a view is that view, in whatever order its elements are stored.

@@ -5,14 +5,17 @@ ghost use Rattle.std.specs.List.{zip};
 ghost use Rattle.frac_keys.specs.Rising.{are_rising};
 ghost use Rattle.elem.specs.Drawn.{Drawn};
 ghost use Rattle.elem_store.specs.Updates.{ids_of};
-ghost use Rattle.view.specs.Shown.{is_live, live_elements, index_of, shown, with_index, HaveDistinctIds, HaveKeysOrNone, HaveRisingKeys, IsSceneOrder, without_index};
+ghost use Rattle.view.specs.Settled.{AreSettled};
+ghost use Rattle.view.specs.Shown.{is_live, live_elements, index_of, placed, shown, with_index, HaveDistinctIds, HaveKeysOrNone, HaveRisingKeys, IsSceneOrder, bare};
 
 use crate::order;
 use board_io::List;
 use elem::Element;
 use elem_store::Store;
 use frac_keys::Key;
+use frames_groups::{settle_frames, settle_groups};
 use index_repair::repair;
+use links::{settle_arrows, settle_texts};
 use std::alloc::{AllocError, Global};
 use std::marker::Model;
 
@@ -45,13 +48,15 @@ pub fn view_of(alloc: Global, store: &Store) -> Result<View, AllocError>
 }
 
 impl View {
-    /// What is shown: the live elements in scene order, with repaired keys. It takes no memory.
+    /// What is shown: the live elements in scene order, with repaired keys, and with links, frames and groups that agree.
+    /// It takes no memory.
     pub fn elements(&self) -> &[Element]
         ensures exact { result.now ≡ shown self.now }
         ensures keys { HaveRisingKeys result.now }
         ensures order { (ordered : Items Drawn) × IsSceneOrder self.now ordered × (ids_of result.now ≡ ids_of ordered) }
         ensures ids { IsPermutation (ids_of self.now) (ids_of result.now) }
-        ensures others { IsPermutation (map without_index self.now) (map without_index result.now) }
+        ensures others { IsPermutation (map bare self.now) (map bare result.now) }
+        ensures settled { AreSettled result.now }
 
         // The view of these elements, in any order, is this view.
         ensures again { (stored : Items Drawn) → IsPermutation result.now stored → shown (live_elements stored) ≡ result.now }
@@ -83,10 +88,25 @@ fn is_live(e: &Element) -> bool
     !e.deleted
 }
 
-/// The elements in scene order, with repaired keys.
+/// What is shown of the live elements: they are placed, and then texts, arrows, frames and groups are settled.
+#[tactic(auto, unfolding(crate::specs::Shown::shown, crate::specs::Settled::settled))]
 fn shown_of(alloc: Global, live: &List<Element>) -> Result<List<Element>, AllocError>
     requires { HaveDistinctIds live.now }
     ensures exact { IfOk result (λ new. new ≡ shown live.now) }
+    ensures keys { IfOk result (λ _. HaveKeysOrNone live.now) }
+{
+    let elements = placed_of(alloc, live)?;
+    let elements = settle_texts(alloc, elements)?;
+    let elements = settle_arrows(alloc, elements)?;
+    let elements = settle_frames(alloc, elements)?;
+    settle_groups(alloc, elements)
+}
+
+/// The elements in scene order, with repaired keys.
+fn placed_of(alloc: Global, live: &List<Element>) -> Result<List<Element>, AllocError>
+    requires { HaveDistinctIds live.now }
+    ensures exact { IfOk result (λ new. new ≡ placed live.now) }
+    ensures distinct { IfOk result HaveDistinctIds }
     ensures keys { IfOk result (λ _. HaveKeysOrNone live.now) }
 {
     let mut ordered = live.try_clone_with(Element::try_clone)?.into_vec();

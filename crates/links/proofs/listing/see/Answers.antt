@@ -5,5 +5,5 @@ use Rattle.links.proofs.listing.see.Goals as goal
 
 pub returns-clause-seen : goal.returns-clause-seen
 returns-clause-seen c = λ other.
-    c.in_ok-insert.ensures.updates.0 (record { ref_ptr = (0, 0); now = other })
+    rw c.in_ok-try_clone.ensures at c.in_ok-insert.ensures.updates.0 other
     ∙ seen-more c.args.id.now other (has_seen c.args.seen.now other)

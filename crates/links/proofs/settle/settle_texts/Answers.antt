@@ -1,6 +1,5 @@
 use Rattle.std.proofs.Common.{◌≡◌, map, ap, ◌∙◌}
 use Rattle.std.specs.List.{zip}
-use Rattle.links.specs.Names.{HaveDistinctIds}
 use Rattle.links.specs.Tables.{with_container}
 use Rattle.links.specs.Texts.{keeps_container, settled_texts}
 use Rattle.links.proofs.SettledLaws.{unlinked-texts, distinct-texts}

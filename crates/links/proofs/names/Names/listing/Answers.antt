@@ -1,6 +1,5 @@
-use Rattle.std.proofs.Common.{◌≡◌, List, sym, ap, ◌∙◌}
+use Rattle.std.proofs.Common.{◌≡◌, sym, ap, ◌∙◌}
 use Rattle.std.specs.Option.{option_copied}
-use Rattle.elem.specs.declared.parts.BoundRef.{BoundRef}
 use Rattle.links.specs.Arrows.{text_entries, listing}
 use Rattle.links.specs.Tables.{with_entries}
 use Rattle.links.specs.Texts.{text_of}

@@ -1,7 +1,6 @@
-use Rattle.std.proofs.Common.{take}
+use Rattle.std.proofs.Common.{List, take}
 use Rattle.links.specs.Names.{has_id, names_container, has_end_at}
 use Rattle.links.specs.declared.table.Row.{Row}
-use Rattle.std.proofs.Common.{ℕ, List}
 use Rattle.elem.specs.Drawn.{Drawn}
 use Rattle.links.proofs.Tabled.{HasUnder}
 use Rattle.links.proofs.names.Names.of.Given as goal

@@ -15,3 +15,6 @@ returns-clause-others c = rw (← c.self.view_is, c.as_slice.ensures) (IsViewOf-
 
 pub returns-clause-again : goal.returns-clause-again
 returns-clause-again c = rw c.as_slice.ensures (IsViewOf-from _ _ c.self.invariant).again
+
+pub returns-clause-settled : goal.returns-clause-settled
+returns-clause-settled c = rw c.as_slice.ensures (IsViewOf-from _ _ c.self.invariant).are_settled
