@@ -2,7 +2,6 @@
 use Rattle.std.proofs.Common.{◌≡◌, ℕ, zero, suc, ◌+◌, ◌<◌, Bool, true, false, ◌&&◌, cond, List, [], ◌∷◌, ◌++◌, length, map, get_or, take, append-nil, Option, Some, None, bytes_eq, refl, sym, ap, ap₂, ◌∙◌, subst, subst₂, arith}
 use Rattle.std.proofs.lemmas.List.{length-map}
 use Rattle.std.specs.Prelude.{filter, slice_get}
-use Rattle.std.specs.List.{zip}
 use Rattle.std.specs.List.{AllByRecursion, IsDistinct, list_all}
 use Rattle.std.specs.List.Sorted.{IsPermutation}
 use Rattle.std.specs.Cmp.Lexicographic.{nat_list_eq_equiv}
@@ -22,7 +21,7 @@ use Rattle.index_repair.proofs.RepairLaws.{repaired-law, repaired-rising}
 use Rattle.elem.specs.Drawn.{Drawn}
 use Rattle.elem_store.specs.Updates.{ids_of}
 use Rattle.elem_store.proofs.Rising.{less-other}
-use Rattle.view.specs.Shown.{is_live, live_elements, place_less, comes_before, in_scene_order, AreInSceneOrder, IsSceneOrder, HaveDistinctIds, index_of, keyed, placed, shown, bare, HaveKeysOrNone, HaveRisingKeys, without_index, with_index, IsView}
+use Rattle.view.specs.Shown.{is_live, live_elements, place_less, comes_before, in_scene_order, AreInSceneOrder, IsSceneOrder, HaveDistinctIds, index_of, keyed, placed, shown, bare, HaveKeysOrNone, HaveRisingKeys, without_index, IsView}
 use Rattle.links.proofs.Members.{map-map}
 use Rattle.view.specs.Settled.{settled, unsettled, AreSettled}
 use Rattle.view.proofs.SettledLaws.{map-less, unsettled-settled, settled-are, settled-again}
@@ -280,21 +279,8 @@ within_stored (e ∷ stored) (suc i) l h = within_stored stored i (omega arith) 
 pub live_elements-live : (stored : List Drawn) → list_all is_live (live_elements stored) ≡ true
 live_elements-live stored = list_all-from_AllPass is_live (live_elements stored) (filter_passes is_live stored)
 
--- the steps by which the placed elements are made
-keyed-zip : (es : List Drawn) (keys : List (List ℕ)) → map (λ (p : Drawn × List ℕ). with_index p.0 p.1) (zip es keys) ≡ keyed es keys
-keyed-zip [] [] = refl
-keyed-zip [] (key ∷ keys) = refl
-keyed-zip (e ∷ es) [] = refl
-keyed-zip (e ∷ es) (key ∷ keys) = ap (λ fs. with_index e key ∷ fs) (keyed-zip es keys)
-
-pub placed-made : (live ordered new : List Drawn) (indices : List (Option (List ℕ))) (keys : List (List ℕ))
-    → ordered ≡ in_scene_order live → indices ≡ map index_of ordered → keys ≡ repaired indices → new ≡ map (λ (p : Drawn × List ℕ). with_index p.0 p.1) (zip ordered keys) → new ≡ placed live
-unfolding placed
-placed-made live ordered new indices keys sorted read repair made =
-    made ∙ (keyed-zip ordered keys ∙ (ap (keyed ordered) (repair ∙ ap repaired read) ∙ ap (λ es. keyed es (repaired (map index_of es))) sorted))
-
-pub keys-made : (live ordered : List Drawn) (indices : List (Option (List ℕ))) → ordered ≡ in_scene_order live → indices ≡ map index_of ordered → list_all is_key_or_none indices ≡ true → HaveKeysOrNone live
-keys-made live ordered indices sorted read h =
+-- where the elements in scene order have keys or none, they have in any order
+pub keys-placed : (live : List Drawn) → HaveKeysOrNone (in_scene_order live) → HaveKeysOrNone live
+keys-placed live h =
     let moved = IsPermutation-map index_of live (in_scene_order live) (IsPermutation-in_scene_order live) in
-    list_all-permuted is_key_or_none (map index_of (in_scene_order live)) (map index_of live) (IsPermutation-sym _ _ moved)
-    (subst (λ keys. list_all is_key_or_none keys ≡ true) (read ∙ ap (map index_of) sorted) h)
+    list_all-permuted is_key_or_none (map index_of (in_scene_order live)) (map index_of live) (IsPermutation-sym _ _ moved) h

@@ -1,10 +1,12 @@
 //! What a board shows of its stored elements: the live ones, in scene order, with strictly rising keys.
 #![tactic(auto)]
 
+mod keys;
 pub mod laws;
 mod order;
 #[cfg(test)]
 mod tests;
 mod view;
 
+pub use keys::with_repaired_keys;
 pub use view::{View, view_of};

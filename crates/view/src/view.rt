@@ -1,20 +1,18 @@
 //! The view of a board.
 
 ghost use Rattle.std.specs.Prelude.{◌≡◌, List as Items, true, length, map, Some, IfOk, IsPermutation, bytes_eq, IsTrue};
-ghost use Rattle.std.specs.List.{zip};
 ghost use Rattle.frac_keys.specs.Rising.{are_rising};
 ghost use Rattle.elem.specs.Drawn.{Drawn};
 ghost use Rattle.elem_store.specs.Updates.{ids_of};
 ghost use Rattle.view.specs.Settled.{AreSettled};
-ghost use Rattle.view.specs.Shown.{is_live, live_elements, index_of, placed, shown, with_index, HaveDistinctIds, HaveKeysOrNone, HaveRisingKeys, IsSceneOrder, bare};
+ghost use Rattle.view.specs.Shown.{is_live, live_elements, placed, shown, HaveDistinctIds, HaveKeysOrNone, HaveRisingKeys, IsSceneOrder, bare};
 
+use crate::keys::with_repaired_keys;
 use crate::order;
 use board_io::List;
 use elem::Element;
 use elem_store::Store;
-use frac_keys::Key;
 use frames_groups::{settle_frames, settle_groups};
-use index_repair::repair;
 use links::{settle_arrows, settle_texts};
 use std::alloc::{AllocError, Global};
 use std::marker::Model;
@@ -111,47 +109,5 @@ fn placed_of(alloc: Global, live: &List<Element>) -> Result<List<Element>, Alloc
 {
     let mut ordered = live.try_clone_with(Element::try_clone)?.into_vec();
     order::sort(&mut ordered)?;
-    let keys = repair(alloc, &indices_of(alloc, &ordered)?)?;
-    Ok(List::from_vec(with_keys(alloc, ordered, keys.into_vec())?))
-}
-
-/// The indices of the elements, copied.
-fn indices_of(alloc: Global, elements: &Vec<Element>) -> Result<List<Option<Key>>, AllocError>
-    ensures { IfOk result (λ indices. indices ≡ map index_of elements.now.items) }
-{
-    let mut indices = Vec::with_capacity(alloc, elements.len())?;
-    for e in elements {
-        indices.push(index_of(e)?)?;
-    }
-    Ok(List::from_vec(indices))
-}
-
-/// The index of an element, copied.
-fn index_of(e: &Element) -> Result<Option<Key>, AllocError>
-    ensures { IfOk result (λ index. index ≡ index_of e.now) }
-{
-    e.index.as_ref().map(Key::try_clone).transpose()
-}
-
-/// Each element with its key.
-fn with_keys(
-    alloc: Global,
-    elements: Vec<Element>,
-    keys: Vec<Key>,
-) -> Result<Vec<Element>, AllocError>
-    ensures { IfOk result (λ new. new.items ≡ map (λ p. with_index p.0 p.1) (zip elements.items keys.items)) }
-{
-    elements
-        .into_iter()
-        .zip(keys)
-        .map(|(e, key)| with_index(e, key))
-        .collect(alloc)
-}
-
-/// The element with this index.
-fn with_index(mut e: Element, key: Key) -> Element
-    ensures { result ≡ with_index e key }
-{
-    e.index = Some(key);
-    e
+    Ok(List::from_vec(with_repaired_keys(alloc, ordered)?))
 }

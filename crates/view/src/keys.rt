@@ -1,0 +1,62 @@
+//! Repaired keys for elements that stand in some order.
+
+ghost use Rattle.std.specs.Prelude.{◌≡◌, map, IfOk};
+ghost use Rattle.std.specs.List.{zip};
+ghost use Rattle.index_repair.specs.Repair.{repaired};
+ghost use Rattle.view.specs.Shown.{index_of, keyed, with_index, HaveKeysOrNone};
+
+use board_io::List;
+use elem::Element;
+use frac_keys::Key;
+use index_repair::repair;
+use std::alloc::{AllocError, Global};
+
+/// The elements in their order, each with the key that repair gives its position. Fails only for want of memory.
+pub fn with_repaired_keys(alloc: Global, elements: Vec<Element>) -> Result<Vec<Element>, AllocError>
+    ensures exact { IfOk result (λ new. new.items ≡ keyed elements.items (repaired (map index_of elements.items))) }
+    ensures old_keys { IfOk result (λ _. HaveKeysOrNone elements.items) }
+{
+    let keys = repair(alloc, &indices_of(alloc, &elements)?)?;
+    with_keys(alloc, elements, keys.into_vec())
+}
+
+/// The indices of the elements, copied.
+fn indices_of(alloc: Global, elements: &Vec<Element>) -> Result<List<Option<Key>>, AllocError>
+    ensures { IfOk result (λ indices. indices ≡ map index_of elements.now.items) }
+{
+    let mut indices = Vec::with_capacity(alloc, elements.len())?;
+    for e in elements {
+        indices.push(index_of(e)?)?;
+    }
+    Ok(List::from_vec(indices))
+}
+
+/// The index of an element, copied.
+fn index_of(e: &Element) -> Result<Option<Key>, AllocError>
+    ensures { IfOk result (λ index. index ≡ index_of e.now) }
+{
+    e.index.as_ref().map(Key::try_clone).transpose()
+}
+
+/// Each element with its key.
+fn with_keys(
+    alloc: Global,
+    elements: Vec<Element>,
+    keys: Vec<Key>,
+) -> Result<Vec<Element>, AllocError>
+    ensures { IfOk result (λ new. new.items ≡ map (λ p. with_index p.0 p.1) (zip elements.items keys.items)) }
+{
+    elements
+        .into_iter()
+        .zip(keys)
+        .map(|(e, key)| with_index(e, key))
+        .collect(alloc)
+}
+
+/// The element with this index.
+fn with_index(mut e: Element, key: Key) -> Element
+    ensures { result ≡ with_index e key }
+{
+    e.index = Some(key);
+    e
+}
