@@ -9,4 +9,4 @@ mod tests;
 
 pub use head::Head;
 pub use layout::Layout;
-pub use printing::scene_text;
+pub use printing::{scene_text, state_text};
