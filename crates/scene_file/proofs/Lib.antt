@@ -1,1 +1,1 @@
-mod SceneTexts
+pub mod SceneTexts

@@ -1,27 +1,41 @@
-//! The text of a scene.
+//! The text of a scene, and that of all that is stored.
 
-ghost use Rattle.std.specs.Prelude.{◌≡◌, ℕ, ◌++◌, All, map, IfOk, OnOk};
-ghost use Rattle.std.specs.List.{join_with_byte};
+ghost use Rattle.std.specs.Prelude.{◌≡◌, ◌⊎◌, ◌<◌, ◌∷◌, [], ◌++◌, All, bytes_eq, map, IfOk, OnOk};
+ghost use Rattle.std.specs.List.{IsDistinct, join_with_byte};
+ghost use Rattle.std.specs.Str.{IsUtf8};
+ghost use Rattle.scene_json.specs.Compact.{object_text};
+ghost use Rattle.scene_json.specs.Members.{pairs};
+ghost use Rattle.scene_json.specs.Parts.{names_of};
 ghost use Rattle.scene_json.specs.Value.{IsCompact};
-ghost use Rattle.elem.specs.Texts.{element_text};
+ghost use Rattle.elem.specs.Texts.{element_text, text_or_null};
+ghost use Rattle.file_table.specs.Table.{EntriesNest};
 ghost use Rattle.view.specs.Shown.{shown, HaveRisingKeys};
-ghost use Rattle.scene_file.specs.Layouts.{IsWritten};
+ghost use Rattle.scene_file.specs.Printing.{front, back};
 ghost use Rattle.scene_file.specs.Scenes as scenes;
+ghost use Rattle.scene_file.specs.Texts.{IsSceneText};
 
+use crate::head::Head;
 use crate::layout::Layout;
-use board_io::Bytes;
+use board_io::{Bytes, List};
 use elem::{Element, push_element};
-use scene_json::push_pretty;
+use elem_store::Store;
+use scene_json::{Member, Text, push_member, push_pretty, push_quote};
 use std::alloc::{AllocError, Global};
 use view::View;
 
-/// The text of the scene of what a view shows, in this layout; no line feed ends it. Fails only for want of memory.
-pub fn scene_text(alloc: Global, view: &View, layout: Layout) -> Result<Bytes, AllocError>
-    ensures text { IfOk result (IsWritten layout (scenes.scene_text (shown view.now))) }
+/// The text of the scene of what a view shows, under this head, in this layout; no line feed ends it. Fails only for want
+/// of memory.
+pub fn scene_text(
+    alloc: Global,
+    head: &Head,
+    view: &View,
+    layout: Layout,
+) -> Result<Bytes, AllocError>
+    ensures text { IfOk result (IsSceneText layout head.now (shown view.now)) }
     ensures rise { IfOk result (λ _. HaveRisingKeys (shown view.now)) }
 {
     let mut scene = Vec::new(alloc);
-    push_scene(&mut scene, view.elements())?;
+    push_scene(&mut scene, head, view.elements())?;
     match layout {
         Layout::Compact => Ok(Bytes::from_vec(scene)),
         Layout::Pretty => {
@@ -32,16 +46,88 @@ pub fn scene_text(alloc: Global, view: &View, layout: Layout) -> Result<Bytes, A
     }
 }
 
-/// Appends the compact text of the scene of these elements.
-fn push_scene(out: &mut Vec<u8>, elements: &[Element]) -> Result<(), AllocError>
-    ensures text { OnOk result (out.new.items ≡ out.old.items ++ scenes.scene_text elements.now) }
-    ensures nests { OnOk result (IsCompact 122 (scenes.scene_text elements.now)) }
+/// The compact text of all that is stored, deleted elements too, as stored, under this head and with all its files. Fails
+/// only for want of memory.
+pub fn state_text(alloc: Global, head: &Head, store: &Store) -> Result<Bytes, AllocError>
+    ensures exact { IfOk result (λ text. text ≡ scenes.state_text head.now store.now) }
 {
-    out.extend_from_slice(
-        b"{\"type\":\"excalidraw\",\"version\":2,\"source\":null,\"elements\":[",
-    )?;
+    let files = head.files.by_id()?;
+    let mut state = Vec::new(alloc);
+    push_front(&mut state, &head.source)?;
+    push_stored(&mut state, store)?;
+    push_back(&mut state, &head.app_state, &files)?;
+    Ok(Bytes::from_vec(state))
+}
+
+/// Appends the compact text of the scene of these elements.
+fn push_scene(out: &mut Vec<u8>, head: &Head, elements: &[Element]) -> Result<(), AllocError>
+    ensures text { OnOk result (out.new.items ≡ out.old.items ++ scenes.scene_text head.now elements.now) }
+    ensures nests { OnOk result (IsCompact 128 (scenes.scene_text head.now elements.now)) }
+{
+    let files = head.files.referred(elements)?;
+    push_front(out, &head.source)?;
     push_elements(out, elements)?;
-    out.extend_from_slice(b"],\"appState\":{},\"files\":{}}")?;
+    push_back(out, &head.app_state, &files)?;
+    Ok(())
+}
+
+/// Appends what stands before the elements.
+fn push_front(out: &mut Vec<u8>, source: &Option<Text>) -> Result<(), AllocError>
+    ensures text { OnOk result (out.new.items ≡ out.old.items ++ front source.now) }
+    ensures nests { OnOk result (IsCompact 0 (text_or_null source.now)) }
+{
+    out.extend_from_slice(b"{\"type\":\"excalidraw\",\"version\":2,\"source\":")?;
+    push_source(out, source)?;
+    out.extend_from_slice(b",\"elements\":[")?;
+    Ok(())
+}
+
+/// Appends the quote of the source, or null where there is none.
+fn push_source(out: &mut Vec<u8>, source: &Option<Text>) -> Result<(), AllocError>
+    ensures text { OnOk result (out.new.items ≡ out.old.items ++ text_or_null source.now) }
+    ensures nests { IsCompact 0 (text_or_null source.now) }
+{
+    match source {
+        None => out.extend_from_slice(b"null"),
+        Some(source) => push_quote(out, source),
+    }
+}
+
+/// Appends what stands behind the elements.
+fn push_back(
+    out: &mut Vec<u8>,
+    settings: &List<Member>,
+    files: &List<Member>,
+) -> Result<(), AllocError>
+    requires settings_distinct { IsDistinct bytes_eq (names_of (pairs settings.now)) }
+    requires settings_nest { EntriesNest 126 (pairs settings.now) }
+    requires files_distinct { IsDistinct bytes_eq (names_of (pairs files.now)) }
+    requires files_nest { EntriesNest 126 (pairs files.now) }
+    ensures text { OnOk result (out.new.items ≡ out.old.items ++ back (pairs settings.now) (pairs files.now)) }
+    ensures settings { OnOk result (IsCompact 127 (object_text (pairs settings.now))) }
+    ensures files { OnOk result (IsCompact 127 (object_text (pairs files.now))) }
+{
+    out.extend_from_slice(b"],\"appState\":")?;
+    push_object(out, settings)?;
+    out.extend_from_slice(b",\"files\":")?;
+    push_object(out, files)?;
+    out.push(b'}')?;
+    Ok(())
+}
+
+/// Appends the object of these members.
+fn push_object(out: &mut Vec<u8>, members: &List<Member>) -> Result<(), AllocError>
+    requires distinct { IsDistinct bytes_eq (names_of (pairs members.now)) }
+    requires nest { EntriesNest 126 (pairs members.now) }
+    ensures text { OnOk result (out.new.items ≡ out.old.items ++ object_text (pairs members.now)) }
+    ensures nests { OnOk result (IsCompact 127 (object_text (pairs members.now))) }
+{
+    out.push(b'{')?;
+    for (i, member) in members.as_slice().iter().enumerate() {
+        push_comma(out, i)?;
+        push_member(out, &member.name, &member.value)?;
+    }
+    out.push(b'}')?;
     Ok(())
 }
 
@@ -51,10 +137,31 @@ fn push_elements(out: &mut Vec<u8>, elements: &[Element]) -> Result<(), AllocErr
     ensures nest { OnOk result (All (λ e. IsCompact 120 (element_text e)) elements.now) }
 {
     for (i, e) in elements.iter().enumerate() {
-        if i > 0 {
-            out.push(b',')?;
-        }
+        push_comma(out, i)?;
         push_element(out, e)?;
+    }
+    Ok(())
+}
+
+/// Appends the texts of all stored elements, in the order of their ids, with commas between them.
+fn push_stored(out: &mut Vec<u8>, store: &Store) -> Result<(), AllocError>
+    ensures { OnOk result (out.new.items ≡ out.old.items ++ join_with_byte 44 (map element_text store.now)) }
+{
+    for i in 0..store.len() {
+        if let Some(e) = store.at(i) {
+            push_comma(out, i)?;
+            push_element(out, e)?;
+        }
+    }
+    Ok(())
+}
+
+/// Appends the comma before the item at this index, which the first has none of.
+fn push_comma(out: &mut Vec<u8>, i: usize) -> Result<(), AllocError>
+    ensures { OnOk result (((0 < i) × (out.new.items ≡ out.old.items ++ 44 ∷ [])) ⊎ ((i ≡ 0) × (out.new.items ≡ out.old.items))) }
+{
+    if i > 0 {
+        out.push(b',')?;
     }
     Ok(())
 }

@@ -1,24 +1,18 @@
-use Rattle.std.proofs.Common.{◌≡◌, ◌<◌, ◌++◌, inl, inr, sym, ap, ◌∙◌, subst, length, map, take_all, arith}
+use Rattle.std.proofs.Common.{◌<◌, ◌++◌, sym, ap, ◌∙◌, subst, length, map, take_all, arith}
 use Rattle.std.proofs.lemmas.List.Elements.{All-more, All-same}
 use Rattle.std.specs.List.{join_with_byte}
 use Rattle.scene_json.specs.Value.{IsCompact}
 use Rattle.scene_json.proofs.Appended.{mapped-step}
 use Rattle.elem.specs.Texts.{element_text}
 use Rattle.scene_file.proofs.printing.push_elements.Goals as goal
-use Rattle.scene_file.proofs.printing.push_elements.Goals.{then-i-gt0+in_ok-push, else-i-gt0}
 
 pub loop-i-preserved : goal.loop-i-preserved
 loop-i-preserved c =
     let es = c.args.elements.now in
     let inside : c.loop-i.i < length es = omega arith in
     record {
-      made = mapped-step element_text c.args.out.now.items es c.index-elements-i.result c.loop-i.i c.loop-i.out.items c.if-i-gt0.out.items c.push_element.new.out.items inside
-          c.index-elements-i.is c.loop-i.invariant.made
-          (elim c.if-i-gt0.branch [
-            | then-i-gt0+in_ok-push w ↦ inl (w.if-i-gt0.true, ap (λ v. v.items) w.out-is ∙ w.in_ok-push.ensures.items)
-            | else-i-gt0 w ↦ inr (omega arith, ap (λ v. v.items) w.out-is)
-          ])
-          c.in_ok-push_element.ensures.text;
+      made = mapped-step element_text c.args.out.now.items es c.index-elements-i.result c.loop-i.i c.loop-i.out.items c.push_comma.new.out.items c.push_element.new.out.items inside
+          c.index-elements-i.is c.loop-i.invariant.made c.in_ok-push_comma.ensures c.in_ok-push_element.ensures.text;
       nest = All-more (λ e. IsCompact 120 (element_text e)) es c.loop-i.i c.index-elements-i.result inside c.loop-i.invariant.nest
           (subst (λ e. IsCompact 120 (element_text e)) c.index-elements-i.is c.in_ok-push_element.ensures.nests);
     }

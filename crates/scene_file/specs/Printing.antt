@@ -1,0 +1,12 @@
+-- What stands before the elements' texts in the text of a scene, and what stands behind them. This project's own.
+use Rattle.std.specs.Prelude.{ℕ, List, ◌++◌, Option, codes}
+use Rattle.scene_json.specs.Compact.{Member as Pair, object_text}
+use Rattle.elem.specs.Texts.{text_or_null}
+
+-- with this source
+abbrev pub front : Option (List ℕ) → List ℕ
+front source = codes "{\"type\":\"excalidraw\",\"version\":2,\"source\":" ++ (text_or_null source ++ codes ",\"elements\":[")
+
+-- with these settings and these files
+abbrev pub back : List Pair → List Pair → List ℕ
+back settings files = codes "],\"appState\":" ++ (object_text settings ++ (codes ",\"files\":" ++ (object_text files ++ codes "}")))
