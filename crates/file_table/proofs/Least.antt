@@ -30,7 +30,7 @@ absent : (id : List ℕ) (files : List Pair) → AllByRecursion (λ other. bytes
 absent id [] h = refl
 absent id (file ∷ files) h = cond-false (bytes_eq id file.0) (Some file.1) (value_at id files) h.0 ∙ absent id files h.1
 
-least-distinct : (files : List Pair) (id : List ℕ) → IsDistinct bytes_eq (names_of files) → least_entry files id ≡ value_at id files
+pub least-distinct : (files : List Pair) (id : List ℕ) → IsDistinct bytes_eq (names_of files) → least_entry files id ≡ value_at id files
 unfolding IsDistinct
 least-distinct [] id h = refl
 least-distinct (file ∷ files) id h =

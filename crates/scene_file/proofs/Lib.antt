@@ -1,1 +1,9 @@
+pub mod Blanks
+pub mod Forms
+pub mod HeadsTold
+pub mod Joining
+pub mod Nesting
+pub mod Once
+pub mod Ordered
 pub mod SceneTexts
+pub mod Values

@@ -1,5 +1,7 @@
+pub mod Faults
 pub mod Heads
 pub mod Layouts
 pub mod Printing
+pub mod Reading
 pub mod Scenes
 pub mod Texts

@@ -1,11 +1,17 @@
 //! What a scene has beside its elements.
 
-ghost use Rattle.std.specs.Prelude.{◌≡◌, List as Items, ◌++◌, ◌∷◌, [], OnOk, OnErr};
-ghost use Rattle.scene_file.specs.Heads.{Heading, IsJoinedHead};
+ghost use Rattle.std.specs.Prelude.{◌≡◌, List as Items, ◌++◌, ◌∷◌, [], IfOk, OnOk, OnErr, codes, if◌then◌else◌};
+ghost use Rattle.scene_json.specs.Compact.{Member as Pair};
+ghost use Rattle.scene_json.specs.Members.{pairs};
+ghost use Rattle.scene_json.specs.Named.{AreSameMembers, HaveRisingNames};
+ghost use Rattle.scene_json.specs.Parts.{AreMembers};
+ghost use Rattle.file_table.specs.Table.{AreFilesOf, EntriesNest};
+ghost use Rattle.scene_file.specs.Heads.{Heading, IsJoinedHead, lesser_source};
+ghost use Rattle.scene_file.specs.Reading.{given, HasMembers, IsHeadOf};
 
 use board_io::List;
 use file_table::Files;
-use scene_json::{Member, Text};
+use scene_json::{Member, Text, raw_text, text_named};
 use std::alloc::{AllocError, Global};
 use std::marker::Model;
 
@@ -42,10 +48,112 @@ impl Head {
     }
 }
 
-/// Joins a further head to the head that others are joined to.
+/// Joins a further head to the head that others are joined to. For want of memory it is unchanged.
 pub fn join(alloc: Global, head: &mut Head, other: &Head) -> Result<(), AllocError>
     ensures joined { OnOk result ((heads : Items Heading) → IsJoinedHead heads head.old → IsJoinedHead (heads ++ other.now ∷ []) head.new) }
     ensures kept { OnErr result (head.new ≡ head.old) }
 {
-    Err(AllocError)
+    let source = lesser_source(alloc, &head.source, &other.source)?;
+    let settings = table_of(alloc, &head.app_state, &other.app_state)?;
+    let app_state = settings.by_id()?;
+    let files = table_of(alloc, &head.files.by_id()?, &other.files.by_id()?)?;
+    *head = Head {
+        source,
+        app_state,
+        files,
+    };
+    Ok(())
+}
+
+/// Of two sources the one whose string is less by its bytes.
+fn lesser_source(
+    alloc: Global,
+    source: &Option<Text>,
+    other: &Option<Text>,
+) -> Result<Option<Text>, AllocError>
+    ensures { IfOk result (λ lesser. lesser ≡ lesser_source source.now other.now) }
+{
+    let lesser = if is_lesser(alloc, other, source)? {
+        other
+    } else {
+        source
+    };
+    lesser.as_ref().map(Text::try_clone).transpose()
+}
+
+/// Whether the first of two sources is there, and its string is less by its bytes than that of the second, if that is.
+fn is_lesser(alloc: Global, source: &Option<Text>, other: &Option<Text>) -> Result<bool, AllocError>
+    ensures { IfOk result (λ lesser. lesser_source other.now source.now ≡ (if lesser then source.now else other.now)) }
+{
+    match (source, other) {
+        (None, _) => Ok(false),
+        (Some(_), None) => Ok(true),
+        (Some(text), Some(other)) => {
+            let string = raw_text(alloc, text)?;
+            let other_string = raw_text(alloc, other)?;
+            Ok(string.as_bytes() < other_string.as_bytes())
+        }
+    }
+}
+
+/// For each name of both lists its least value.
+fn table_of(
+    alloc: Global,
+    members: &List<Member>,
+    others: &List<Member>,
+) -> Result<Files, AllocError>
+    requires nest { EntriesNest 126 (pairs members.now) }
+    requires others_nest { EntriesNest 126 (pairs others.now) }
+    ensures { IfOk result (AreFilesOf (pairs members.now ++ pairs others.now)) }
+{
+    let mut table = Files::new(alloc);
+    take_all(&mut table, members)?;
+    take_all(&mut table, others)?;
+    Ok(table)
+}
+
+/// Takes all these members into the table. After want of memory it may have some of them.
+fn take_all(table: &mut Files, members: &List<Member>) -> Result<(), AllocError>
+    requires { EntriesNest 126 (pairs members.now) }
+    ensures { OnOk result ((given : Items Pair) → AreFilesOf given table.old → AreFilesOf (given ++ pairs members.now) table.new) }
+{
+    for member in members.as_slice() {
+        let copy = member.try_clone()?;
+        table.take(copy.name, copy.value)?;
+    }
+    Ok(())
+}
+
+/// The head that a scene's members say, whose settings and files these are.
+pub(crate) fn head_of(
+    alloc: Global,
+    members: &List<Member>,
+    settings: List<Member>,
+    entries: List<Member>,
+) -> Result<Head, AllocError>
+    requires are { AreMembers 127 (pairs members.now) }
+    requires settings { HasMembers (given (codes "appState") (pairs members.now)) (pairs settings) }
+    requires entries { HasMembers (given (codes "files") (pairs members.now)) (pairs entries) }
+    ensures { IfOk result (IsHeadOf (pairs members.now)) }
+{
+    let source = text_named(alloc, members, "source")?;
+    let app_state = in_order(settings)?;
+    let files = table_of(alloc, &entries, &List::new(alloc))?;
+    Ok(Head {
+        source,
+        app_state,
+        files,
+    })
+}
+
+/// The members in the order of the bytes of their names.
+fn in_order(members: List<Member>) -> Result<List<Member>, AllocError>
+    requires { AreMembers 126 (pairs members) }
+    ensures ordered { IfOk result (λ ordered. HaveRisingNames (pairs ordered)) }
+    ensures same { IfOk result (λ ordered. AreSameMembers (pairs ordered) (pairs members)) }
+    ensures nest { IfOk result (λ ordered. EntriesNest 126 (pairs ordered)) }
+{
+    let mut members = members.into_vec();
+    members.sort_by(|a, b| a.name.cmp(&b.name))?;
+    Ok(List::from_vec(members))
 }

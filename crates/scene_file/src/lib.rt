@@ -1,12 +1,19 @@
-//! Scene files.
+//! Scene files: scenes are read with their heads, heads are joined, and scenes are printed.
 #![tactic(auto)]
 
+mod fault;
 mod head;
+pub mod laws;
 mod layout;
 mod printing;
+mod reading;
+mod scene;
 #[cfg(test)]
 mod tests;
 
-pub use head::Head;
+pub use fault::SceneFault;
+pub use head::{Head, join};
 pub use layout::Layout;
 pub use printing::{scene_text, state_text};
+pub use reading::{read_scene, scene_of};
+pub use scene::Scene;

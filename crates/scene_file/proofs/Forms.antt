@@ -1,0 +1,15 @@
+-- The form of a scene.
+use Rattle.std.proofs.Common.{◌≡◌, ℕ, List, Some, codes, refl}
+use Rattle.scene_json.specs.Characters.{quote}
+use Rattle.scene_json.specs.Compact.{Member as Pair, object_text}
+use Rattle.scene_json.specs.Named.{value_at}
+use Rattle.scene_json.specs.Parts.{AreMembers}
+use Rattle.elem.specs.Forms.{IsObject}
+use Rattle.elem.proofs.Saying.{literal}
+use Rattle.scene_file.specs.Reading.{IsScene}
+
+pub is-object : (value : List ℕ) (members : List Pair) → value ≡ object_text members → AreMembers 127 members → IsObject value members
+is-object value members spelled are = record { are = are; spelled = spelled }
+
+pub is-scene : (members : List Pair) → value_at (codes "type") members ≡ Some (quote (codes "excalidraw")) → IsScene members
+is-scene members kind = (literal (codes "excalidraw") refl, kind)

@@ -1,0 +1,157 @@
+//! Reading scenes.
+
+ghost use Rattle.std.specs.Prelude.{◌≡◌, ◌<◌, ◌≤◌, ℕ, List as Items, length, drop, Err, IfOk, MatchOption, option_copied, is_some};
+ghost use Rattle.std.specs.List.{list_all};
+ghost use Rattle.scene_json.specs.Compact.{Member as Pair};
+ghost use Rattle.scene_json.specs.Members.{pairs};
+ghost use Rattle.elem_read.specs.Reading.{IsSelection, IsElementIn, IsFaultIn};
+ghost use Rattle.elem_read.specs.declared.fault.ElemFault.{ElemFault};
+ghost use Rattle.scene_file.specs.Reading.{given, loaded, HasItems, HasMembers, AreRead, IsFirstFaulty, IsSceneOf, IsSceneFault, IsSceneAt, IsFaultAt};
+ghost use Rattle.scene_file.specs.declared.scene.Scene.{Scene};
+ghost use Rattle.scene_file.specs.declared.fault.SceneFault.{SceneFault};
+
+use crate::fault::SceneFault;
+use crate::head::head_of;
+use crate::scene::Scene;
+use board_io::{List, Stop};
+use elem::Element;
+use elem_read::read_element;
+use scene_json::{Member, Raw, has_value, is_null, items, members, scan, shaped, value_named};
+use std::alloc::{AllocError, Global};
+use view::with_repaired_keys;
+
+/// The scene that stands at an offset, behind white space and in whatever spelling, and the offset after it; or the first
+/// fault there.
+pub fn read_scene(
+    alloc: Global,
+    bytes: &[u8],
+    at: usize,
+) -> Result<(Scene, usize), Stop<SceneFault>>
+    requires { at ≤ length bytes.now }
+    ensures within { IfOk result (λ found. (at < found.1) × (found.1 ≤ length bytes.now)) }
+    ensures scene { IfOk result (λ found. IsSceneAt (drop at bytes.now) found.0 (drop found.1 bytes.now)) }
+    ensures fault { (fault : SceneFault) → result ≡ Err (Stop.Fault fault) → IsFaultAt bytes.now at fault }
+{
+    let (value, end) = match scan(alloc, bytes, at) {
+        Ok(found) => found,
+        Err(Stop::Fault(fault)) => return Err(Stop::Fault(SceneFault::Json(fault))),
+        Err(Stop::Memory) => return Err(Stop::Memory),
+    };
+    Ok((scene_of(alloc, &value)?, end))
+}
+
+/// The scene that a value is, or its first fault.
+pub fn scene_of(alloc: Global, value: &Raw) -> Result<Scene, Stop<SceneFault>>
+    ensures scene { IfOk result (IsSceneOf value.now) }
+    ensures fault { (fault : SceneFault) → result ≡ Err (Stop.Fault fault) → IsSceneFault value.now fault }
+{
+    let Some(found) = shaped(members(alloc, value))? else {
+        return Err(Stop::Fault(SceneFault::NotObject));
+    };
+    if !has_value(&found, "type", "\"excalidraw\"") {
+        return Err(Stop::Fault(SceneFault::NotScene));
+    }
+    let Some(values) = items_given(alloc, &found, "elements")? else {
+        return Err(Stop::Fault(SceneFault::Elements));
+    };
+    let Some(settings) = members_given(alloc, &found, "appState")? else {
+        return Err(Stop::Fault(SceneFault::AppState));
+    };
+    let Some(entries) = members_given(alloc, &found, "files")? else {
+        return Err(Stop::Fault(SceneFault::Files));
+    };
+    let elements = loaded(alloc, elements_of(alloc, &values)?)?;
+    Ok(Scene {
+        head: head_of(alloc, &found, settings, entries)?,
+        elements: List::from_vec(elements),
+    })
+}
+
+/// The value of the first member with this name; null counts as missing.
+fn given<'a>(members: &'a List<Member>, name: &str) -> Option<&'a Raw>
+    ensures { option_copied result ≡ given name.now (pairs members.now) }
+{
+    match value_named(members, name) {
+        Some(value) if !is_null(value) => Some(value),
+        _ => None,
+    }
+}
+
+/// The items of the array that is given under a name, none where it is missing. `None` where it is no array.
+fn items_given(
+    alloc: Global,
+    members: &List<Member>,
+    name: &str,
+) -> Result<Option<List<Raw>>, AllocError>
+    ensures { IfOk result (λ found. MatchOption found
+        ((values : Items (Items ℕ)) → HasItems (given name.now (pairs members.now)) values → ⊥)
+        (HasItems (given name.now (pairs members.now)))) }
+{
+    match given(members, name) {
+        Some(value) => shaped(items(alloc, value)),
+        None => Ok(Some(List::new(alloc))),
+    }
+}
+
+/// The members of the object that is given under a name, none where it is missing. `None` where it is no object.
+fn members_given(
+    alloc: Global,
+    from: &List<Member>,
+    name: &str,
+) -> Result<Option<List<Member>>, AllocError>
+    ensures { IfOk result (λ found. MatchOption found
+        ((others : Items Pair) → HasMembers (given name.now (pairs from.now)) others → ⊥)
+        (λ some. HasMembers (given name.now (pairs from.now)) (pairs some))) }
+{
+    match given(from, name) {
+        Some(value) => shaped(members(alloc, value)),
+        None => Ok(Some(List::new(alloc))),
+    }
+}
+
+/// The elements that the values are, in their order, or the first fault among them.
+fn elements_of(alloc: Global, values: &List<Raw>) -> Result<Vec<Element>, Stop<SceneFault>>
+    ensures read { IfOk result (λ elements. AreRead values.now elements.items) }
+    ensures fault { (fault : SceneFault) → result ≡ Err (Stop.Fault fault)
+        → (place : ℕ) × (why : ElemFault) × (fault ≡ SceneFault.Element place why) × IsFirstFaulty values.now place why }
+{
+    let mut elements = Vec::new(alloc);
+    for (place, value) in values.as_slice().iter().enumerate() {
+        let read = element_of(alloc, value, place)?;
+        if let Some(element) = read {
+            elements.push(element)?;
+        }
+    }
+    Ok(elements)
+}
+
+/// The element that a value is, if it isn't dropped, or its fault at this place.
+fn element_of(alloc: Global, value: &Raw, place: usize) -> Result<Option<Element>, Stop<SceneFault>>
+    ensures read { IfOk result (λ found. MatchOption found (IsSelection value.now) (IsElementIn value.now)) }
+    ensures fault { (fault : SceneFault) → result ≡ Err (Stop.Fault fault)
+        → (why : ElemFault) × (fault ≡ SceneFault.Element place why) × IsFaultIn value.now why }
+{
+    match read_element(alloc, value) {
+        Ok(found) => Ok(found),
+        Err(Stop::Fault(fault)) => Err(Stop::Fault(SceneFault::Element(place as u64, fault))),
+        Err(Stop::Memory) => Err(Stop::Memory),
+    }
+}
+
+/// The elements with their keys, where each has one, else with the keys of all repaired in this order.
+fn loaded(alloc: Global, elements: Vec<Element>) -> Result<Vec<Element>, AllocError>
+    ensures { IfOk result (λ new. new.items ≡ loaded elements.items) }
+{
+    if have_keys(&elements) {
+        Ok(elements)
+    } else {
+        with_repaired_keys(alloc, elements)
+    }
+}
+
+/// Whether each element has a key.
+fn have_keys(elements: &[Element]) -> bool
+    ensures { result ≡ list_all (λ e. is_some e.index) elements.now }
+{
+    elements.iter().all(|e| e.index.is_some())
+}
