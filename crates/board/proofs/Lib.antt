@@ -1,14 +1,4 @@
-pub mod Answering
 pub mod Blanks
-pub mod Converging
-pub mod Found
-pub mod Given
-pub mod IndexKeys
-pub mod Lookups
-pub mod Others
-pub mod PlainElements
-pub mod PlainKinds
-pub mod PlainScenes
-pub mod Progress
-pub mod Refusals
+pub mod Inputs
 pub mod Scenes
+pub mod Unique

@@ -1,10 +1,7 @@
+pub mod Answers
 pub mod Causes
+pub mod Ends
 pub mod Faults
 pub mod Input
-pub mod Layouts
-pub mod Loaded
-pub mod Members
-pub mod Merging
-pub mod Parts
-pub mod Plain
+pub mod Pictures
 pub mod Words

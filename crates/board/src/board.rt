@@ -1,22 +1,19 @@
 //! The top call: from the words and the input to the output, the notes and a status.
 
-ghost use Rattle.std.specs.Prelude.{◌≡◌, ◌≢◌, ◌↔◌, ◌⊎◌, ℕ, List, ◌++◌, IsSome, None, OnOk, IfOk, IfErr};
+ghost use Rattle.std.specs.Prelude.{◌≡◌, ◌≢◌, ◌↔◌, ◌⊎◌, ℕ, List, None, IsSome, IfOk, IfErr, OnOk, Ok, Err};
 ghost use Rattle.board_io.specs.Counts.{Rose};
-ghost use Rattle.board.specs.Words.{asked};
-ghost use Rattle.board.specs.Faults.{status_of, line_of, newline, Noted};
-ghost use Rattle.board.specs.Input.{IsRefusedText};
+ghost use Rattle.board.specs.Answers.{IsAnswer, Converges};
 ghost use Rattle.board.specs.Causes.{HasCause};
-ghost use Rattle.board.specs.Merging.{GaveWithin, GaveTooMuch, IsGiven, IsPlain, IsNotPlain, IsRefused, IsMergeOf, WasMerged, WasMergedInPart};
+ghost use Rattle.board.specs.Ends.{GaveWithin, GaveTooMuch, HasLeft, WasDone, WasDoneInPart, WasRefused};
+ghost use Rattle.board.specs.Faults.{status_of, Noted};
+ghost use Rattle.board.specs.Words.{asked};
 ghost use Rattle.board.specs.declared.status.Fault.{Fault};
-ghost use Rattle.board.specs.declared.status.TextFault.{TextFault};
-ghost use Rattle.board.specs.declared.words.Layout.{Layout};
-ghost use Rattle.board.specs.declared.load.Refusal.{Refusal};
+ghost use Rattle.board.specs.declared.words.Command.{Command};
 
-use crate::load::{Refusal, loaded};
-use crate::output::merged_text;
+use crate::answer::answer;
 use crate::status::{Fault, Status};
 use crate::words;
-use crate::words::{Command, Layout};
+use crate::words::Command;
 use board_io::{Bytes, Failed, Links, ReadError, Sink, Source, Stop, read_all, write_all};
 use std::alloc::Global;
 
@@ -34,49 +31,49 @@ pub fn board<S: Source, K: Sink, N: Sink, L: Links>(
     notes: &mut N,
     links: &mut L,
 ) -> Status
+    // Usage: no form of a command is asked for, and nothing is read.
     ensures usage { (result ≡ Status.Usage) ↔ (asked words.now ≡ None) }
-    ensures usage_unread { result ≡ Status.Usage → S.left input.new ≡ S.left input.old }
+    ensures usage_unread { result ≡ Status.Usage → input.new ≡ input.old }
 
-    ensures read_fault { result ≡ Status.ReadFault → Rose (S.faults input.old) (S.faults input.new) }
-    ensures read_within { result ≡ Status.ReadFault → GaveWithin (S.left input.old) (S.left input.new) }
+    // Done: the input, read to its end, is answered with a text, and that is written.
+    ensures done { result ≡ Status.Done
+        → WasDone (asked words.now) (S.seen input.old) (S.seen input.new) (K.seen output.old) (K.seen output.new) }
 
-    ensures refused { result ≡ Status.Refused → (fault : Fault) × IsRefused fault (S.left input.old) (S.left input.new)
-        × Noted (line_of fault) (N.held notes.old) (N.held notes.new) (N.faults notes.old) (N.faults notes.new) }
+    // Refused: the input is too long, or answered with a fault, and the notes tell it.
+    ensures refused { result ≡ Status.Refused → (fault : Fault)
+        × WasRefused (asked words.now) fault (S.seen input.old) (S.seen input.new)
+        × Noted fault (N.seen notes.old) (N.seen notes.new) }
 
-    ensures too_long { IsSome (S.left input.old) → GaveTooMuch (S.left input.old) (S.left input.new) → (result ≡ Status.Memory)
-        ⊎ ((result ≡ Status.Refused)
-        × Noted (line_of Fault.TooLong) (N.held notes.old) (N.held notes.new) (N.faults notes.old) (N.faults notes.new)) }
+    // ReadFault and WriteFault: the count of faults rose; what was read was within the limit, and a first part was written.
+    ensures read_fault { result ≡ Status.ReadFault → Rose (S.seen input.old).faults (S.seen input.new).faults
+        × GaveWithin (S.seen input.old) (S.seen input.new) }
+    ensures write_fault { result ≡ Status.WriteFault
+        → WasDoneInPart (asked words.now) (S.seen input.old) (S.seen input.new) (K.seen output.old) (K.seen output.new) }
 
-    ensures done { result ≡ Status.Done → (layout : Layout) × (asked words.now ≡ Some (Command.Merge layout))
-        × WasMerged layout (S.left input.old) (S.left input.new) (K.held output.old) (K.held output.new) }
-
-    ensures write_fault { result ≡ Status.WriteFault → Rose (K.faults output.old) (K.faults output.new) }
-    ensures write_part { result ≡ Status.WriteFault → (layout : Layout) × (asked words.now ≡ Some (Command.Merge layout))
-        × WasMergedInPart layout (S.left input.old) (S.left input.new) (K.held output.old) (K.held output.new) }
-
-    // Where no end fails, plain scenes are merged and all else is refused, by its first text with a fault.
-    ensures complete { (bytes : List ℕ) → IsGiven bytes (asked words.now) (S.left input.old) → IsPlain bytes
-        → ¬ Rose (S.faults input.old) (S.faults input.new) → ¬ Rose (K.faults output.old) (K.faults output.new)
+    // Where the input tells its bytes and no end fails, it is answered; or memory is wanted.
+    ensures complete { (command : Command) (bytes text : List ℕ) → asked words.now ≡ Some command
+        → HasLeft (S.seen input.old) bytes → IsAnswer command bytes (Ok text)
+        → ¬ Rose (S.seen input.old).faults (S.seen input.new).faults
+        → ¬ Rose (K.seen output.old).faults (K.seen output.new).faults
         → (result ≡ Status.Done) ⊎ (result ≡ Status.Memory) }
-    ensures not_plain { (bytes : List ℕ) → IsGiven bytes (asked words.now) (S.left input.old) → IsNotPlain bytes
-        → ¬ Rose (S.faults input.old) (S.faults input.new) → (result ≡ Status.Refused) ⊎ (result ≡ Status.Memory) }
-    ensures refused_text { (bytes : List ℕ) (number : ℕ) (fault : TextFault) → IsGiven bytes (asked words.now) (S.left input.old)
-        → IsRefusedText bytes number fault → ¬ Rose (S.faults input.old) (S.faults input.new) → (result ≡ Status.Memory)
-        ⊎ ((result ≡ Status.Refused)
-        × Noted (line_of (Fault.Text number fault)) (N.held notes.old) (N.held notes.new) (N.faults notes.old) (N.faults notes.new)) }
+    ensures complete_refused { (command : Command) (bytes : List ℕ) (fault : Fault) → asked words.now ≡ Some command
+        → HasLeft (S.seen input.old) bytes → IsAnswer command bytes (Err fault)
+        → ¬ Rose (S.seen input.old).faults (S.seen input.new).faults
+        → (result ≡ Status.Memory) ⊎ ((result ≡ Status.Refused) × Noted fault (N.seen notes.old) (N.seen notes.new)) }
+    ensures too_long { IsSome (S.seen input.old).left → GaveTooMuch (S.seen input.old) (S.seen input.new)
+        → (result ≡ Status.Memory)
+        ⊎ ((result ≡ Status.Refused) × Noted Fault.TooLong (N.seen notes.old) (N.seen notes.new)) }
 
-    ensures no_link_fault { result ≢ Status.LinkFault }
-    ensures no_idle { result ≢ Status.Idle }
+    // Inputs with the same updates, free of clashes, are merged to one text.
+    ensures converges { Converges }
 
     // What stays, and what the notes gain.
-    ensures output_kept { result ≢ Status.Done → result ≢ Status.WriteFault → K.held output.new ≡ K.held output.old }
-    ensures notes_kept { result ≡ Status.Done → N.held notes.new ≡ N.held notes.old }
-    ensures noted { result ≢ Status.Done → (fault : Fault) × (status_of fault ≡ result)
-        × Noted (line_of fault) (N.held notes.old) (N.held notes.new) (N.faults notes.old) (N.faults notes.new) }
-    ensures port_kept { L.port links.new ≡ L.port links.old }
-    ensures given_kept { L.given links.new ≡ L.given links.old }
-    ensures sent_kept { L.sent links.new ≡ L.sent links.old }
-    ensures lost_kept { L.lost links.new ≡ L.lost links.old }
+    ensures output_kept { result ≢ Status.Done → result ≢ Status.WriteFault → output.new ≡ output.old }
+    ensures notes_kept { result ≡ Status.Done → notes.new ≡ notes.old }
+    ensures noted { result ≢ Status.Done
+        → (fault : Fault) × (status_of fault ≡ result) × Noted fault (N.seen notes.old) (N.seen notes.new) }
+    ensures links_kept { links.new ≡ links.old }
+    ensures unlinked { (result ≢ Status.LinkFault) × (result ≢ Status.Idle) }
 {
     match run(alloc, words, input, output) {
         Ok(()) => Status::Done,
@@ -92,68 +89,31 @@ fn run<S: Source, K: Sink>(
     output: &mut K,
 ) -> Result<(), Fault>
     ensures usage { (result ≡ Err Fault.Usage) ↔ (asked words.now ≡ None) }
-    ensures usage_unread { result ≡ Err Fault.Usage → S.left input.new ≡ S.left input.old }
-    ensures fault { IfErr result (λ fault. HasCause fault (S.left input.old) (S.left input.new)
-        (S.faults input.old) (S.faults input.new) (K.faults output.old) (K.faults output.new)) }
-    ensures too_long { IsSome (S.left input.old) → GaveTooMuch (S.left input.old) (S.left input.new)
+    ensures usage_unread { result ≡ Err Fault.Usage → input.new ≡ input.old }
+    ensures done { OnOk result
+        (WasDone (asked words.now) (S.seen input.old) (S.seen input.new) (K.seen output.old) (K.seen output.new)) }
+    ensures fault { IfErr result (λ fault. HasCause fault (asked words.now)
+        (S.seen input.old) (S.seen input.new) (K.seen output.old) (K.seen output.new)) }
+    ensures too_long { IsSome (S.seen input.old).left → GaveTooMuch (S.seen input.old) (S.seen input.new)
         → (result ≡ Err Fault.Memory) ⊎ (result ≡ Err Fault.TooLong) }
-    ensures done { OnOk result ((layout : Layout) × (asked words.now ≡ Some (Command.Merge layout))
-        × WasMerged layout (S.left input.old) (S.left input.new) (K.held output.old) (K.held output.new)) }
-    ensures write_part { result ≡ Err Fault.Write → (layout : Layout) × (asked words.now ≡ Some (Command.Merge layout))
-        × WasMergedInPart layout (S.left input.old) (S.left input.new) (K.held output.old) (K.held output.new) }
-    ensures output_kept { IfErr result (λ fault. fault ≢ Fault.Write → K.held output.new ≡ K.held output.old) }
+    ensures output_kept { IfErr result (λ fault. fault ≢ Fault.Write → output.new ≡ output.old) }
 {
-    match words::asked(words) {
-        Some(Command::Merge(layout)) => merge(alloc, layout, input, output),
-        None => Err(Fault::Usage),
-    }
-}
-
-/// Writes the scene that the scenes of the input are merged to, in this layout, and a newline.
-fn merge<S: Source, K: Sink>(
-    alloc: Global,
-    layout: Layout,
-    input: &mut S,
-    output: &mut K,
-) -> Result<(), Fault>
-    ensures no_usage { result ≢ Err Fault.Usage }
-    ensures fault { IfErr result (λ fault. HasCause fault (S.left input.old) (S.left input.new)
-        (S.faults input.old) (S.faults input.new) (K.faults output.old) (K.faults output.new)) }
-    ensures too_long { IsSome (S.left input.old) → GaveTooMuch (S.left input.old) (S.left input.new)
-        → (result ≡ Err Fault.Memory) ⊎ (result ≡ Err Fault.TooLong) }
-    ensures done { OnOk result (WasMerged layout (S.left input.old) (S.left input.new) (K.held output.old) (K.held output.new)) }
-    ensures write_part { result ≡ Err Fault.Write
-        → WasMergedInPart layout (S.left input.old) (S.left input.new) (K.held output.old) (K.held output.new) }
-    ensures output_kept { IfErr result (λ fault. fault ≢ Fault.Write → K.held output.new ≡ K.held output.old) }
-{
+    let Some(command) = words::asked(words) else {
+        return Err(Fault::Usage);
+    };
     let bytes = match read_all(alloc, input, LIMIT) {
         Ok(bytes) => bytes,
         Err(Stop::Fault(ReadError::Failed)) => return Err(Fault::Read),
         Err(Stop::Fault(ReadError::TooLong)) => return Err(Fault::TooLong),
         Err(Stop::Memory) => return Err(Fault::Memory),
     };
-    let text = match merged(alloc, bytes, layout) {
+    let text = match answer(alloc, command, bytes) {
         Ok(text) => text,
-        Err(Stop::Fault(refusal)) => return Err(Fault::Text(refusal.number, refusal.fault)),
+        Err(Stop::Fault(fault)) => return Err(fault),
         Err(Stop::Memory) => return Err(Fault::Memory),
     };
     match write_all(output, text.as_slice()) {
         Ok(()) => Ok(()),
         Err(Failed) => Err(Fault::Write),
     }
-}
-
-/// The text that the scenes of the input are merged to, in this layout, and a newline. The input is dropped as soon as it
-/// is loaded.
-fn merged(alloc: Global, bytes: Bytes, layout: Layout) -> Result<Bytes, Stop<Refusal>>
-    ensures merged { IfOk result (λ all. (text : List ℕ) × IsMergeOf layout bytes text × (all ≡ text ++ newline)) }
-    ensures refused { (refusal : Refusal) → result ≡ Err (Stop.Fault refusal)
-        → IsRefusedText bytes refusal.number refusal.fault × IsNotPlain bytes }
-{
-    let store = match loaded(alloc, bytes.as_slice()) {
-        Ok(store) => store,
-        Err(stop) => return Err(stop),
-    };
-    drop(bytes);
-    Ok(merged_text(alloc, store, layout)?)
 }

@@ -1,25 +1,28 @@
-//! Laws on what scenes are merged to, for all inputs. They do nothing when they run.
+//! Laws on what inputs are answered with, for all inputs. They do nothing when they run.
 
-ghost use Rattle.std.specs.Prelude.{◌≡◌, ℕ, List};
+ghost use Rattle.std.specs.Prelude.{◌≡◌, ℕ, List, ◌++◌, Result, Ok};
 ghost use Rattle.elem.specs.Drawn.{Drawn};
 ghost use Rattle.elem_store.specs.Updates.{AreBest, IsFreeOfClashes};
-ghost use Rattle.view.specs.Shown.{live_elements, shown};
-ghost use Rattle.board.specs.Input.{HasUpdates, HaveSameInput};
-ghost use Rattle.board.specs.Layouts.{IsLaidOut};
-ghost use Rattle.board.specs.Merging.{IsMergeOf};
-ghost use Rattle.board.specs.Plain.{scene_text};
-ghost use Rattle.board.specs.declared.words.Layout.{Layout};
+ghost use Rattle.scene_file.specs.Heads.{Heading, IsJoinedHead};
+ghost use Rattle.scene_file.specs.Texts.{IsSceneText};
+ghost use Rattle.scene_file.specs.declared.layout.Layout.{Layout};
+ghost use Rattle.scene_file.specs.declared.scene.Scene.{Scene};
+ghost use Rattle.board.specs.Answers.{IsAnswer, heads_of, updates_of, shown_of};
+ghost use Rattle.board.specs.Faults.{newline};
+ghost use Rattle.board.specs.Input.{HasScenes};
+ghost use Rattle.board.specs.declared.status.Fault.{Fault};
+ghost use Rattle.board.specs.declared.words.Command.{Command};
 
-/// Inputs that have the same updates, in whatever order, grouping and repetition, are merged to one text, where none of
-/// them clash.
-pub fn merges_converge()
-    ensures { (layout : Layout) (bytes others text other_text : List ℕ)
-        → HaveSameInput bytes others → IsMergeOf layout bytes text → IsMergeOf layout others other_text → text ≡ other_text }
+/// An input has one answer alone.
+pub fn answer_is_unique()
+    ensures { (command : Command) (bytes : List ℕ) (answer other : Result (List ℕ) Fault)
+        → IsAnswer command bytes answer → IsAnswer command bytes other → answer ≡ other }
 {}
 
-/// Where no updates clash, one of the best updates of each id, whichever is chosen, makes the text.
+/// Where no updates clash, one of the best updates of each id, whichever is chosen, makes the text of a merge.
 pub fn merge_is_of_the_best()
-    ensures { (layout : Layout) (bytes text : List ℕ) (updates chosen : List Drawn)
-        → HasUpdates bytes updates → IsFreeOfClashes updates → AreBest updates chosen → IsMergeOf layout bytes text
-        → IsLaidOut layout (scene_text (shown (live_elements chosen))) text }
+    ensures { (layout : Layout) (bytes text : List ℕ) (scenes : List Scene) (head : Heading) (chosen : List Drawn)
+        → HasScenes bytes scenes → IsFreeOfClashes (updates_of scenes) → IsJoinedHead (heads_of scenes) head
+        → AreBest (updates_of scenes) chosen → IsAnswer (Command.Merge layout) bytes (Ok text)
+        → (written : List ℕ) × IsSceneText layout head (shown_of chosen) written × (text ≡ written ++ newline) }
 {}

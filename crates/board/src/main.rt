@@ -1,13 +1,11 @@
-//! Merges Excalidraw scenes.
+//! Restores and merges Excalidraw scenes, and tells what they store and the sizes of their pictures.
 #![tactic(auto)]
 
+mod answer;
 mod board;
-mod element;
-mod fields;
 pub mod laws;
 mod load;
-mod output;
-mod scene;
+mod pictures;
 mod status;
 #[cfg(test)]
 mod tests;
@@ -33,5 +31,5 @@ fn main(rt: HostRuntime) -> ExitCode {
         ),
         Err(AllocError) => Fault::Memory.noted(alloc, &mut notes),
     };
-    ExitCode::from(status as u8)
+    ExitCode::from(status.code())
 }

@@ -1,14 +1,14 @@
 //! How a run ends, and the line that says why it didn't do what it was asked for.
 
-ghost use Rattle.std.specs.Prelude.{◌≡◌, IfOk, string_bytes};
-ghost use Rattle.board.specs.Faults.{status_of, line_of, EndsAs, Noted};
+ghost use Rattle.std.specs.Prelude.{◌≡◌, IfOk, OnErr, MatchOption, string_bytes};
+ghost use Rattle.board.specs.Faults.{code_of, status_of, line_of, EndsAs, HasFixedLine, Noted};
 ghost use Rattle.board.specs.declared.status.Fault.{Fault};
 
 use board_io::{Sink, write_all};
-use scene_json::JsonFault;
+use scene_file::SceneFault;
 use std::alloc::{AllocError, Global};
 
-/// How a run ends. The exit statuses are 0 to 7, in this order.
+/// How a run ends.
 #[derive(Clone, Copy, Debug, PartialEq, Eq)]
 pub enum Status {
     /// All was done.
@@ -29,13 +29,22 @@ pub enum Status {
     Idle,
 }
 
-/// Why a text isn't read.
-#[derive(Clone, Copy, Debug, PartialEq, Eq, Drop)]
-pub enum TextFault {
-    /// Its JSON form has this fault.
-    Json(JsonFault),
-    /// It is of a form that isn't built yet.
-    NotBuilt,
+impl Status {
+    /// The exit status: 0 to 7.
+    pub fn code(self) -> u8
+        ensures { result ≡ code_of self }
+    {
+        match self {
+            Status::Done => 0,
+            Status::Memory => 1,
+            Status::Usage => 2,
+            Status::Refused => 3,
+            Status::ReadFault => 4,
+            Status::WriteFault => 5,
+            Status::LinkFault => 6,
+            Status::Idle => 7,
+        }
+    }
 }
 
 /// Why a run didn't do what it was asked for.
@@ -50,7 +59,9 @@ pub enum Fault {
     /// The input has more bytes than the limit.
     TooLong,
     /// The text with this number, counted from 1, has this fault.
-    Text(usize, TextFault),
+    Text(usize, SceneFault),
+    /// One scene was asked for, and behind it a further text begins at this byte.
+    Extra(usize),
     /// The output could not be written.
     Write,
 }
@@ -64,34 +75,47 @@ impl Fault {
             Fault::Memory => Status::Memory,
             Fault::Usage => Status::Usage,
             Fault::Read => Status::ReadFault,
-            Fault::TooLong | Fault::Text(_, _) => Status::Refused,
+            Fault::TooLong | Fault::Text(_, _) | Fault::Extra(_) => Status::Refused,
             Fault::Write => Status::WriteFault,
         }
     }
 
-    /// Notes the line of this fault, and gives its status; or those of want of memory, where the line of a text's fault
-    /// wants memory. A fault of the notes changes nothing else.
+    /// Notes the line of this fault, and gives its status; or those of want of memory, where a line with a number wants
+    /// memory. A fault of the notes changes nothing else.
     pub fn noted<N: Sink>(self, alloc: Global, notes: &mut N) -> Status
         ensures { (fault : Fault) × EndsAs self fault × (status_of fault ≡ result)
-            × Noted (line_of fault) (N.held notes.old) (N.held notes.new) (N.faults notes.old) (N.faults notes.new) }
+            × Noted fault (N.seen notes.old) (N.seen notes.new) }
     {
-        let fault = match self {
-            Fault::Text(number, found) => match text_line(alloc, number, found) {
-                Ok(line) => {
-                    let _ = write_all(notes, line.as_bytes());
-                    return self.status();
-                }
-                Err(AllocError) => Fault::Memory,
-            },
-            fixed => fixed,
+        let fault = match self.numbered_line(alloc) {
+            Ok(Some(line)) => {
+                let _ = write_all(notes, line.as_bytes());
+                return self.status();
+            }
+            Ok(None) => self,
+            Err(AllocError) => Fault::Memory,
         };
         let _ = write_all(notes, fault.fixed_line().as_bytes());
         fault.status()
     }
 
-    /// The line that tells this fault, which isn't that of a text.
+    /// The line that tells this fault, where it has a number.
+    fn numbered_line(self, alloc: Global) -> Result<Option<String>, AllocError>
+        ensures line { IfOk result (λ found. MatchOption found (HasFixedLine self) (λ line. string_bytes line ≡ line_of self)) }
+        ensures memory { OnErr result (EndsAs self Fault.Memory) }
+    {
+        match self {
+            Fault::Text(number, found) => {
+                let words = found.words(alloc)?;
+                Ok(Some(format!(in alloc; "board: text {number}: {words}\n")?))
+            }
+            Fault::Extra(at) => Ok(Some(format!(in alloc; "board: extra text at byte {at}\n")?)),
+            _ => Ok(None),
+        }
+    }
+
+    /// The line that tells this fault, which has no number.
     fn fixed_line(self) -> &'static str
-        requires { EndsAs self Fault.Memory → self ≡ Fault.Memory }
+        requires { HasFixedLine self }
         ensures { result.now ≡ line_of self }
     {
         match self {
@@ -101,26 +125,8 @@ impl Fault {
             }
             Fault::Read => "board: read fault\n",
             Fault::TooLong => "board: input is longer than 67108864 bytes\n",
-            Fault::Text(_, _) => unreachable!(),
+            Fault::Text(_, _) | Fault::Extra(_) => unreachable!(),
             Fault::Write => "board: write fault\n",
         }
-    }
-}
-
-/// The line that tells the fault of the text with this number.
-fn text_line(alloc: Global, number: usize, fault: TextFault) -> Result<String, AllocError>
-    ensures { IfOk result (λ line. string_bytes line ≡ line_of (Fault.Text number fault)) }
-{
-    match fault {
-        TextFault::Json(JsonFault::Syntax(at)) => {
-            format!(in alloc; "board: text {number}: syntax at byte {at}\n")
-        }
-        TextFault::Json(JsonFault::Depth(at)) => {
-            format!(in alloc; "board: text {number}: depth at byte {at}\n")
-        }
-        TextFault::Json(JsonFault::Utf8(at)) => {
-            format!(in alloc; "board: text {number}: utf8 at byte {at}\n")
-        }
-        TextFault::NotBuilt => format!(in alloc; "board: text {number}: form not built\n"),
     }
 }

@@ -16,10 +16,24 @@ const PRETTY_EMPTY: &str = "{
 }";
 
 #[test]
-fn merge_and_merge_pretty_are_commands(rt: HostRuntime) -> Result<(), Fail> {
+fn commands_are_done_in_their_layouts(rt: HostRuntime) -> Result<(), Fail> {
     let alloc = rt.alloc();
-    is_done(&rt, alloc, &["merge"], EMPTY, EMPTY)?;
-    is_done(&rt, alloc, &["merge", "--pretty"], EMPTY, PRETTY_EMPTY)?;
+    let rows: [(&[&str], &str); 5] = [
+        (&["restore"], EMPTY),
+        (&["restore", "--pretty"], PRETTY_EMPTY),
+        (&["merge"], EMPTY),
+        (&["merge", "--pretty"], PRETTY_EMPTY),
+        (&["state"], EMPTY),
+    ];
+    for (words, text) in rows {
+        is_done(
+            &rt,
+            alloc,
+            words,
+            "{\"type\":\"x\",\"type\":\"excalidraw\"}",
+            text,
+        )?;
+    }
     Ok(())
 }
 
@@ -29,9 +43,12 @@ const USAGE: &str =
 #[test]
 fn other_words_are_usage_and_nothing_is_read(rt: HostRuntime) -> Result<(), Fail> {
     let alloc = rt.alloc();
-    let rows: [&[&str]; 12] = [
+    let rows: [&[&str]; 15] = [
         &[],
-        &["restore"],
+        &["restore", "restore"],
+        &["state", "--pretty"],
+        &["pictures", "--pretty"],
+        &["serve", "0x", "1", "1"],
         &["merge", "merge"],
         &["--pretty"],
         &["--pretty", "merge"],

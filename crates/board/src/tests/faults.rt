@@ -71,11 +71,9 @@ struct Zeros {
 }
 
 impl Source for Zeros {
-    ghost use Rattle.board_io.specs.Ends.{untold};
+    ghost use Rattle.board_io.specs.Ends.{untold_source};
 
-    ghost left = { λ _. untold };
-
-    ghost faults = { λ _. 0 };
+    ghost seen = { λ _. untold_source 0 };
 
     fn read(&mut self, buf: &mut [u8]) -> Result<usize, Failed> {
         let n = buf.len().min(self.left);

@@ -18,13 +18,13 @@ fn the_first_fault_of_a_text_is_told(rt: HostRuntime) -> Result<(), Fail> {
         ),
         (b"[1,]", "board: text 1: syntax at byte 3\n"),
         (b"\xEF\xBB\xBF{}", "board: text 1: syntax at byte 0\n"),
-        (b"{\"a\":1}", "board: text 1: form not built\n"),
-        (b"{\"a\":1}x", "board: text 1: form not built\n"),
-        (b"\n{}", "board: text 1: form not built\n"),
-        (b"[]", "board: text 1: form not built\n"),
-        (b"5", "board: text 1: form not built\n"),
-        (b"\"a\"", "board: text 1: form not built\n"),
-        (b"null", "board: text 1: form not built\n"),
+        (b"{\"a\":1}", "board: text 1: type\n"),
+        (b"{\"a\":1}x", "board: text 1: type\n"),
+        (b"\n{}", "board: text 1: type\n"),
+        (b"[]", "board: text 1: not an object\n"),
+        (b"5", "board: text 1: not an object\n"),
+        (b"\"a\"", "board: text 1: not an object\n"),
+        (b"null", "board: text 1: not an object\n"),
         (b"\"\\\xFF", "board: text 1: utf8 at byte 2\n"),
         (&[b'['; 129], "board: text 1: depth at byte 128\n"),
     ];
@@ -39,10 +39,7 @@ fn texts_are_numbered_and_bytes_counted_over_the_whole_input(rt: HostRuntime) ->
     let alloc = rt.alloc();
     // EMPTY has 86 bytes.
     let rows: [(&[&[u8]], &str); 10] = [
-        (
-            &[EMPTY.as_bytes(), b"[]"],
-            "board: text 2: form not built\n",
-        ),
+        (&[EMPTY.as_bytes(), b"[]"], "board: text 2: not an object\n"),
         (
             &[EMPTY.as_bytes(), b"x"],
             "board: text 2: syntax at byte 86\n",
@@ -69,11 +66,11 @@ fn texts_are_numbered_and_bytes_counted_over_the_whole_input(rt: HostRuntime) ->
         ),
         (
             &[EMPTY.as_bytes(), EMPTY.as_bytes(), b" 5 "],
-            "board: text 3: form not built\n",
+            "board: text 3: not an object\n",
         ),
         (
             &[EMPTY.as_bytes(), b"5", b" x"],
-            "board: text 2: form not built\n",
+            "board: text 2: not an object\n",
         ),
         (
             &[b" ", EMPTY.as_bytes(), b"}"],
@@ -108,11 +105,6 @@ fn a_text_behind_ten_scenes_is_the_eleventh(rt: HostRuntime) -> Result<(), Fail>
         input.extend_from_slice(EMPTY.as_bytes())?;
     }
     input.extend_from_slice(b"\n{}")?;
-    is_refused(
-        &rt,
-        rt.alloc(),
-        input.as_slice(),
-        "board: text 11: form not built\n",
-    )?;
+    is_refused(&rt, rt.alloc(), input.as_slice(), "board: text 11: type\n")?;
     Ok(())
 }

@@ -1,7 +1,0 @@
-use Rattle.std.proofs.Common.{◌≡◌, drop}
-use Rattle.scene_json.specs.Members.{pairs}
-use Rattle.board.specs.Members.{value_at}
-use Rattle.board.proofs.fields.value_named.Given as goal
-
-abbrev pub invariant-loop-member : goal.invariant-loop-member
-invariant-loop-member l = value_at l.name (pairs l.members) ≡ value_at l.name (pairs (drop l.member-index l.members))

@@ -1,0 +1,15 @@
+use Rattle.std.proofs.Common.{◌≡◌, ◌≤◌, ◌-◌, ◌⊎◌, [], false, length, drop}
+use Rattle.scene_json.specs.Characters.{is_blank}
+use Rattle.board.specs.Input.{ScenesLead}
+use Rattle.board.proofs.load.scenes.Given as goal
+
+-- the scenes so far lead up to the offset, and behind the first one more than white space is left
+abbrev pub invariant-loop-scenes : goal.invariant-loop-scenes
+invariant-loop-scenes l = record {
+  within : l.at ≤ length l.bytes;
+  lead : ScenesLead l.bytes l.scenes.items (drop l.at l.bytes);
+  begun : (l.scenes.items ≡ []) ⊎ (is_blank (drop l.at l.bytes) ≡ false);
+}
+
+abbrev pub decreases-loop-scenes : goal.decreases-loop-scenes
+decreases-loop-scenes l = length l.bytes - l.at
