@@ -25,3 +25,8 @@ blank-at_end bytes at within ends =
 pub blank-before_end : (bytes : List ℕ) (at : ℕ) → at ≤ length bytes → (at + prefix_len is_space (drop at bytes) ≡ length bytes → ⊥) → is_blank (drop at bytes) ≡ false
 blank-before_end bytes at within ends =
     elim (Runs-either is_space (drop at bytes)) [ inl h ↦ absurd (ends (omega (arith, h.1, length-drop at bytes))) | inr h ↦ h.0 ]
+
+-- White space alone is left where its end isn't before that of all bytes.
+pub blank-not_before : (bytes : List ℕ) (at : ℕ) → at ≤ length bytes → (at + prefix_len is_space (drop at bytes) < length bytes → ⊥) → is_blank (drop at bytes) ≡ true
+blank-not_before bytes at within before =
+    elim (Runs-either is_space (drop at bytes)) [ inl h ↦ h.0 | inr h ↦ absurd (before (omega (arith, h.1, length-drop at bytes))) ]

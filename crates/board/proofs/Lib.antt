@@ -1,4 +1,7 @@
+pub mod Answering
 pub mod Blanks
+pub mod Given
 pub mod Inputs
+pub mod Lines
 pub mod Scenes
 pub mod Unique

@@ -26,7 +26,7 @@ use Rattle.board.specs.Answers.{IsAnswer, IsBoardOf, IsShownAs, IsStoredAs, HasP
 use Rattle.board.specs.Faults.{newline}
 use Rattle.board.specs.Input.{HasScenes, HasFaultyText, HasExtraText}
 use Rattle.board.specs.Pictures.{AreLines, IsTold}
-use Rattle.board.specs.Pictures.IsTold.TheVariants.{size, not_base64, no_data_url}
+use Rattle.board.specs.Pictures.IsTold.{size, not_base64, no_data_url}
 use Rattle.board.specs.declared.status.Fault.{Fault}
 use Rattle.board.specs.declared.status.Fault.TheVariants as fault
 use Rattle.board.specs.declared.words.Command.{Command}
@@ -64,9 +64,6 @@ data-once : (entry content other : List ℕ) → HasData entry content → HasDa
 data-once entry content other a b =
     content-unique b.url content other (subst (λ u. IsDataUrl u content) (url-once entry a.url b.url a.has b.has) a.is) b.is
 
-size-data : {entry : List ℕ} {n : ℕ} → (p : IsPictureSize entry n) → HasData entry p.text
-size-data p = p.has
-
 size-once : (entry : List ℕ) (n m : ℕ) → IsPictureSize entry n → IsPictureSize entry m → n ≡ m
 size-once entry n m p q =
     let text = data-once entry p.text q.text p.has q.has in
@@ -74,19 +71,15 @@ size-once entry n m p q =
     let bytes : p.bytes ≡ q.bytes = cc in
     p.size_is ∙ (ap length bytes ∙ sym q.size_is)
 
-size-decodes : (entry content : List ℕ) (n : ℕ) → IsPictureSize entry n → HasData entry content → ((bytes : List ℕ) → decode_of standard content ≢ Ok bytes) → ⊥
-size-decodes entry content n p data' fails =
-    fails p.bytes (ap (decode_of standard) (data-once entry content p.text data' p.has) ∙ p.decoded)
-
 told-once : (entry a b : List ℕ) → IsTold entry a → IsTold entry b → a ≡ b
 told-once entry a b (size n p) (size m q) = ap decimal (size-once entry n m p q)
-told-once entry a b (size n p) (not_base64 content data' fails) = absurd (size-decodes entry content n p data' fails)
+told-once entry a b (size n p) (not_base64 content data' fails) = absurd (fails n p)
 told-once entry a b (size n p) (no_data_url none) = absurd (none p.text p.has)
-told-once entry a b (not_base64 content data' fails) (size m q) = absurd (size-decodes entry content m q data' fails)
-told-once entry a b (not_base64 content data' fails) (not_base64 other also no) = refl
+told-once entry a b (not_base64 content data' fails) (size m q) = absurd (fails m q)
+told-once entry a b (not_base64 content data' fails) (not_base64 other also fails_too) = refl
 told-once entry a b (not_base64 content data' fails) (no_data_url none) = absurd (none content data')
 told-once entry a b (no_data_url none) (size m q) = absurd (none q.text q.has)
-told-once entry a b (no_data_url none) (not_base64 other also no) = absurd (none other also)
+told-once entry a b (no_data_url none) (not_base64 other also fails_too) = absurd (none other also)
 told-once entry a b (no_data_url none) (no_data_url also) = refl
 
 lines-once : (files : List Pair) (text other : List ℕ) → AreLines files text → AreLines files other → text ≡ other
@@ -128,12 +121,12 @@ refusal-none bytes f scenes is has =
 
 -- a refusal of what is to be one scene: for its text, or for what follows it
 data Refused (bytes : List ℕ) : Fault → Type 0 where
-  text : (found : SceneFault) → IsFaultAt bytes 0 found → Refused bytes (fault.Text 1 found)
-  extra : (at : ℕ) → HasExtraText bytes at → Refused bytes (fault.Extra at)
+  in_text : (found : SceneFault) → IsFaultAt bytes 0 found → Refused bytes (fault.Text 1 found)
+  behind : (at : ℕ) → HasExtraText bytes at → Refused bytes (fault.Extra at)
 
 refused : (bytes : List ℕ) (f : Fault) → IsOneRefusal bytes f → Refused bytes f
-refused bytes (fault.Text number found) (one, is) = subst (λ n. Refused bytes (fault.Text n found)) (sym one) (text found is)
-refused bytes (fault.Extra at) is = extra at is
+refused bytes (fault.Text number found) (one, is) = subst (λ n. Refused bytes (fault.Text n found)) (sym one) (in_text found is)
+refused bytes (fault.Extra at) is = behind at is
 refused bytes fault.Memory is = absurd is
 refused bytes fault.Usage is = absurd is
 refused bytes fault.Read is = absurd is
@@ -141,14 +134,14 @@ refused bytes fault.TooLong is = absurd is
 refused bytes fault.Write is = absurd is
 
 refused-once : (bytes : List ℕ) (f g : Fault) → Refused bytes f → Refused bytes g → f ≡ g
-refused-once bytes f g (text found is) (text other also) = ap (fault.Text 1) (fault-once bytes 0 found other is also)
-refused-once bytes f g (text found is) (extra at e) = absurd (fault-none bytes 0 found is e.lead)
-refused-once bytes f g (extra at e) (text found is) = absurd (fault-none bytes 0 found is e.lead)
-refused-once bytes f g (extra at e) (extra other also) = ap fault.Extra (extra-once bytes at other e also)
+refused-once bytes f g (in_text found is) (in_text other also) = ap (fault.Text 1) (fault-once bytes 0 found other is also)
+refused-once bytes f g (in_text found is) (behind at e) = absurd (fault-none bytes 0 found is e.lead)
+refused-once bytes f g (behind at e) (in_text found is) = absurd (fault-none bytes 0 found is e.lead)
+refused-once bytes f g (behind at e) (behind other also) = ap fault.Extra (extra-once bytes at other e also)
 
 refused-none : (bytes : List ℕ) (f : Fault) (scene : Scene) → Refused bytes f → HasScenes bytes (scene ∷ []) → ⊥
-refused-none bytes f scene (text found is) has = fault-none bytes 0 found is has.lead.1
-refused-none bytes f scene (extra at e) has = extra-scene bytes at scene e has
+refused-none bytes f scene (in_text found is) has = fault-none bytes 0 found is has.lead.1
+refused-none bytes f scene (behind at e) has = extra-scene bytes at scene e has
 
 -- ---- answers
 made-once : (IsOf : List Scene → List ℕ → Type 0) (bytes text other : List ℕ)

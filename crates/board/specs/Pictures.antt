@@ -1,7 +1,5 @@
 -- What is told of the pictures of files. This project's own.
-use Rattle.std.specs.Prelude.{◌≡◌, ◌≢◌, ℕ, List, [], ◌∷◌, ◌++◌, Ok, codes, decimal}
-use Rattle.base64.specs.Engines.{standard}
-use Rattle.base64.specs.GeneralPurpose.{decode_of}
+use Rattle.std.specs.Prelude.{◌≡◌, ℕ, List, [], ◌∷◌, ◌++◌, codes, decimal}
 use Rattle.scene_json.specs.Characters.{quote}
 use Rattle.scene_json.specs.Compact.{Member as Pair}
 use Rattle.file_table.specs.Picture.{HasData, IsPictureSize}
@@ -10,7 +8,7 @@ use Rattle.board.specs.Faults.{newline}
 -- What is told of an entry's picture: how many bytes it has, or that it isn't base64, or that there is no data URL.
 pub data IsTold (entry : List ℕ) : List ℕ → Type 0 where
   size : (size : ℕ) → IsPictureSize entry size → IsTold entry (decimal size)
-  not_base64 : (content : List ℕ) → HasData entry content → ((bytes : List ℕ) → decode_of standard content ≢ Ok bytes) → IsTold entry (codes "not base64")
+  not_base64 : (content : List ℕ) → HasData entry content → ((size : ℕ) → IsPictureSize entry size → ⊥) → IsTold entry (codes "not base64")
   no_data_url : ((content : List ℕ) → HasData entry content → ⊥) → IsTold entry (codes "no data url")
 
 -- A line on each file: its id as a string, a space, and what is told of its picture.

@@ -4,12 +4,12 @@ use Rattle.board.specs.Input.{ScenesLead}
 use Rattle.board.proofs.load.scenes.Given as goal
 
 -- the scenes so far lead up to the offset, and behind the first one more than white space is left
-abbrev pub invariant-loop-scenes : goal.invariant-loop-scenes
-invariant-loop-scenes l = record {
+abbrev pub invariant-loop-found : goal.invariant-loop-found
+invariant-loop-found l = record {
   within : l.at ≤ length l.bytes;
   lead : ScenesLead l.bytes l.scenes.items (drop l.at l.bytes);
   begun : (l.scenes.items ≡ []) ⊎ (is_blank (drop l.at l.bytes) ≡ false);
 }
 
-abbrev pub decreases-loop-scenes : goal.decreases-loop-scenes
-decreases-loop-scenes l = length l.bytes - l.at
+abbrev pub decreases-loop-found : goal.decreases-loop-found
+decreases-loop-found l = length l.bytes - l.at

@@ -1,0 +1,18 @@
+use Rattle.std.proofs.Common.{◌≡◌, ◌++◌, sym, ap, subst}
+use Rattle.std.proofs.lemmas.Result.{IfOk-weaker}
+use Rattle.view.proofs.ShownLaws.{shown-settled, HaveDistinctIds-rising}
+use Rattle.board.proofs.answer.shown_text.Goals as goal
+
+pub returns : goal.returns
+returns c =
+    let settled = shown-settled c.view.inside.live (HaveDistinctIds-rising c.view.inside.live c.view.invariant.ordered) c.view.invariant.keys in
+    IfOk-weaker c.ended.result _ _ (λ text made. record {
+      head = c.in_ok-head.head;
+      stored = c.in_ok-head.store;
+      board = c.in_ok-head.ensures;
+      written = c.in_ok-scene_text.field-0;
+      scene = rw (← c.in_ok-view.ensures) c.in_ok-scene_text.ensures.text;
+      ended = made;
+      rise = rw (← c.in_ok-view.ensures) c.in_ok-scene_text.ensures.rise;
+      settled = rw (← c.in_ok-view.ensures, ← c.view.view_is) settled;
+    }) c.ended.ensures
