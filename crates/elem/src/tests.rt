@@ -1,12 +1,11 @@
 //! Elements, their texts and copies.
 
-ghost use Rattle.std.specs.Prelude.{◌≡◌, ◌≢◌, [], map, All, IfOk};
-ghost use Rattle.scene_json.specs.Value.{IsCompact};
-ghost use Rattle.elem.specs.Facts.{IsBinding, IsKind, names};
+ghost use Rattle.std.specs.Prelude.{◌≡◌, ◌≢◌, [], IfOk};
+ghost use Rattle.elem.specs.Facts.{IsKind};
 
-use crate::{Binding, BoundRef, Element, Kind, Role, beats, element_raw, same, same_but_stamp};
+use crate::{BoundRef, Element, Kind, Role, beats, element_raw, same, same_but_stamp};
 use board_io::List;
-use scene_json::{Member, Raw, Text, raw_null, raw_text, raw_truth, raw_whole};
+use scene_json::Text;
 use std::alloc::{AllocError, Global};
 use std::process::Abort;
 use std::test::Fail;
@@ -34,68 +33,6 @@ fn bare(alloc: Global, id: &str, kind: Kind) -> Result<Element, AllocError>
         file: None,
         rest: List::new(alloc),
     })
-}
-
-/// The value that is written so: null, false, a number, or else a text.
-fn literal(alloc: Global, value: &str) -> Result<Raw, AllocError>
-    ensures { IfOk result (IsCompact 0) }
-{
-    match value {
-        "null" => raw_null(alloc),
-        "false" => raw_truth(alloc, false),
-        _ => match value.parse::<u64>() {
-            Ok(number) => raw_whole(alloc, number),
-            Err(_) => raw_text(alloc, &Text::from_str(alloc, value)?),
-        },
-    }
-}
-
-/// Members of these names and values.
-fn rest(alloc: Global, rows: &[(&str, &str)]) -> Result<List<Member>, AllocError>
-    ensures names { IfOk result (λ list. names list ≡ map (λ row. row.0.now) rows.now) }
-    ensures nest { IfOk result (λ list. All (λ member. IsCompact 0 member.value) list) }
-{
-    let mut members = Vec::new(alloc);
-    for row in rows {
-        members.push(Member::named(alloc, row.0, literal(alloc, row.1)?)?)?;
-    }
-    Ok(List::from_vec(members))
-}
-
-/// A binding with a member on either side of `elementId`.
-fn binding(alloc: Global, target: &str) -> Result<Binding, AllocError>
-    ensures { IfOk result IsBinding }
-{
-    Ok(Binding {
-        target: Text::from_str(alloc, target)?,
-        rest: rest(alloc, &[("above", "null"), ("gap", "4")])?,
-    })
-}
-
-fn rectangle(alloc: Global) -> Result<Element, AllocError> {
-    let mut rectangle = bare(alloc, "r1", Kind::Rectangle)?;
-    rectangle.rest = rest(
-        alloc,
-        &[
-            ("angle", "0"),
-            ("backgroundColor", "transparent"),
-            ("fillStyle", "solid"),
-            ("height", "0"),
-            ("link", "null"),
-            ("locked", "false"),
-            ("opacity", "100"),
-            ("roughness", "1"),
-            ("roundness", "null"),
-            ("seed", "1"),
-            ("strokeColor", "#1e1e1e"),
-            ("strokeStyle", "solid"),
-            ("strokeWidth", "2"),
-            ("width", "0"),
-            ("x", "0"),
-            ("y", "0"),
-        ],
-    )?;
-    Ok(rectangle)
 }
 
 fn hexagon(alloc: Global) -> Result<Element, AllocError> {
@@ -129,15 +66,13 @@ fn listing(alloc: Global) -> Result<List<BoundRef>, AllocError> {
     Ok(List::from_vec(vec![in alloc; BoundRef { id, role }]?))
 }
 
-/// An arrow that has something in each of its parts.
+/// An arrow in a group, with a listing.
 fn arrow(alloc: Global) -> Result<Element, AllocError> {
     let groups = group(alloc)?;
     let bound = listing(alloc)?;
-    let start = binding(alloc, "b1")?;
     let mut arrow = bare(alloc, "w1", Kind::Arrow)?;
     arrow.groups = groups;
     arrow.bound = bound;
-    arrow.start_binding = Some(start);
     Ok(arrow)
 }
 
@@ -151,12 +86,6 @@ fn prints(rt: &impl Abort, alloc: Global, e: &Element, wanted: &str) -> Result<(
 #[test]
 fn prints_members_by_name(rt: HostRuntime) -> Result<(), Fail> {
     let alloc = rt.alloc();
-    prints(
-        &rt,
-        alloc,
-        &rectangle(alloc)?,
-        "{\"angle\":0,\"backgroundColor\":\"transparent\",\"boundElements\":[],\"fillStyle\":\"solid\",\"frameId\":null,\"groupIds\":[],\"height\":0,\"id\":\"r1\",\"index\":null,\"isDeleted\":false,\"link\":null,\"locked\":false,\"opacity\":100,\"roughness\":1,\"roundness\":null,\"seed\":1,\"strokeColor\":\"#1e1e1e\",\"strokeStyle\":\"solid\",\"strokeWidth\":2,\"type\":\"rectangle\",\"updated\":0,\"version\":1,\"versionNonce\":0,\"width\":0,\"x\":0,\"y\":0}",
-    )?;
     prints(
         &rt,
         alloc,
@@ -179,7 +108,7 @@ fn prints_the_members_of_a_kind(rt: HostRuntime) -> Result<(), Fail> {
         &rt,
         alloc,
         &arrow(alloc)?,
-        "{\"boundElements\":[{\"id\":\"t1\",\"type\":\"text\"}],\"endBinding\":null,\"frameId\":null,\"groupIds\":[\"g\\\"1\"],\"id\":\"w1\",\"index\":null,\"isDeleted\":false,\"startBinding\":{\"above\":null,\"elementId\":\"b1\",\"gap\":4},\"type\":\"arrow\",\"updated\":0,\"version\":1,\"versionNonce\":0}",
+        "{\"boundElements\":[{\"id\":\"t1\",\"type\":\"text\"}],\"endBinding\":null,\"frameId\":null,\"groupIds\":[\"g\\\"1\"],\"id\":\"w1\",\"index\":null,\"isDeleted\":false,\"startBinding\":null,\"type\":\"arrow\",\"updated\":0,\"version\":1,\"versionNonce\":0}",
     )?;
     prints(
         &rt,
