@@ -8,17 +8,11 @@ use crate::parts::{items, members, text_of};
 use std::process::Abort;
 use std::test::Fail;
 
-/// Each text is one value up to its end, and the other is its compact text.
-fn reads(
-    rt: &impl Abort,
-    alloc: Global,
-    rows: &[(&'static [u8], &'static [u8])],
-) -> Result<(), Fail> {
-    for (i, (bytes, text)) in rows.iter().enumerate() {
-        let (value, end) = scan(alloc, bytes, 0)?;
-        assert!(rt; value.as_bytes() == *text, "row {i}");
-        assert_eq!(rt; end, bytes.len(), "row {i}");
-    }
+/// These bytes are one value up to their end, and this is its compact text.
+fn reads(rt: &impl Abort, alloc: Global, bytes: &[u8], text: &[u8]) -> Result<(), Fail> {
+    let (value, end) = scan(alloc, bytes, 0)?;
+    assert_eq!(rt; value.as_bytes(), text);
+    assert_eq!(rt; end, bytes.len());
     Ok(())
 }
 
@@ -101,8 +95,13 @@ const SURROGATES: [(&'static [u8], &'static [u8]); 19] = [
 
 #[test]
 fn strings_are_decoded_and_quoted_anew(rt: HostRuntime) -> Result<(), Fail> {
-    reads(&rt, rt.alloc(), &STRINGS)?;
-    reads(&rt, rt.alloc(), &SURROGATES)
+    for (bytes, text) in STRINGS {
+        reads(&rt, rt.alloc(), bytes, text)?;
+    }
+    for (bytes, text) in SURROGATES {
+        reads(&rt, rt.alloc(), bytes, text)?;
+    }
+    Ok(())
 }
 
 const LITERALS: [(&'static [u8], &'static [u8]); 11] = [
@@ -161,8 +160,13 @@ const NAMES: [(&'static [u8], &'static [u8]); 16] = [
 
 #[test]
 fn literals_are_kept_and_names_come_once(rt: HostRuntime) -> Result<(), Fail> {
-    reads(&rt, rt.alloc(), &LITERALS)?;
-    reads(&rt, rt.alloc(), &NAMES)
+    for (bytes, text) in LITERALS {
+        reads(&rt, rt.alloc(), bytes, text)?;
+    }
+    for (bytes, text) in NAMES {
+        reads(&rt, rt.alloc(), bytes, text)?;
+    }
+    Ok(())
 }
 
 // where it is read from, its compact text and the offset after it
