@@ -9,8 +9,6 @@ mod kinds;
 pub mod laws;
 mod listing;
 mod reading;
-#[cfg(test)]
-mod tests;
 
 pub use fault::ElemFault;
 pub use reading::read_element;

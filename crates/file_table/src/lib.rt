@@ -6,8 +6,6 @@ pub mod laws;
 mod picture;
 mod references;
 mod table;
-#[cfg(test)]
-mod tests;
 
 pub use files::Files;
 pub use picture::{PictureFault, picture_size};

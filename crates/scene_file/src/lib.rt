@@ -8,8 +8,6 @@ mod layout;
 mod printing;
 mod reading;
 mod scene;
-#[cfg(test)]
-mod tests;
 
 pub use fault::SceneFault;
 pub use head::{Head, join};
