@@ -256,11 +256,11 @@ listing-or-not (Some v) fits = elim (array-or-not v fits) [
 ]
 
 -- ---- further members
-unpaired : List Pair → List Member
+pub unpaired : List Pair → List Member
 unpaired [] = []
 unpaired (m ∷ ms) = record { name = m.0; value = m.1 } ∷ unpaired ms
 
-pairs-unpaired : (ms : List Pair) → pairs (unpaired ms) ≡ ms
+pub pairs-unpaired : (ms : List Pair) → pairs (unpaired ms) ≡ ms
 unfolding unpaired
 pairs-unpaired [] = refl
 pairs-unpaired (m ∷ ms) = ap (λ rest. m ∷ rest) (pairs-unpaired ms)

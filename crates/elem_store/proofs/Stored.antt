@@ -31,7 +31,7 @@ put-at : (id : List ℕ) (e : Drawn) (fs : List Drawn) → element_of (put e fs)
 put-at id e [] = refl
 put-at id e (f ∷ fs) =
     elim (slice_cmp nat_cmp e.id f.id) as (λ o. slice_cmp nat_cmp e.id f.id ≡ o →
-        element_of (match_ordering o (e ∷ f ∷ fs) (e ∷ fs) (f ∷ put e fs)) id ≡ cond (is_of id e) (Some e) (element_of (f ∷ fs) id)) [
+    element_of (match_ordering o (e ∷ f ∷ fs) (e ∷ fs) (f ∷ put e fs)) id ≡ cond (is_of id e) (Some e) (element_of (f ∷ fs) id)) [
       | Less ↦ λ less. refl
       | Equal ↦ λ tied. elim (cases_Bool (bytes_eq id e.id)) [
         | inl own ↦ rw own refl
@@ -50,10 +50,13 @@ put-at id e (f ∷ fs) =
 -- ---- one update more, and all of them
 taken : (elements : List Drawn) (e : Drawn) → are_rising (ids_of elements) ≡ true → (new : List Drawn) × HasTaken elements e new
 taken elements e rise = elim (cases_Bool (is_taken elements e)) [
-  | inl takes ↦ (put e elements, record {
-    ordered = put-rises None e elements refl rise;
-    each = λ id. put-at id e elements ∙ rw takes (both (is_of id e) (Some e) (element_of elements id));
-  })
+  | inl takes ↦ (
+    put e elements,
+    record {
+      ordered = put-rises None e elements refl rise;
+      each = λ id. put-at id e elements ∙ rw takes (both (is_of id e) (Some e) (element_of elements id));
+    },
+  )
   | inr stays ↦ (elements, HasTaken-not elements e rise stays)
 ]
   where

@@ -119,9 +119,13 @@ url-or-not entry is = elim (object-or-not entry is) [
         → ((url : List ℕ) × HasUrl entry url × ((other : List ℕ) → HasUrl entry other → other ≡ url)) ⊎ ((url : List ℕ) → HasUrl entry url → ⊥)
     by ms are e None missing = inr (λ url has. let no : None ≡ Some (quote url) = sym missing ∙ url-once entry ms url are e has in cc)
     by ms are e (Some value) here = elim (string-or-not value (Value-deeper (lit≤ tt) (found-nests (codes "dataURL") ms value are here))) [
-      | inl (url, utf8, quoted) ↦ inl (url, record { members = ms; are = are; object = e; text = utf8; named = here ∙ ap Some quoted }, λ other has.
-          let both : Some (quote other) ≡ Some (quote url) = sym (url-once entry ms other are e has) ∙ (here ∙ ap Some quoted) in
-          quote-once other url has.text utf8 (cc))
+      | inl (url, utf8, quoted) ↦ inl (
+        url,
+        record { members = ms; are = are; object = e; text = utf8; named = here ∙ ap Some quoted },
+        λ other has.
+            let both : Some (quote other) ≡ Some (quote url) = sym (url-once entry ms other are e has) ∙ (here ∙ ap Some quoted) in
+            quote-once other url has.text utf8 (cc),
+      )
       | inr none ↦ inr (λ url has. let both : Some value ≡ Some (quote url) = sym here ∙ url-once entry ms url are e has in none url (cc))
     ]
 

@@ -82,12 +82,31 @@ with_index-kept e key is kept =
     let w = kept.written in
     record {
       element = record {
-        named = a.named; version = a.version; nonce = a.nonce; updated = a.updated; kind = a.kind; container = a.container;
-        start_binding = a.start_binding; end_binding = a.end_binding; file = a.file; rise = a.rise; free = a.free; nest = a.nest;
+        named = a.named;
+        version = a.version;
+        nonce = a.nonce;
+        updated = a.updated;
+        kind = a.kind;
+        container = a.container;
+        start_binding = a.start_binding;
+        end_binding = a.end_binding;
+        file = a.file;
+        rise = a.rise;
+        free = a.free;
+        nest = a.nest;
       };
       written = record {
-        id = w.id; kind = w.kind; index = is; groups = w.groups; frame = w.frame; bound = w.bound; container = w.container;
-        start_binding = w.start_binding; end_binding = w.end_binding; file = w.file; rest = w.rest;
+        id = w.id;
+        kind = w.kind;
+        index = is;
+        groups = w.groups;
+        frame = w.frame;
+        bound = w.bound;
+        container = w.container;
+        start_binding = w.start_binding;
+        end_binding = w.end_binding;
+        file = w.file;
+        rest = w.rest;
       };
     }
 
@@ -115,14 +134,31 @@ container-kept list e kept =
     let w = kept.written in
     record {
       element = record {
-        named = a.named; version = a.version; nonce = a.nonce; updated = a.updated; kind = a.kind;
+        named = a.named;
+        version = a.version;
+        nonce = a.nonce;
+        updated = a.updated;
+        kind = a.kind;
         container = if-some _ (keeps_container list e) e.container a.container;
-        start_binding = a.start_binding; end_binding = a.end_binding; file = a.file; rise = a.rise; free = a.free; nest = a.nest;
+        start_binding = a.start_binding;
+        end_binding = a.end_binding;
+        file = a.file;
+        rise = a.rise;
+        free = a.free;
+        nest = a.nest;
       };
       written = record {
-        id = w.id; kind = w.kind; index = w.index; groups = w.groups; frame = w.frame; bound = w.bound;
+        id = w.id;
+        kind = w.kind;
+        index = w.index;
+        groups = w.groups;
+        frame = w.frame;
+        bound = w.bound;
         container = if-some IsUtf8 (keeps_container list e) e.container w.container;
-        start_binding = w.start_binding; end_binding = w.end_binding; file = w.file; rest = w.rest;
+        start_binding = w.start_binding;
+        end_binding = w.end_binding;
+        file = w.file;
+        rest = w.rest;
       };
     }
 
@@ -162,18 +198,31 @@ links-kept list e all kept =
     let w = kept.written in
     record {
       element = record {
-        named = a.named; version = a.version; nonce = a.nonce; updated = a.updated; kind = a.kind; container = a.container;
+        named = a.named;
+        version = a.version;
+        nonce = a.nonce;
+        updated = a.updated;
+        kind = a.kind;
+        container = a.container;
         start_binding = if-some _ (names_target list (target_of e.start_binding)) e.start_binding a.start_binding;
         end_binding = if-some _ (names_target list (target_of e.end_binding)) e.end_binding a.end_binding;
-        file = a.file; rise = a.rise; free = a.free; nest = a.nest;
+        file = a.file;
+        rise = a.rise;
+        free = a.free;
+        nest = a.nest;
       };
       written = record {
-        id = w.id; kind = w.kind; index = w.index; groups = w.groups; frame = w.frame;
+        id = w.id;
+        kind = w.kind;
+        index = w.index;
+        groups = w.groups;
+        frame = w.frame;
         bound = listing-written list e all kept;
         container = w.container;
         start_binding = if-some IsBindingText (names_target list (target_of e.start_binding)) e.start_binding w.start_binding;
         end_binding = if-some IsBindingText (names_target list (target_of e.end_binding)) e.end_binding w.end_binding;
-        file = w.file; rest = w.rest;
+        file = w.file;
+        rest = w.rest;
       };
     }
 
@@ -186,12 +235,31 @@ frame-kept names_frame e kept =
       | true ↦ kept
       | false ↦ record {
         element = record {
-          named = a.named; version = a.version; nonce = a.nonce; updated = a.updated; kind = a.kind; container = a.container;
-          start_binding = a.start_binding; end_binding = a.end_binding; file = a.file; rise = a.rise; free = a.free; nest = a.nest;
+          named = a.named;
+          version = a.version;
+          nonce = a.nonce;
+          updated = a.updated;
+          kind = a.kind;
+          container = a.container;
+          start_binding = a.start_binding;
+          end_binding = a.end_binding;
+          file = a.file;
+          rise = a.rise;
+          free = a.free;
+          nest = a.nest;
         };
         written = record {
-          id = w.id; kind = w.kind; index = w.index; groups = w.groups; frame = tt; bound = w.bound; container = w.container;
-          start_binding = w.start_binding; end_binding = w.end_binding; file = w.file; rest = w.rest;
+          id = w.id;
+          kind = w.kind;
+          index = w.index;
+          groups = w.groups;
+          frame = tt;
+          bound = w.bound;
+          container = w.container;
+          start_binding = w.start_binding;
+          end_binding = w.end_binding;
+          file = w.file;
+          rest = w.rest;
         };
       }
     ]
@@ -206,12 +274,31 @@ group-kept e kept =
     let w = kept.written in
     record {
       element = record {
-        named = a.named; version = a.version; nonce = a.nonce; updated = a.updated; kind = a.kind; container = a.container;
-        start_binding = a.start_binding; end_binding = a.end_binding; file = a.file; rise = a.rise; free = a.free; nest = a.nest;
+        named = a.named;
+        version = a.version;
+        nonce = a.nonce;
+        updated = a.updated;
+        kind = a.kind;
+        container = a.container;
+        start_binding = a.start_binding;
+        end_binding = a.end_binding;
+        file = a.file;
+        rise = a.rise;
+        free = a.free;
+        nest = a.nest;
       };
       written = record {
-        id = w.id; kind = w.kind; index = w.index; groups = groups-written e.groups w.groups; frame = w.frame; bound = w.bound; container = w.container;
-        start_binding = w.start_binding; end_binding = w.end_binding; file = w.file; rest = w.rest;
+        id = w.id;
+        kind = w.kind;
+        index = w.index;
+        groups = groups-written e.groups w.groups;
+        frame = w.frame;
+        bound = w.bound;
+        container = w.container;
+        start_binding = w.start_binding;
+        end_binding = w.end_binding;
+        file = w.file;
+        rest = w.rest;
       };
     }
 
