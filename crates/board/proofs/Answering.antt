@@ -93,3 +93,13 @@ module _ (asked : Option Command) (command : Command) (bytes : List ℕ) (answer
         subst (EndsRefused result) same (noted (fault.Extra at) told result refl ends status note)
     fault-ends why fault.Write told out out_after result one cause ends status note reads =
         let both = done-answer out out_after _ cause.0.1 ∙ one in cc
+
+-- no fault ends a run as done
+pub not-done : (f : Fault) → status_of f ≡ status.Done → ⊥
+not-done fault.Memory e = cc
+not-done fault.Usage e = cc
+not-done fault.Read e = cc
+not-done fault.TooLong e = cc
+not-done (fault.Text number found) e = cc
+not-done (fault.Extra at) e = cc
+not-done fault.Write e = cc

@@ -1,5 +1,6 @@
 pub mod Answering
 pub mod Blanks
+pub mod Existing
 pub mod Given
 pub mod Inputs
 pub mod Lines

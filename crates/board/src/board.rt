@@ -1,10 +1,10 @@
 //! The top call: from the words and the input to the output, the notes and a status.
 
-ghost use Rattle.std.specs.Prelude.{◌≡◌, ◌≢◌, ◌↔◌, ◌⊎◌, ℕ, List, None, IsSome, IfOk, IfErr, OnOk, Ok, Err};
+ghost use Rattle.std.specs.Prelude.{◌≡◌, ◌≢◌, ◌↔◌, ◌⊎◌, ℕ, List, None, IsSome, IfOk, IfErr, OnOk, Result, Ok, Err};
 ghost use Rattle.board_io.specs.Counts.{Rose};
 ghost use Rattle.board.specs.Answers.{IsAnswer, Converges};
 ghost use Rattle.board.specs.Causes.{HasCause};
-ghost use Rattle.board.specs.Ends.{GaveWithin, GaveTooMuch, HasLeft, WasDone, WasDoneInPart, WasRefused};
+ghost use Rattle.board.specs.Ends.{EndsWith, GaveWithin, GaveTooMuch, HasLeft, WasDone, WasDoneInPart, WasRefused};
 ghost use Rattle.board.specs.Faults.{status_of, Noted};
 ghost use Rattle.board.specs.Words.{asked};
 ghost use Rattle.board.specs.declared.status.Fault.{Fault};
@@ -50,16 +50,14 @@ pub fn board<S: Source, K: Sink, N: Sink, L: Links>(
     ensures write_fault { result ≡ Status.WriteFault
         → WasDoneInPart (asked words.now) (S.seen input.old) (S.seen input.new) (K.seen output.old) (K.seen output.new) }
 
-    // Where the input tells its bytes and no end fails, it is answered; or memory is wanted.
-    ensures complete { (command : Command) (bytes text : List ℕ) → asked words.now ≡ Some command
-        → HasLeft (S.seen input.old) bytes → IsAnswer command bytes (Ok text)
+    // Where the input tells its bytes and no end fails: Done with the one text, or Refused with the one fault, that the
+    // command answers these bytes with; or memory is wanted.
+    ensures complete { (command : Command) (bytes : List ℕ) → asked words.now ≡ Some command
+        → HasLeft (S.seen input.old) bytes
         → ¬ Rose (S.seen input.old).faults (S.seen input.new).faults
         → ¬ Rose (K.seen output.old).faults (K.seen output.new).faults
-        → (result ≡ Status.Done) ⊎ (result ≡ Status.Memory) }
-    ensures complete_refused { (command : Command) (bytes : List ℕ) (fault : Fault) → asked words.now ≡ Some command
-        → HasLeft (S.seen input.old) bytes → IsAnswer command bytes (Err fault)
-        → ¬ Rose (S.seen input.old).faults (S.seen input.new).faults
-        → (result ≡ Status.Memory) ⊎ ((result ≡ Status.Refused) × Noted fault (N.seen notes.old) (N.seen notes.new)) }
+        → (result ≡ Status.Memory) ⊎ ((answer : Result (List ℕ) Fault) × IsAnswer command bytes answer
+        × EndsWith answer result (K.seen output.old) (K.seen output.new) (N.seen notes.old) (N.seen notes.new)) }
     ensures too_long { IsSome (S.seen input.old).left → GaveTooMuch (S.seen input.old) (S.seen input.new)
         → (result ≡ Status.Memory)
         ⊎ ((result ≡ Status.Refused) × Noted Fault.TooLong (N.seen notes.old) (N.seen notes.new)) }

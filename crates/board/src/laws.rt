@@ -13,6 +13,11 @@ ghost use Rattle.board.specs.Input.{HasScenes};
 ghost use Rattle.board.specs.declared.status.Fault.{Fault};
 ghost use Rattle.board.specs.declared.words.Command.{Command};
 
+/// Each command has an answer to each input, whatever its bytes.
+pub fn answer_exists()
+    ensures { (command : Command) (bytes : List ℕ) → (answer : Result (List ℕ) Fault) × IsAnswer command bytes answer }
+{}
+
 /// An input has one answer alone.
 pub fn answer_is_unique()
     ensures { (command : Command) (bytes : List ℕ) (answer other : Result (List ℕ) Fault)

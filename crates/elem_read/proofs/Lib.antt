@@ -1,7 +1,9 @@
+pub mod Decided
 pub mod Drawings
 pub mod Firsts
 pub mod Keeping
 pub mod Others
 pub mod Parts
+pub mod Read
 pub mod Unique
 pub mod Whole

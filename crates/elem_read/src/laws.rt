@@ -1,8 +1,9 @@
 //! Laws on reading, for all values. They do nothing when they run.
 
-ghost use Rattle.std.specs.Prelude.{◌≡◌, List, ℕ};
+ghost use Rattle.std.specs.Prelude.{◌≡◌, ◌⊎◌, List, ℕ};
 ghost use Rattle.scene_json.specs.Compact.{Member};
 ghost use Rattle.scene_json.specs.Named.{AreSameMembers};
+ghost use Rattle.scene_json.specs.Value.{IsCompact};
 ghost use Rattle.elem.specs.Drawn.{Drawn};
 ghost use Rattle.elem.specs.Forms.{IsObject};
 ghost use Rattle.elem_read.specs.Reading.{IsSelection, IsElementIn, IsFaultIn};
@@ -29,4 +30,10 @@ pub fn order_of_members_plays_no_part()
     ensures selection { (value other : List ℕ) (members others : List Member)
         → IsObject value members → IsObject other others → AreSameMembers members others
         → IsSelection value → IsSelection other }
+{}
+
+/// A value is no element, or an element, or has a first fault.
+pub fn reading_exists()
+    ensures { (value : List ℕ) → IsCompact 128 value
+        → IsSelection value ⊎ (((e : Drawn) × IsElementIn value e) ⊎ ((fault : ElemFault) × IsFaultIn value fault)) }
 {}

@@ -7,3 +7,4 @@ pub mod StoreLaws
 pub mod SortedUpdates
 pub mod Edits
 pub mod Placed
+pub mod Stored

@@ -11,6 +11,11 @@ pub fn empty_is_stored()
     ensures { AreStored [] [] }
 {}
 
+/// Every list of updates has a store.
+pub fn store_exists()
+    ensures { (updates : List Drawn) → (elements : List Drawn) × AreStored updates elements }
+{}
+
 /// A list of updates has one store.
 pub fn store_is_unique()
     ensures { (updates elements others : List Drawn)

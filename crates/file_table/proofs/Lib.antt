@@ -4,3 +4,4 @@ pub mod Urls
 pub mod Tables
 pub mod Referred
 pub mod Pictures
+pub mod Tabled

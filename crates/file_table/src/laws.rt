@@ -1,8 +1,10 @@
 //! Laws on files, for all of them. They do nothing when they run.
 
-ghost use Rattle.std.specs.Prelude.{◌≡◌, ◌↔◌, ℕ, List, [], ◌++◌, Some, Contains};
+ghost use Rattle.std.specs.Prelude.{◌≡◌, ◌↔◌, ◌⊎◌, ℕ, List, [], ◌++◌, Some, Contains};
 ghost use Rattle.scene_json.specs.Compact.{Member as Pair};
 ghost use Rattle.scene_json.specs.Named.{HaveRisingNames};
+ghost use Rattle.scene_json.specs.Value.{IsCompact};
+ghost use Rattle.file_table.specs.Picture.{HasData, IsPictureSize};
 ghost use Rattle.file_table.specs.Table.{least_entry, IsLeast, AreFilesOf};
 
 /// The least entry of an id is one that was given for it, and none of these is less.
@@ -27,4 +29,17 @@ pub fn files_join()
     ensures joined { (given files others more all : List Pair)
         → AreFilesOf given files → AreFilesOf others more → AreFilesOf (files ++ more) all → AreFilesOf (given ++ others) all }
     ensures own { (files : List Pair) → HaveRisingNames files → AreFilesOf files files }
+{}
+
+/// The entries that are given have a table of files.
+pub fn files_exist()
+    ensures { (given : List Pair) → (files : List Pair) × AreFilesOf given files }
+{}
+
+/// An entry has a picture of some size, or data that is no base64, or no data.
+pub fn picture_is_decided()
+    ensures { (entry : List ℕ) → IsCompact 128 entry
+        → ((size : ℕ) × IsPictureSize entry size)
+        ⊎ (((content : List ℕ) × HasData entry content × ((size : ℕ) → IsPictureSize entry size → ⊥))
+        ⊎ ((content : List ℕ) → HasData entry content → ⊥)) }
 {}

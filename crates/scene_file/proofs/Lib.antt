@@ -1,4 +1,6 @@
 pub mod Blanks
+pub mod Existing
+pub mod Fitting
 pub mod Forms
 pub mod HeadsTold
 pub mod Joining

@@ -1,9 +1,16 @@
 //! Laws on scenes and heads, for all of them. They do nothing when they run.
 
-ghost use Rattle.std.specs.Prelude.{◌≡◌, ℕ, List, true, drop};
+ghost use Rattle.std.specs.Prelude.{◌≡◌, ◌⊎◌, ◌<◌, ◌≤◌, ℕ, List, All, true, drop, flat_map, length, map};
 ghost use Rattle.scene_json.specs.Characters.{is_blank};
+ghost use Rattle.scene_json.specs.Value.{IsCompact};
+ghost use Rattle.elem.specs.Drawn.{Drawn};
+ghost use Rattle.elem_store.specs.Updates.{AreStored};
+ghost use Rattle.view.specs.Shown.{live_elements, shown};
 ghost use Rattle.scene_file.specs.Heads.{Heading, IsJoinedHead};
-ghost use Rattle.scene_file.specs.Reading.{IsSceneAt, IsFaultAt};
+ghost use Rattle.scene_file.specs.Reading.{IsSceneOf, IsSceneAt, IsFaultAt};
+ghost use Rattle.scene_file.specs.Scenes.{scene_text};
+ghost use Rattle.scene_file.specs.Texts.{IsSceneText};
+ghost use Rattle.scene_file.specs.declared.layout.Layout.{Layout};
 ghost use Rattle.scene_file.specs.declared.scene.Scene.{Scene};
 ghost use Rattle.scene_file.specs.declared.fault.SceneFault.{SceneFault};
 
@@ -24,8 +31,33 @@ pub fn fault_is_unique()
         → IsFaultAt bytes at fault → IsSceneAt (drop at bytes) scene rest → ⊥ }
 {}
 
+/// At each offset a scene stands, behind white space, or there is a first fault.
+pub fn scene_or_fault_exists()
+    ensures { (bytes : List ℕ) (at : ℕ) → at ≤ length bytes
+        → ((scene : Scene) × (end : ℕ) × (at < end) × (end ≤ length bytes)
+        × IsSceneAt (drop at bytes) scene (drop end bytes))
+        ⊎ ((fault : SceneFault) × IsFaultAt bytes at fault) }
+{}
+
+/// Whatever heads there are, they are joined to a head.
+pub fn joined_head_exists()
+    ensures { (heads : List Heading) → (head : Heading) × IsJoinedHead heads head }
+{}
+
 /// Heads are joined to one head.
 pub fn joined_head_is_unique()
     ensures { (heads : List Heading) (head other : Heading)
         → IsJoinedHead heads head → IsJoinedHead heads other → head ≡ other }
+{}
+
+/// The text of what is shown of scenes is a compact text, which nests at most 128; and a compact text is written in each
+/// layout.
+pub fn shown_scene_is_written()
+    ensures compact { (scenes : List Scene) (head : Heading) (stored : List Drawn)
+        → All (λ scene. (text : List ℕ) × IsSceneOf text scene) scenes
+        → IsJoinedHead (map (λ (scene : Scene). scene.head) scenes) head
+        → AreStored (flat_map (λ (scene : Scene). scene.elements) scenes) stored
+        → IsCompact 128 (scene_text head (shown (live_elements stored))) }
+    ensures written { (layout : Layout) (head : Heading) (elements : List Drawn)
+        → IsCompact 128 (scene_text head elements) → (written : List ℕ) × IsSceneText layout head elements written }
 {}

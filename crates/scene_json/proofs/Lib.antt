@@ -36,6 +36,7 @@ pub mod Tried
 -- ---- the walks over compact texts: how they nest, are laid out, and are taken apart
 pub mod Literals
 pub mod Forms
+pub mod Decided
 pub mod Behind
 mod Passing
 pub mod Depths
@@ -46,6 +47,7 @@ pub mod ItemsLeft
 pub mod MembersLeft
 pub mod Pairs
 pub mod Lookups
+pub mod Rising
 pub mod Quotes
 pub mod Appended
 mod Placing

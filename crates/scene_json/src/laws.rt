@@ -1,14 +1,16 @@
 //! Laws on texts, for all bytes. They do nothing when they run.
 
-ghost use Rattle.std.specs.Prelude.{◌≡◌, ◌≤◌, ℕ, List, [], bytes_eq, IsPermutation};
-ghost use Rattle.std.specs.List.{IsDistinct};
+ghost use Rattle.std.specs.Prelude.{◌≡◌, ◌≢◌, ◌⊎◌, ◌≤◌, ℕ, List, [], Option, None, false, length, drop, bytes_eq, IsPermutation};
+ghost use Rattle.std.specs.List.{AllByRecursion, IsDistinct, list_any};
+ghost use Rattle.std.specs.Str.{IsUtf8};
 ghost use Rattle.scene_json.specs.Alike.{AreAlike};
-ghost use Rattle.scene_json.specs.Compact.{Member, compact};
-ghost use Rattle.scene_json.specs.Named.{AreSameMembers, HaveRisingNames};
-ghost use Rattle.scene_json.specs.Parts.{names_of};
+ghost use Rattle.scene_json.specs.Characters.{quote};
+ghost use Rattle.scene_json.specs.Compact.{Member, array_text, compact, object_text};
+ghost use Rattle.scene_json.specs.Named.{AreSameMembers, HaveRisingNames, value_at};
+ghost use Rattle.scene_json.specs.Parts.{AreMembers, names_of};
 ghost use Rattle.scene_json.specs.Tree.{Tree, spelling, IsGood, depth};
-ghost use Rattle.scene_json.specs.Value.{Value, Stands};
-ghost use Rattle.scene_json.specs.Faults.{IsFaultOf};
+ghost use Rattle.scene_json.specs.Value.{IsCompact, Value, Stands};
+ghost use Rattle.scene_json.specs.Faults.{IsFaultOf, IsFirstFault};
 ghost use Rattle.scene_json.specs.declared.fault.JsonFault.{JsonFault};
 
 /// At most one value stands at the front of a text: its compact text and what follows it are determined.
@@ -48,4 +50,31 @@ pub fn rising_members_are_unique()
     ensures distinct { (members : List Member) → HaveRisingNames members → IsDistinct bytes_eq (names_of members) }
     ensures unique { (members others : List Member)
         → HaveRisingNames members → HaveRisingNames others → AreSameMembers members others → members ≡ others }
+{}
+
+/// At each offset a value stands behind white space, or there is a first fault.
+pub fn value_or_fault_exists()
+    ensures { (bytes : List ℕ) (at : ℕ) → at ≤ length bytes
+        → ((text : List ℕ) × (end : ℕ) × (end ≤ length bytes) × Stands (drop at bytes) text (drop end bytes))
+        ⊎ ((fault : JsonFault) × IsFirstFault bytes at fault) }
+{}
+
+/// It is decided of a compact text whether it is a string, an array or an object, and whether it nests so deep at most.
+pub fn form_is_decided()
+    ensures string { (text : List ℕ) → IsCompact 128 text
+        → ((string : List ℕ) × IsUtf8 string × (text ≡ quote string)) ⊎ ((string : List ℕ) → text ≢ quote string) }
+    ensures array { (text : List ℕ) → IsCompact 128 text
+        → ((items : List (List ℕ)) × AllByRecursion (IsCompact 127) items × (text ≡ array_text items))
+        ⊎ ((items : List (List ℕ)) → text ≢ array_text items) }
+    ensures object { (text : List ℕ) → IsCompact 128 text
+        → ((members : List Member) × AreMembers 127 members × (text ≡ object_text members))
+        ⊎ ((members : List Member) → text ≢ object_text members) }
+    ensures nesting { (text : List ℕ) (limit : ℕ) → IsCompact 128 text → IsCompact limit text ⊎ (IsCompact limit text → ⊥) }
+{}
+
+/// Whatever is found under some names, and under no others, is the members of a list whose names rise.
+pub fn rising_members_exist()
+    ensures { (names : List (List ℕ)) (find : List ℕ → Option (List ℕ))
+        → ((name : List ℕ) → list_any (bytes_eq name) names ≡ false → find name ≡ None)
+        → (members : List Member) × HaveRisingNames members × ((name : List ℕ) → value_at name members ≡ find name) }
 {}

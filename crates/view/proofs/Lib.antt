@@ -1,3 +1,4 @@
+pub mod Kept
 pub mod OrderLaws
 pub mod SceneOrder
 pub mod SettledLaws

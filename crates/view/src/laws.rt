@@ -1,12 +1,15 @@
 //! Laws on what a board shows, for all lists of elements. They do nothing when they run.
 
-ghost use Rattle.std.specs.Prelude.{◌≡◌, List, IsPermutation, IsTrue};
+ghost use Rattle.std.specs.Prelude.{◌≡◌, List, All, map, IsPermutation, IsTrue};
 ghost use Rattle.std.specs.List.{list_all};
 ghost use Rattle.frac_keys.specs.Rising.{are_rising};
 ghost use Rattle.elem.specs.Drawn.{Drawn};
+ghost use Rattle.elem.specs.Facts.{IsElement};
+ghost use Rattle.elem.specs.Said.{IsWritten};
+ghost use Rattle.index_repair.specs.Repair.{repaired};
 ghost use Rattle.elem_store.specs.Updates.{ids_of};
 ghost use Rattle.view.specs.Settled.{AreSettled};
-ghost use Rattle.view.specs.Shown.{is_live, live_elements, in_scene_order, IsSceneOrder, HaveDistinctIds, HaveKeysOrNone, HaveRisingKeys, shown};
+ghost use Rattle.view.specs.Shown.{is_live, live_elements, in_scene_order, IsSceneOrder, HaveDistinctIds, HaveKeysOrNone, HaveRisingKeys, index_of, keyed, shown};
 
 /// The scene order is the one permutation in which each element comes before those behind it.
 pub fn scene_order_is_unique()
@@ -41,4 +44,13 @@ pub fn view_of_a_view_is_that_view()
     ensures { (live stored : List Drawn)
         → HaveDistinctIds live → HaveKeysOrNone live → IsTrue (list_all is_live live)
         → IsPermutation (shown live) stored → shown (live_elements stored) ≡ shown live }
+{}
+
+/// What holds of every element holds of what is shown of elements, and of elements with repaired keys.
+pub fn shown_elements_are_elements()
+    ensures shown { (live : List Drawn)
+        → All (λ e. IsElement e × IsWritten e) live → All (λ e. IsElement e × IsWritten e) (shown live) }
+    ensures keyed { (elements : List Drawn)
+        → All (λ e. IsElement e × IsWritten e) elements
+        → All (λ e. IsElement e × IsWritten e) (keyed elements (repaired (map index_of elements))) }
 {}

@@ -1,25 +1,58 @@
-use Rattle.std.proofs.Common.{Ok, Err, refl}
+use Rattle.std.proofs.Common.{◌≡◌, ◌⊎◌, inl, inr, ℕ, List, Option, Some, Result, Ok, Err, refl, sym, subst₂, ◌∙◌}
+use Rattle.board_io.specs.Counts.{Rose}
+use Rattle.board_io.specs.Ends.{SourceEnd, SinkEnd}
+use Rattle.board.specs.Answers.{IsAnswer}
+use Rattle.board.specs.Causes.{HasCause}
+use Rattle.board.specs.Ends.{EndsWith, HasLeft, WasDone}
+use Rattle.board.specs.Faults.{status_of, EndsAs, Noted}
 use Rattle.board.specs.Words.{asked}
-use Rattle.board.proofs.Answering.{done-answer, text-ends, fault-ends}
+use Rattle.board.specs.declared.status.Fault.{Fault}
+use Rattle.board.specs.declared.status.Status.{Status}
+use Rattle.board.specs.declared.status.Status.TheVariants as status
+use Rattle.board.specs.declared.words.Command.{Command}
+use Rattle.board.proofs.Answering.{not-done, text-ends, fault-ends}
+use Rattle.board.proofs.Existing.{answer-exists}
+use Rattle.board.proofs.Given.{read-whole}
 use Rattle.board.proofs.Unique.{merges-converge}
 use Rattle.board.proofs.board.board.Goals as goal
 
-pub returns-in-Ok-clause-complete_refused : goal.returns-in-Ok-clause-complete_refused
-returns-in-Ok-clause-complete_refused g c command bytes why is left answer reads =
-    let no = done-answer (asked c.args.words.now) command bytes (Err why) _ _ is left answer _ _ _ c.in-Ok.ensures.done in cc
+-- the ends of runs over an input that tells its bytes
+module _ (asks : Option Command) (command : Command) (bytes : List ℕ) (before after : SourceEnd) (out out_after notes notes_after : SinkEnd) (result : Status)
+    (is : asks ≡ Some command) (left : HasLeft before bytes) where
+  abbrev IsComplete : Type 0
+  IsComplete = (result ≡ status.Memory) ⊎ ((answer : Result (List ℕ) Fault) × IsAnswer command bytes answer × EndsWith answer result out out_after notes notes_after)
+
+  complete-done : result ≡ status.Done → WasDone asks before after out out_after → IsComplete
+  complete-done done w =
+      let both : Some w.asked ≡ Some command = sym w.is_asked ∙ is in
+      let one : w.asked ≡ command = cc in
+      inr (Ok w.text, subst₂ (λ c b. IsAnswer c b (Ok w.text)) one (read-whole bytes w.bytes before after left w.read) w.answer, (done, w.took))
+
+  complete-fault : (f told : Fault) → HasCause f asks before after out out_after → EndsAs f told → status_of told ≡ result → Noted told notes notes_after
+      → (Rose before.faults after.faults → ⊥) → (Rose out.faults out_after.faults → ⊥) → IsComplete
+  complete-fault f told cause ends ended note reads writes = by (answer-exists command bytes)
+    where
+      by : (answer : Result (List ℕ) Fault) × IsAnswer command bytes answer → IsComplete
+      by (Ok text, answered) = elim (text-ends asks command bytes (Ok text) before after is left answered text f told out out_after result refl cause ends ended reads writes) [
+        | inl done ↦ absurd (not-done told (ended ∙ done))
+        | inr memory ↦ inl memory
+      ]
+      by (Err why, answered) = elim (fault-ends asks command bytes (Err why) before after is left answered notes notes_after why f told out out_after result refl cause ends ended note reads) [
+        | inl memory ↦ inl memory
+        | inr refused ↦ inr (Err why, answered, refused)
+      ]
+
+pub returns-in-Ok-clause-complete : goal.returns-in-Ok-clause-complete
+returns-in-Ok-clause-complete g c command bytes is left reads writes =
+    complete-done (asked c.args.words.now) command bytes _ _ _ _ _ _ _ is left refl c.in-Ok.ensures.done
 
 pub returns-in-Ok-clause-converges : goal.returns-in-Ok-clause-converges
 returns-in-Ok-clause-converges g c = merges-converge
 
 pub returns-in-Err-clause-complete : goal.returns-in-Err-clause-complete
-returns-in-Err-clause-complete g c command bytes text is left answer reads writes =
+returns-in-Err-clause-complete g c command bytes is left reads writes =
     let ends = c.noted.ensures in
-    text-ends (asked c.args.words.now) command bytes (Ok text) _ _ is left answer text c.in-Err.fault ends.0 _ _ _ refl c.in-Err.ensures.fault ends.1 ends.2 reads writes
-
-pub returns-in-Err-clause-complete_refused : goal.returns-in-Err-clause-complete_refused
-returns-in-Err-clause-complete_refused g c command bytes why is left answer reads =
-    let ends = c.noted.ensures in
-    fault-ends (asked c.args.words.now) command bytes (Err why) _ _ is left answer _ _ why c.in-Err.fault ends.0 _ _ _ refl c.in-Err.ensures.fault ends.1 ends.2 ends.3 reads
+    complete-fault (asked c.args.words.now) command bytes _ _ _ _ _ _ _ is left c.in-Err.fault ends.0 c.in-Err.ensures.fault ends.1 ends.2 ends.3 reads writes
 
 pub returns-in-Err-clause-converges : goal.returns-in-Err-clause-converges
 returns-in-Err-clause-converges g c = merges-converge

@@ -1,0 +1,340 @@
+-- What is shown, and what keys are repaired of, keeps what holds of every element.
+use Rattle.std.proofs.Common.{◌≡◌, ℕ, Bool, true, false, not, List, [], ◌∷◌, ◌++◌, map, filter, Option, Some, None, IfSome, find, if◌then◌else◌, refl, IsUtf8}
+use Rattle.std.specs.List.{All, AllByRecursion, list_all}
+use Rattle.std.specs.Option.{option_map, option_or}
+use Rattle.std.proofs.lemmas.Bool.{and_from, and_parts}
+use Rattle.std.proofs.lemmas.List.Elements.{All-from_recursion, recursion_from_All}
+use Rattle.std.proofs.lemmas.List.Sorted.{All-permutation}
+use Rattle.frac_keys.specs.Keys.{is_key}
+use Rattle.index_repair.specs.Repair.{repaired, is_key_or_none}
+use Rattle.index_repair.proofs.RepairLaws.{AreRepaired-from}
+use Rattle.first_texts.specs.FirstOccurrences as texts
+use Rattle.elem.specs.declared.parts.BoundRef.{BoundRef}
+use Rattle.elem.specs.Drawn.{Drawn}
+use Rattle.elem.specs.Facts.{IsElement}
+use Rattle.elem.specs.Said.{IsBindingText, IsWritten}
+use Rattle.links.specs.Arrows.{names_target, is_bound_to, is_true_entry, arrow_entries, text_entries, listing, with_settled_links}
+use Rattle.links.specs.Entries.{same_entry, arrow_entry, first_occurrences}
+use Rattle.links.specs.Names.{can_hold_text, id_of, names_container, target_of}
+use Rattle.links.specs.Settled.{settled_links}
+use Rattle.links.specs.Texts.{is_text_entry, listed_text, first_text, text_of, keeps_container, with_settled_container, settled_texts}
+use Rattle.frames_groups.specs.Frames.{has_frame, keeps_frame, framed, without_frame, frames_settled}
+use Rattle.frames_groups.specs.Groups.{grouped}
+use Rattle.view.specs.Settled.{settled}
+use Rattle.view.specs.Shown.{is_live, live_elements, in_scene_order, index_of, with_index, keyed, placed, shown, HaveKeysOrNone}
+use Rattle.view.proofs.SceneOrder.{IsPermutation-in_scene_order}
+
+-- what the type of elements keeps
+pub record IsKept (e : Drawn) : Type 0 where
+  pub element : IsElement e
+  pub written : IsWritten e
+
+abbrev pub AreKept : List Drawn → Type 0
+AreKept es = AllByRecursion IsKept es
+
+-- ---- lists and options
+filter-all : {X : Type 0} (P : X → Type 0) (p : X → Bool) (xs : List X) → AllByRecursion P xs → AllByRecursion P (filter p xs)
+filter-all P p [] all = tt
+filter-all P p (x ∷ xs) all = elim (p x) as (λ (b : Bool). AllByRecursion P (if b then x ∷ filter p xs else filter p xs)) [
+  | true ↦ (all.0, filter-all P p xs all.1)
+  | false ↦ filter-all P p xs all.1
+]
+
+append-all : {X : Type 0} (P : X → Type 0) (xs ys : List X) → AllByRecursion P xs → AllByRecursion P ys → AllByRecursion P (xs ++ ys)
+append-all P [] ys first second = second
+append-all P (x ∷ xs) ys first second = (first.0, append-all P xs ys first.1 second)
+
+map-all : {X Y : Type 0} (P : X → Type 0) (Q : Y → Type 0) (f : X → Y) (xs : List X) → ((x : X) → P x → Q (f x)) → AllByRecursion P xs → AllByRecursion Q (map f xs)
+map-all P Q f [] each all = tt
+map-all P Q f (x ∷ xs) each all = (each x all.0, map-all P Q f xs each all.1)
+
+find-some : {X : Type 0} (P : X → Type 0) (p : X → Bool) (xs : List X) → AllByRecursion P xs → IfSome (find p xs) P
+find-some P p [] all = tt
+find-some P p (x ∷ xs) all = elim (p x) as (λ (b : Bool). IfSome (if b then Some x else find p xs) P) [ true ↦ all.0 | false ↦ find-some P p xs all.1 ]
+
+map-some : {X Y : Type 0} (P : X → Type 0) (Q : Y → Type 0) (f : X → Y) (o : Option X) → ((x : X) → P x → Q (f x)) → IfSome o P → IfSome (option_map f o) Q
+map-some P Q f None each is = tt
+map-some P Q f (Some x) each is = each x is
+
+or-some : {X : Type 0} (P : X → Type 0) (o other : Option X) → IfSome o P → IfSome other P → IfSome (option_or o other) P
+or-some P None other first second = second
+or-some P (Some x) other first second = first
+
+if-some : {X : Type 0} (P : X → Type 0) (b : Bool) (o : Option X) → IfSome o P → IfSome (if b then o else None) P
+if-some P true o is = is
+if-some P false o is = tt
+
+-- ---- keys
+keys-or-none : (es : List Drawn) → AreKept es → list_all is_key_or_none (map index_of es) ≡ true
+keys-or-none [] all = refl
+keys-or-none (e ∷ es) all = and_from (is_key_or_none e.index) (list_all is_key_or_none (map index_of es)) (by e.index all.0.written.index) (keys-or-none es all.1)
+  where
+    by : (key : Option (List ℕ)) → IfSome key (λ k. is_key k ≡ true) → is_key_or_none key ≡ true
+    by None is = refl
+    by (Some key) is = is
+
+pub kept-keys : (es : List Drawn) → AreKept es → HaveKeysOrNone es
+kept-keys = keys-or-none
+
+with_index-kept : (e : Drawn) (key : List ℕ) → is_key key ≡ true → IsKept e → IsKept (with_index e key)
+with_index-kept e key is kept =
+    let a = kept.element in
+    let w = kept.written in
+    record {
+      element = record {
+        named = a.named;
+        version = a.version;
+        nonce = a.nonce;
+        updated = a.updated;
+        kind = a.kind;
+        container = a.container;
+        start_binding = a.start_binding;
+        end_binding = a.end_binding;
+        file = a.file;
+        rise = a.rise;
+        free = a.free;
+        nest = a.nest;
+      };
+      written = record {
+        id = w.id;
+        kind = w.kind;
+        index = is;
+        groups = w.groups;
+        frame = w.frame;
+        bound = w.bound;
+        container = w.container;
+        start_binding = w.start_binding;
+        end_binding = w.end_binding;
+        file = w.file;
+        rest = w.rest;
+      };
+    }
+
+keyed-kept : (es : List Drawn) (keys : List (List ℕ)) → list_all is_key keys ≡ true → AreKept es → AreKept (keyed es keys)
+keyed-kept [] keys are all = tt
+keyed-kept (e ∷ es) [] are all = tt
+keyed-kept (e ∷ es) (key ∷ keys) are all =
+    let parts = and_parts (is_key key) (list_all is_key keys) are in
+    (with_index-kept e key parts.0 all.0, keyed-kept es keys parts.1 all.1)
+
+pub repaired-kept : (es : List Drawn) → AreKept es → AreKept (keyed es (repaired (map index_of es)))
+repaired-kept es all = keyed-kept es (repaired (map index_of es)) (AreRepaired-from (map index_of es) (repaired (map index_of es)) refl (keys-or-none es all)).new_keys all
+
+ordered-kept : (es : List Drawn) → AreKept es → AreKept (in_scene_order es)
+ordered-kept es all = recursion_from_All IsKept (in_scene_order es) (All-permutation IsKept es (in_scene_order es) (IsPermutation-in_scene_order es) (All-from_recursion IsKept es all))
+
+placed-kept : (live : List Drawn) → AreKept live → AreKept (placed live)
+unfolding placed
+placed-kept live all = repaired-kept (in_scene_order live) (ordered-kept live all)
+
+-- ---- texts
+container-kept : (list : List Drawn) (e : Drawn) → IsKept e → IsKept (with_settled_container list e)
+container-kept list e kept =
+    let a = kept.element in
+    let w = kept.written in
+    record {
+      element = record {
+        named = a.named;
+        version = a.version;
+        nonce = a.nonce;
+        updated = a.updated;
+        kind = a.kind;
+        container = if-some _ (keeps_container list e) e.container a.container;
+        start_binding = a.start_binding;
+        end_binding = a.end_binding;
+        file = a.file;
+        rise = a.rise;
+        free = a.free;
+        nest = a.nest;
+      };
+      written = record {
+        id = w.id;
+        kind = w.kind;
+        index = w.index;
+        groups = w.groups;
+        frame = w.frame;
+        bound = w.bound;
+        container = if-some IsUtf8 (keeps_container list e) e.container w.container;
+        start_binding = w.start_binding;
+        end_binding = w.end_binding;
+        file = w.file;
+        rest = w.rest;
+      };
+    }
+
+-- ---- arrows
+abbrev HasText : BoundRef → Type 0
+HasText entry = IsUtf8 entry.id
+
+first-all : (entries : List BoundRef) → AllByRecursion HasText entries → AllByRecursion HasText (first_occurrences entries)
+first-all [] all = tt
+first-all (entry ∷ entries) all = (all.0, filter-all HasText (λ other. not (same_entry entry other)) (first_occurrences entries) (first-all entries all.1))
+
+text_of-written : (list : List Drawn) (e : Drawn) → AreKept list → IsKept e → IfSome (text_of list e) IsUtf8
+unfolding text_of
+text_of-written list e all kept =
+    if-some IsUtf8 (can_hold_text e.kind) (option_or (listed_text list e) (first_text list e))
+    (or-some IsUtf8 (listed_text list e) (first_text list e)
+    (map-some HasText IsUtf8 (λ (entry : BoundRef). entry.id) (find (is_text_entry list e) e.bound) (λ entry is. is) (find-some HasText (is_text_entry list e) e.bound kept.written.bound))
+    (map-some IsKept IsUtf8 id_of (find (names_container e.id) list) (λ x is. is.written.id) (find-some IsKept (names_container e.id) list all)))
+
+entries-of : (o : Option (List ℕ)) → IfSome o IsUtf8 → AllByRecursion HasText (text_entries o)
+entries-of None is = tt
+entries-of (Some id) is = (is, tt)
+
+listing-written : (list : List Drawn) (e : Drawn) → AreKept list → IsKept e → AllByRecursion HasText (listing list e)
+unfolding listing
+listing-written list e all kept =
+    first-all (filter (is_true_entry list e) e.bound ++ (arrow_entries list e ++ text_entries (text_of list e)))
+    (append-all HasText (filter (is_true_entry list e) e.bound) (arrow_entries list e ++ text_entries (text_of list e))
+    (filter-all HasText (is_true_entry list e) e.bound kept.written.bound)
+    (append-all HasText (arrow_entries list e) (text_entries (text_of list e))
+    (map-all IsKept HasText (λ (arrow : Drawn). arrow_entry arrow.id) (filter (is_bound_to e) list) (λ x is. is.written.id) (filter-all IsKept (is_bound_to e) list all))
+    (entries-of (text_of list e) (text_of-written list e all kept))))
+
+links-kept : (list : List Drawn) (e : Drawn) → AreKept list → IsKept e → IsKept (with_settled_links list e)
+links-kept list e all kept =
+    let a = kept.element in
+    let w = kept.written in
+    record {
+      element = record {
+        named = a.named;
+        version = a.version;
+        nonce = a.nonce;
+        updated = a.updated;
+        kind = a.kind;
+        container = a.container;
+        start_binding = if-some _ (names_target list (target_of e.start_binding)) e.start_binding a.start_binding;
+        end_binding = if-some _ (names_target list (target_of e.end_binding)) e.end_binding a.end_binding;
+        file = a.file;
+        rise = a.rise;
+        free = a.free;
+        nest = a.nest;
+      };
+      written = record {
+        id = w.id;
+        kind = w.kind;
+        index = w.index;
+        groups = w.groups;
+        frame = w.frame;
+        bound = listing-written list e all kept;
+        container = w.container;
+        start_binding = if-some IsBindingText (names_target list (target_of e.start_binding)) e.start_binding w.start_binding;
+        end_binding = if-some IsBindingText (names_target list (target_of e.end_binding)) e.end_binding w.end_binding;
+        file = w.file;
+        rest = w.rest;
+      };
+    }
+
+-- ---- frames and groups
+frame-kept : (names_frame : List ℕ → Bool) (e : Drawn) → IsKept e → IsKept (framed names_frame e)
+frame-kept names_frame e kept =
+    let a = kept.element in
+    let w = kept.written in
+    elim (keeps_frame names_frame e) as (λ (b : Bool). IsKept (if b then e else without_frame e)) [
+      | true ↦ kept
+      | false ↦ record {
+        element = record {
+          named = a.named;
+          version = a.version;
+          nonce = a.nonce;
+          updated = a.updated;
+          kind = a.kind;
+          container = a.container;
+          start_binding = a.start_binding;
+          end_binding = a.end_binding;
+          file = a.file;
+          rise = a.rise;
+          free = a.free;
+          nest = a.nest;
+        };
+        written = record {
+          id = w.id;
+          kind = w.kind;
+          index = w.index;
+          groups = w.groups;
+          frame = tt;
+          bound = w.bound;
+          container = w.container;
+          start_binding = w.start_binding;
+          end_binding = w.end_binding;
+          file = w.file;
+          rest = w.rest;
+        };
+      }
+    ]
+
+groups-written : (groups : List (List ℕ)) → AllByRecursion IsUtf8 groups → AllByRecursion IsUtf8 (texts.first_occurrences groups)
+groups-written [] all = tt
+groups-written (group ∷ groups) all = (all.0, filter-all IsUtf8 (texts.is_other group) (texts.first_occurrences groups) (groups-written groups all.1))
+
+group-kept : (e : Drawn) → IsKept e → IsKept (grouped e)
+group-kept e kept =
+    let a = kept.element in
+    let w = kept.written in
+    record {
+      element = record {
+        named = a.named;
+        version = a.version;
+        nonce = a.nonce;
+        updated = a.updated;
+        kind = a.kind;
+        container = a.container;
+        start_binding = a.start_binding;
+        end_binding = a.end_binding;
+        file = a.file;
+        rise = a.rise;
+        free = a.free;
+        nest = a.nest;
+      };
+      written = record {
+        id = w.id;
+        kind = w.kind;
+        index = w.index;
+        groups = groups-written e.groups w.groups;
+        frame = w.frame;
+        bound = w.bound;
+        container = w.container;
+        start_binding = w.start_binding;
+        end_binding = w.end_binding;
+        file = w.file;
+        rest = w.rest;
+      };
+    }
+
+-- ---- all of it
+settled-kept : (es : List Drawn) → AreKept es → AreKept (settled es)
+unfolding settled
+settled-kept es all =
+    let texted = map-all IsKept IsKept (with_settled_container es) es (container-kept es) all in
+    let linked = map-all IsKept IsKept (with_settled_links (settled_texts es)) (settled_texts es) (λ e is. links-kept (settled_texts es) e texted is) texted in
+    let framed' = map-all IsKept IsKept (framed (has_frame (settled_links es))) (settled_links es) (frame-kept (has_frame (settled_links es))) linked in
+    map-all IsKept IsKept grouped (frames_settled (settled_links es)) group-kept framed'
+
+pub shown-kept : (live : List Drawn) → AreKept live → AreKept (shown live)
+unfolding shown
+shown-kept live all = settled-kept (placed live) (placed-kept live all)
+
+pub live-kept : (stored : List Drawn) → AreKept stored → AreKept (live_elements stored)
+live-kept stored all = filter-all IsKept is_live stored all
+
+-- ---- as laws say it
+kept-from : (es : List Drawn) → All (λ e. IsElement e × IsWritten e) es → AreKept es
+kept-from es all = by es (recursion_from_All (λ e. IsElement e × IsWritten e) es all)
+  where
+    by : (es : List Drawn) → AllByRecursion (λ e. IsElement e × IsWritten e) es → AreKept es
+    by [] all = tt
+    by (e ∷ es) all = (record { element = all.0.0; written = all.0.1 }, by es all.1)
+
+kept-to : (es : List Drawn) → AreKept es → All (λ e. IsElement e × IsWritten e) es
+kept-to es all = All-from_recursion (λ e. IsElement e × IsWritten e) es (by es all)
+  where
+    by : (es : List Drawn) → AreKept es → AllByRecursion (λ e. IsElement e × IsWritten e) es
+    by [] all = tt
+    by (e ∷ es) all = ((all.0.element, all.0.written), by es all.1)
+
+pub shown-elements : (live : List Drawn) → All (λ e. IsElement e × IsWritten e) live → All (λ e. IsElement e × IsWritten e) (shown live)
+shown-elements live all = kept-to (shown live) (shown-kept live (kept-from live all))
+
+pub keyed-elements : (es : List Drawn) → All (λ e. IsElement e × IsWritten e) es → All (λ e. IsElement e × IsWritten e) (keyed es (repaired (map index_of es)))
+keyed-elements es all = kept-to (keyed es (repaired (map index_of es))) (repaired-kept es (kept-from es all))
