@@ -74,7 +74,7 @@ fn pictures_text(alloc: Global, scenes: List<Scene>) -> Result<Bytes, AllocError
 
 /// The joined head of these scenes, and what is stored of their elements.
 fn board_of(alloc: Global, scenes: List<Scene>) -> Result<(Head, Store), AllocError>
-    ensures { IfOk result (λ board. IsBoardOf scenes board.0 board.1) }
+    ensures { IfOk result (λ board. IsBoardOf scenes board.0 board.1.elements) }
 {
     let (head, updates) = joined(alloc, scenes)?;
     let store = Store::from_updates(alloc, updates)?;

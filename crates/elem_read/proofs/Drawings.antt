@@ -1,5 +1,5 @@
 -- The value that is read, its members and the restored ones.
-use Rattle.std.proofs.Common.{◌≡◌, ◌≢◌, ◌≤◌, ◌<◌, ◌-◌, ℕ, List, [], ◌∷◌, Option, Some, None, All, Result, Ok, IfOk, refl, sym, ap, subst, ◌∙◌, bytes_eq, codes, lit≤, arith}
+use Rattle.std.proofs.Common.{◌≡◌, ◌≢◌, ◌≤◌, ◌<◌, ℕ, List, [], ◌∷◌, Some, All, refl, sym, ap, ◌∙◌, bytes_eq, codes, lit≤, arith}
 use Rattle.std.specs.List.{AllByRecursion}
 use Rattle.std.proofs.lemmas.Bool.{both_ways}
 use Rattle.std.proofs.lemmas.List.Elements.{recursion_from_All}
@@ -18,7 +18,7 @@ use Rattle.elem.specs.Drawn.{Drawn}
 use Rattle.elem.specs.Forms.{find_in, IsObject}
 use Rattle.elem.specs.Said.{Says}
 use Rattle.elem_read.specs.Faults.{IsFirst}
-use Rattle.elem_read.specs.Reading.{IsSelection, IsDrawing, IsElementIn, IsTooDeep, HasFault, IsFaultIn, selection_text}
+use Rattle.elem_read.specs.Reading.{IsSelection, IsDrawing, IsElementIn, HasFault, IsFaultIn, selection_text}
 use Rattle.elem_read.specs.declared.fault.ElemFault.{ElemFault}
 use Rattle.elem_read.specs.declared.fault.ElemFault.TheVariants.{NotObject, Depth, Id, Kind, Version, Nonce, Updated, Index, Deleted, Groups, Frame, Bound, Container, Binding, File}
 use Rattle.elem_read.proofs.Keeping.{AllFound, found-has, object-nests}

@@ -1,5 +1,5 @@
 -- The first fault of members is the first part that can't be read.
-use Rattle.std.proofs.Common.{◌≡◌, ◌⊎◌, inl, inr, ℕ, suc, ◌+◌, ◌<◌, eqb, List, Option, Some, None, Bool, true, false, if◌then◌else◌, Result, Ok, Err, codes, refl, sym, ap, subst, ◌∙◌, arith, bytes_eq, lit<}
+use Rattle.std.proofs.Common.{◌≡◌, ◌⊎◌, inl, inr, ℕ, suc, ◌<◌, eqb, List, Option, None, Bool, true, false, if◌then◌else◌, Err, codes, refl, sym, ap, subst, ◌∙◌, arith, bytes_eq, lit<}
 use Rattle.std.proofs.lemmas.Bool.{cases_lt}
 use Rattle.scene_json.proofs.Collapsed.{bytes_eq-true, bytes_eq-same}
 use Rattle.board_io.specs.declared.stop.Stop.{Stop}
@@ -13,7 +13,7 @@ use Rattle.elem.specs.Said.{is_named, IsOwn, Says}
 use Rattle.elem.specs.Texts.{kind_name}
 use Rattle.elem.proofs.FormsOnce.{text-once}
 use Rattle.elem_read.specs.Faults.{Lacks, LacksOwn, Fails, place_of, Passes, IsFirst}
-use Rattle.elem_read.specs.Parts.{ReadsOr, Reads}
+use Rattle.elem_read.specs.Parts.{ReadsOr}
 use Rattle.elem_read.specs.declared.fault.ElemFault.{ElemFault}
 use Rattle.elem_read.specs.declared.fault.ElemFault.TheVariants.{NotObject, Depth, Id, Kind, Version, Nonce, Updated, Index, Deleted, Groups, Frame, Bound, Container, Binding, File}
 

@@ -1,11 +1,10 @@
 -- The element that members say keeps what the type of elements asks.
-use Rattle.std.proofs.Common.{◌≡◌, ◌≤◌, ℕ, List, [], ◌∷◌, Bool, true, false, cond, Option, Some, None, IfSome, map, refl, sym, ap, subst, ◌∙◌, inl, inr, bytes_eq, codes, IsUtf8, lit≤, ◌-◌}
+use Rattle.std.proofs.Common.{◌≡◌, ◌≤◌, ℕ, List, [], ◌∷◌, Bool, true, false, Option, Some, None, IfSome, refl, sym, subst, ◌∙◌, inl, inr, bytes_eq, codes, IsUtf8, lit≤, ◌-◌}
 use Rattle.std.specs.Cmp.Lexicographic.{nat_list_eq_equiv}
 use Rattle.std.specs.List.{AllByRecursion, IsDistinct, list_any}
-use Rattle.std.proofs.lemmas.Bool.{or_parts, both_ways}
+use Rattle.std.proofs.lemmas.Bool.{or_parts}
 use Rattle.std.proofs.lemmas.Map.Entries.{lookup_head, lookup_tail}
-use Rattle.scene_json.specs.Characters.{quote}
-use Rattle.scene_json.specs.Compact.{Member as Pair, object_text}
+use Rattle.scene_json.specs.Compact.{Member as Pair}
 use Rattle.scene_json.specs.Members.{pairs}
 use Rattle.scene_json.specs.Named.{value_at}
 use Rattle.scene_json.specs.Parts.{names_of, AreMembers}
@@ -16,14 +15,13 @@ use Rattle.scene_json.proofs.CompactLaws.{Value-Form}
 use Rattle.scene_json.proofs.Forms.{object-starts, form-membered}
 use Rattle.scene_json.proofs.Lookups.{rising_distinct}
 use Rattle.frac_keys.specs.Keys.{is_key}
-use Rattle.elem.specs.declared.kind.Kind.{Kind}
 use Rattle.elem.specs.declared.kind.Kind.TheVariants.{Arrow, Text, Image}
 use Rattle.elem.specs.declared.parts.BoundRef.{BoundRef}
 use Rattle.elem.specs.declared.parts.Binding.{Binding}
 use Rattle.elem.specs.Drawn.{Drawn}
-use Rattle.elem.specs.Facts.{AllNest, IsBinding, IsElement, IsKind, names, is_header}
-use Rattle.elem.specs.Forms.{Find, find_in, IsTextOrNull, IsKeyOrNull, IsObject, IsEntry, AreEntries, AreOthers, IsBindingObject, IsBindingOrNull}
-use Rattle.elem.specs.Said.{is_named, IsOwn, Says, IsBindingText, IsWritten}
+use Rattle.elem.specs.Facts.{IsBinding, IsElement, names, is_header}
+use Rattle.elem.specs.Forms.{Find, find_in, IsTextOrNull, IsKeyOrNull, IsObject, AreEntries, AreOthers, IsBindingObject, IsBindingOrNull}
+use Rattle.elem.specs.Said.{IsOwn, Says, IsBindingText, IsWritten}
 use Rattle.elem.proofs.FormsOnce.{names-rise, members-once}
 use Rattle.elem.proofs.Saying.{AreMembers-deeper, named-is}
 

@@ -5,5 +5,6 @@ pub mod Keeping
 pub mod Others
 pub mod Parts
 pub mod Read
+pub mod ReadElements
 pub mod Unique
 pub mod Whole

@@ -1,26 +1,25 @@
 -- The members that are no header members.
-use Rattle.std.proofs.Common.{◌≡◌, ℕ, List, [], ◌∷◌, Bool, true, false, not, cond, Some, None, refl, sym, ap, subst, ◌∙◌, map, filter, bytes_eq}
-use Rattle.std.specs.Cmp.Lexicographic.{slice_cmp, nat_list_eq_equiv}
+use Rattle.std.proofs.Common.{◌≡◌, ℕ, List, [], ◌∷◌, Bool, true, false, not, cond, Some, refl, sym, ap, subst, ◌∙◌, map, filter, bytes_eq}
+use Rattle.std.specs.Cmp.Lexicographic.{slice_cmp}
 use Rattle.std.specs.List.{AllByRecursion, IsDistinct, list_any}
 use Rattle.std.specs.List.Sorted.{IsPermutation, IsSortedBy}
 use Rattle.std.proofs.lemmas.List.Elements.{All-from_recursion, recursion_from_All}
 use Rattle.std.proofs.lemmas.List.Sorted.{All-permutation, IsPermutation-map}
 use Rattle.std.specs.Ordering.{is_lt, nat_cmp}
-use Rattle.std.specs.declared.cmp.Ordering.TheVariants.{Less}
 use Rattle.std.proofs.lemmas.Bool.{or_parts, or_from, both_ways}
-use Rattle.std.proofs.lemmas.Map.Entries.{lookup_head, lookup_tail}
+use Rattle.std.proofs.lemmas.Map.Entries.{lookup_tail}
 use Rattle.scene_json.specs.Compact.{Member as Pair}
 use Rattle.scene_json.specs.Members.{pairs, pair_of}
-use Rattle.scene_json.specs.Named.{value_at, AreSameMembers, HaveRisingNames}
+use Rattle.scene_json.specs.Named.{value_at, HaveRisingNames}
 use Rattle.scene_json.specs.Parts.{names_of}
 use Rattle.scene_json.specs.declared.text.Member.{Member}
-use Rattle.scene_json.proofs.Collapsed.{bytes_eq-true, bytes_eq-apart}
+use Rattle.scene_json.proofs.Collapsed.{bytes_eq-apart}
 use Rattle.scene_json.proofs.Lookups.{IsBelow, rising_parts, distinct_moved, same_moved, rising_from_sort}
 use Rattle.scene_json.proofs.Pairs.{names-pairs}
 use Rattle.frac_keys.specs.Keys.{bytes_less}
 use Rattle.frac_keys.specs.Rising.{are_rising}
 use Rattle.elem.specs.Facts.{names}
-use Rattle.elem.specs.Forms.{Find, find_in, AreOthers}
+use Rattle.elem.specs.Forms.{find_in, AreOthers}
 use Rattle.elem.proofs.Sorting.{IsRising, are_rising-from}
 
 abbrev pub kept : (List ℕ → Bool) → List Member → List Member

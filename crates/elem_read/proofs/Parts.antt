@@ -1,13 +1,10 @@
 -- What the parts of an element are read as.
-use Rattle.std.proofs.Common.{◌≡◌, ◌≢◌, ◌⊎◌, ◌<◌, ◌+◌, ℕ, zero, suc, List, [], ◌∷◌, ◌++◌, length, take, get_or, Bool, true, false, Option, Some, None, Result, Ok, Err, refl, sym, ap, subst, ◌∙◌, inl, inr, codes, bytes_eq, arith}
+use Rattle.std.proofs.Common.{◌≡◌, ◌≢◌, ◌<◌, ℕ, zero, suc, List, [], ◌∷◌, ◌++◌, length, take, get_or, Bool, false, Option, Some, None, Result, Err, refl, sym, ap, subst, ◌∙◌, inl, inr, codes, bytes_eq, arith}
 use Rattle.std.specs.List.{AllByRecursion, list_any}
 use Rattle.std.proofs.lemmas.Bool.{or_from}
 use Rattle.scene_json.proofs.Collapsed.{bytes_eq-apart}
 use Rattle.scene_json.specs.Characters.{quote}
-use Rattle.scene_json.specs.Compact.{Member as Pair, array_text, object_text}
-use Rattle.scene_json.specs.Named.{value_at}
-use Rattle.scene_json.specs.Parts.{AreMembers}
-use Rattle.scene_json.specs.TheOne.{IsTheOne}
+use Rattle.scene_json.specs.Compact.{Member as Pair, object_text}
 use Rattle.scene_json.specs.Tree.{null_word}
 use Rattle.board_io.specs.declared.stop.Stop.{Stop}
 use Rattle.board_io.specs.declared.stop.Stop.TheVariants.{Fault, Memory}
@@ -16,7 +13,7 @@ use Rattle.elem.specs.declared.kind.Role.{Role}
 use Rattle.elem.specs.declared.kind.Role.TheVariants as roles
 use Rattle.elem.specs.declared.parts.BoundRef.{BoundRef}
 use Rattle.elem.specs.Facts.{known_names}
-use Rattle.elem.specs.Forms.{Find, IsKindName, IsText, IsTextOrNull, IsKeyOrNull, IsObject, IsEntry, AreEntries, IsListing, IsBindingOrNull}
+use Rattle.elem.specs.Forms.{Find, IsKindName, IsText, IsTextOrNull, IsKeyOrNull, IsEntry, AreEntries, IsBindingOrNull}
 use Rattle.elem.specs.Said.{is_named, IsOwn}
 use Rattle.elem.specs.Texts.{role_name}
 use Rattle.elem_read.specs.Faults.{Lacks, LacksOwn, Fails, place_of, Passes, IsFirst}
@@ -74,10 +71,10 @@ no-binding found value is other none (Some binding) one = let e = one.there in l
 pub own-at : {A : Type 0} (own named : Bool) (IsForm : Option (List ℕ) → Option A → Type 0) (found : Option (List ℕ)) (part : Option A) → own ≡ named → IsOwn own IsForm found part → IsOwn named IsForm found part
 own-at own named IsForm found part e is = subst (λ (o : Bool). IsOwn o IsForm found part) e is
 
-abbrev pub stopped : (A : Type 0) → Stop ElemFault → Result A (Stop ElemFault)
+abbrev pub stopped : {F : Type 0} (A : Type 0) → Stop F → Result A (Stop F)
 stopped A stop = Err stop
 
-pub stop-same : (A : Type 0) (a b : Stop ElemFault) → stopped A a ≡ stopped A b → a ≡ b
+pub stop-same : {F : Type 0} (A : Type 0) (a b : Stop F) → stopped A a ≡ stopped A b → a ≡ b
 stop-same A a b e = cc
 
 -- a part of one kind alone that can't be read

@@ -1,7 +1,7 @@
 -- A value is read in one way alone, whatever the order of its members.
-use Rattle.std.proofs.Common.{◌≡◌, ◌≢◌, ◌≤◌, ℕ, List, [], ◌∷◌, Option, Some, None, refl, sym, ap, subst, ◌∙◌, bytes_eq, codes, lit≤}
+use Rattle.std.proofs.Common.{◌≡◌, ℕ, List, [], ◌∷◌, Some, refl, sym, ap, subst, ◌∙◌, codes, lit≤}
 use Rattle.std.specs.List.{AllByRecursion}
-use Rattle.scene_json.specs.Compact.{Member as Pair, object_text}
+use Rattle.scene_json.specs.Compact.{Member as Pair}
 use Rattle.scene_json.specs.Named.{value_at, AreSameMembers}
 use Rattle.scene_json.specs.Parts.{AreMembers}
 use Rattle.scene_json.specs.Value.{IsCompact}
@@ -14,7 +14,7 @@ use Rattle.elem.specs.Said.{Says}
 use Rattle.elem.proofs.FormsOnce.{members-once}
 use Rattle.elem.proofs.Saying.{Says-once}
 use Rattle.elem_read.specs.Faults.{IsFirst}
-use Rattle.elem_read.specs.Reading.{IsSelection, IsDrawing, IsElementIn, IsTooDeep, HasFault, IsFaultIn, selection_text}
+use Rattle.elem_read.specs.Reading.{IsSelection, IsDrawing, IsElementIn, IsTooDeep, HasFault, IsFaultIn}
 use Rattle.elem_read.specs.declared.fault.ElemFault.{ElemFault}
 use Rattle.elem_read.specs.declared.fault.ElemFault.TheVariants.{NotObject, Depth, Id, Kind, Version, Nonce, Updated, Index, Deleted, Groups, Frame, Bound, Container, Binding, File}
 use Rattle.elem_read.proofs.Firsts.{first-once, faultless}

@@ -1,5 +1,5 @@
 -- The element that a value says is whole: its text says it.
-use Rattle.std.proofs.Common.{◌≡◌, ◌≢◌, ◌≤◌, ◌<◌, ◌^◌, ◌+◌, ℕ, List, [], ◌∷◌, ◌++◌, Bool, true, false, ◌||◌, cond, Option, Some, None, map, refl, sym, ap, subst, ◌∙◌, inl, inr, bytes_eq, codes, decimal, IsUtf8, lit≤, lit<, eqb, arith}
+use Rattle.std.proofs.Common.{◌≡◌, ◌≢◌, ◌≤◌, ◌<◌, ◌^◌, ℕ, List, [], ◌∷◌, ◌++◌, Bool, true, false, ◌||◌, cond, Option, Some, None, map, refl, sym, ap, subst, ◌∙◌, inl, inr, bytes_eq, codes, decimal, IsUtf8, lit≤, lit<, eqb, arith}
 use Rattle.std.specs.Prelude.{nat_lt}
 use Rattle.std.specs.Cmp.Lexicographic.{nat_list_eq_equiv}
 use Rattle.std.specs.List.{AllByRecursion, list_all, list_any}
@@ -7,19 +7,19 @@ use Rattle.std.proofs.lemmas.Map.Made.{IsDistinct-from_count}
 use Rattle.std.proofs.lemmas.Bool.{or_parts, or_from, both_ways, cases_Bool, cond-true, cond-false, false≢true, and_parts}
 use Rattle.std.proofs.lemmas.Option.{none-some}
 use Rattle.scene_json.specs.Characters.{quote}
-use Rattle.scene_json.specs.Compact.{Member as Pair, array_text, object_text}
+use Rattle.scene_json.specs.Compact.{Member as Pair, array_text}
 use Rattle.scene_json.specs.Members.{pairs}
 use Rattle.scene_json.specs.Named.{value_at, HaveRisingNames}
 use Rattle.scene_json.specs.Parts.{AreMembers}
 use Rattle.scene_json.specs.TheOne.{IsTheOne}
 use Rattle.scene_json.specs.Tree.{null_word}
 use Rattle.scene_json.specs.Value.{IsCompact}
-use Rattle.scene_json.proofs.Collapsed.{bytes_eq-true, bytes_eq-same, bytes_eq-apart}
+use Rattle.scene_json.proofs.Collapsed.{bytes_eq-true, bytes_eq-same}
 use Rattle.scene_json.proofs.CompactLaws.{Value-deeper, quote-compact, array-compact, object-compact}
 use Rattle.scene_json.proofs.Decimals.{digit_of_decimal}
 use Rattle.scene_json.proofs.Forms.{array-starts}
 use Rattle.scene_json.proofs.Strings.{heads-differ}
-use Rattle.restore_table.specs.Restored.{filled, filled_at, arrow_text, listing_text, listing_at, listing_name, old_name, HasOldListing, AreRestored, LackNothing}
+use Rattle.restore_table.specs.Restored.{filled, arrow_text, listing_text, listing_at, listing_name, old_name, HasOldListing, AreRestored, LackNothing}
 use Rattle.restore_table.specs.Table.{defaults}
 use Rattle.restore_table.proofs.RestoredLaws.{restored-lack}
 use Rattle.restore_table.proofs.Rows.{defaults-compact}
@@ -27,14 +27,14 @@ use Rattle.elem.specs.declared.kind.Kind.{Kind}
 use Rattle.elem.specs.declared.kind.Kind.TheVariants.{Rectangle, Diamond, Ellipse, Arrow, Line, Freedraw, Text, Image, Frame, Magicframe, Iframe, Embeddable, Other}
 use Rattle.elem.specs.Drawn.{Drawn}
 use Rattle.elem.specs.Facts.{greatest_whole, header_names, own_names, known_names, is_header, IsKind, IsElement}
-use Rattle.elem.specs.Forms.{Find, find_in, IsObject, IsText, AreOthers}
+use Rattle.elem.specs.Forms.{find_in}
 use Rattle.elem.specs.Said.{Says, IsWritten}
-use Rattle.elem.specs.Texts.{kind_name, truth_text, text_or_null, bound_text, header_members, sorted_members, element_members, element_text}
+use Rattle.elem.specs.Texts.{kind_name, truth_text, text_or_null, header_members, element_members}
 use Rattle.elem.proofs.Distinct.{IsDistinct-element}
-use Rattle.elem.proofs.FormsOnce.{text-once, quotes-compact, rising-names}
+use Rattle.elem.proofs.FormsOnce.{text-once, rising-names}
 use Rattle.elem.proofs.Saying.{literal, AreMembers-deeper, element-are, element-says, element-found}
 use Rattle.elem.proofs.Sorting.{IsRising-sorted}
-use Rattle.elem_read.specs.Reading.{IsDrawing, IsElementIn, IsWhole, selection_text}
+use Rattle.elem_read.specs.Reading.{IsElementIn, IsWhole}
 use Rattle.elem_read.proofs.Keeping.{AllFound, found-has, object-nests, says-element, says-written}
 
 -- ---- restored members

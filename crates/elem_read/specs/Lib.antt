@@ -1,3 +1,4 @@
+pub mod Elements
 pub mod Faults
 pub mod Parts
 pub mod Reading

@@ -62,3 +62,12 @@ impl ElemFault {
         }
     }
 }
+
+/// The first value with a fault among several.
+#[derive(Clone, Copy, Debug, PartialEq, Eq)]
+pub struct FaultyElement {
+    /// Its place, counted from 0; what is dropped counts.
+    pub place: u64,
+    /// Its first fault.
+    pub fault: ElemFault,
+}

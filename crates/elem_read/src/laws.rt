@@ -1,12 +1,14 @@
 //! Laws on reading, for all values. They do nothing when they run.
 
-ghost use Rattle.std.specs.Prelude.{◌≡◌, ◌⊎◌, List, ℕ};
+ghost use Rattle.std.specs.Prelude.{◌≡◌, ◌⊎◌, List, ℕ, All, map};
 ghost use Rattle.scene_json.specs.Compact.{Member};
 ghost use Rattle.scene_json.specs.Named.{AreSameMembers};
 ghost use Rattle.scene_json.specs.Value.{IsCompact};
 ghost use Rattle.elem.specs.Drawn.{Drawn};
 ghost use Rattle.elem.specs.Forms.{IsObject};
-ghost use Rattle.elem_read.specs.Reading.{IsSelection, IsElementIn, IsFaultIn};
+ghost use Rattle.elem.specs.Texts.{element_text};
+ghost use Rattle.elem_read.specs.Elements.{AreRead, IsFirstFaulty};
+ghost use Rattle.elem_read.specs.Reading.{IsSelection, IsElementIn, IsFaultIn, IsWhole};
 ghost use Rattle.elem_read.specs.declared.fault.ElemFault.{ElemFault};
 
 /// A value is read in one way at most: as one element, as no element, or with one first fault.
@@ -36,4 +38,19 @@ pub fn order_of_members_plays_no_part()
 pub fn reading_exists()
     ensures { (value : List ℕ) → IsCompact 128 value
         → IsSelection value ⊎ (((e : Drawn) × IsElementIn value e) ⊎ ((fault : ElemFault) × IsFaultIn value fault)) }
+{}
+
+/// Values are read in one way at most: as one list of elements, or with one first faulty value.
+pub fn reading_elements_is_unique()
+    ensures elements { (values : List (List ℕ)) (elements others : List Drawn)
+        → AreRead values elements → AreRead values others → elements ≡ others }
+    ensures fault { (values : List (List ℕ)) (place other : ℕ) (fault why : ElemFault)
+        → IsFirstFaulty values place fault → IsFirstFaulty values other why → (place ≡ other) × (fault ≡ why) }
+    ensures faultless { (values : List (List ℕ)) (elements : List Drawn) (place : ℕ) (fault : ElemFault)
+        → AreRead values elements → IsFirstFaulty values place fault → ⊥ }
+{}
+
+/// The texts of whole elements are read as these elements.
+pub fn texts_are_read()
+    ensures { (elements : List Drawn) → All IsWhole elements → AreRead (map element_text elements) elements }
 {}

@@ -10,5 +10,5 @@ pub mod laws;
 mod listing;
 mod reading;
 
-pub use fault::ElemFault;
-pub use reading::read_element;
+pub use fault::{ElemFault, FaultyElement};
+pub use reading::{read_element, read_elements};

@@ -1,2 +1,3 @@
-pub mod Updates
 pub mod Places
+pub mod Stock
+pub mod Updates

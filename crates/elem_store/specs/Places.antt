@@ -1,5 +1,5 @@
 -- How a store keeps its elements: as they came, beside their places in the order of their ids. This project's own.
-use Rattle.std.specs.Prelude.{◌≡◌, ℕ, ◌<◌, ◌≤◌, List, true, All, length, take, drop, filter_map, slice_get, IsSomeAnd}
+use Rattle.std.specs.Prelude.{◌≡◌, ℕ, ◌-◌, min, ◌<◌, ◌≤◌, List, true, All, length, take, drop, filter_map, slice_get, IsSomeAnd}
 use Rattle.frac_keys.specs.Keys.{bytes_less}
 use Rattle.frac_keys.specs.Rising.{are_rising}
 use Rattle.elem.specs.Drawn.{Drawn}
@@ -8,6 +8,10 @@ use Rattle.elem_store.specs.Updates.{ids_of}
 -- the elements at these places
 abbrev pub elements_at : List Drawn → List ℕ → List Drawn
 elements_at elements places = filter_map (slice_get elements) places
+
+-- how many more elements fit in so much room for elements and places, of which so much is taken
+abbrev pub spare_in : ℕ → ℕ → ℕ → ℕ
+spare_in elements_room places_room count = min (elements_room - count) (places_room - count)
 
 -- There are as many places as elements, each within the list, and the ids rise along them, so that no place comes twice.
 pub record AreInOrder (elements : List Drawn) (places : List ℕ) : Type 0 where

@@ -1,6 +1,6 @@
 //! Elements as they came, and their places in the order of their ids.
 
-ghost use Rattle.std.specs.Prelude.{◌≡◌, ◌<◌, ◌≤◌, [], ◌∷◌, ◌++◌, length, insert, slice_get, slice_index_or, slice_set, if◌then◌else◌, IfOk, IfErr, OnOk};
+ghost use Rattle.std.specs.Prelude.{◌≡◌, ◌<◌, ◌≤◌, [], ◌∷◌, ◌++◌, length, insert, slice_get, slice_index_or, slice_set, if◌then◌else◌, IfOk, IfErr, OnOk, IsOk, vec_len, vec_capacity};
 ghost use Rattle.std.specs.Option.{option_map_or};
 ghost use Rattle.std.specs.Ordering.{nat_cmp};
 ghost use Rattle.std.specs.Cmp.Lexicographic.{slice_cmp};
@@ -40,6 +40,7 @@ pub(crate) fn replace_beaten(elements: &mut Vec<Element>, place: usize, e: Eleme
     requires { place < length elements.old.items }
     ensures beaten { result ≡ order.beats e (slice_index_or elements.old.items place e) }
     ensures items { elements.new.items ≡ (if result then slice_set elements.old.items place e else elements.old.items) }
+    ensures room { vec_capacity elements.new ≡ vec_capacity elements.old }
 {
     let old = &elements[place];
     let beaten = beats(&e, old);
@@ -60,6 +61,8 @@ pub(crate) fn add(
     ensures elements { OnOk result (elements.new.items ≡ elements.old.items ++ e ∷ []) }
     ensures places { OnOk result (places.new.items ≡ insert places.old.items i (length elements.old.items)) }
     ensures err { IfErr result (λ back. (elements.new.items ≡ elements.old.items) × (places.new.items ≡ places.old.items) × (back.0 ≡ e)) }
+    ensures room { vec_len elements.old < vec_capacity elements.old → vec_len places.old < vec_capacity places.old → IsOk result }
+    ensures kept { (vec_capacity elements.old ≤ vec_capacity elements.new) × (vec_capacity places.old ≤ vec_capacity places.new) }
 {
     if let Err(error) = places.reserve(1) {
         return Err((e, error));

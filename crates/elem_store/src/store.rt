@@ -1,6 +1,6 @@
 //! A store.
 
-ghost use Rattle.std.specs.Prelude.{◌≡◌, List as Items, [], ◌∷◌, ◌++◌, true, length, slice_get, option_copied, IsSome, IsOk, IfOk, IfErr, OnOk, Ok, false};
+ghost use Rattle.std.specs.Prelude.{◌≡◌, ◌+◌, ◌<◌, ◌≤◌, List as Items, [], ◌∷◌, ◌++◌, true, length, slice_get, option_copied, IsSome, IsOk, IfOk, IfErr, OnOk, Ok, false};
 ghost use Rattle.frac_keys.specs.Rising.{are_rising};
 ghost use Rattle.elem.specs.Drawn.{Drawn};
 ghost use Rattle.elem_store.specs.Updates.{AreStored, HasTaken, element_of, ids_of, is_taken};
@@ -22,13 +22,16 @@ pub struct Store {
 }
 
 impl Model for Store {
-    ghost use Rattle.std.specs.Prelude.{List};
-    ghost use Rattle.elem.specs.Drawn.{Drawn};
-    ghost use Rattle.elem_store.specs.Places.{elements_at, AreInOrder};
+    ghost use Rattle.std.specs.Prelude.{vec_capacity, vec_len};
+    ghost use Rattle.elem_store.specs.Places.{elements_at, spare_in, AreInOrder};
+    ghost use Rattle.elem_store.specs.Stock.{Stock};
 
-    ghost Value = { List Drawn };
+    ghost Value = { Stock };
 
-    ghost view = { λ s. elements_at s.elements.items s.places.items };
+    ghost view = { λ s. record {
+      elements = elements_at s.elements.items s.places.items;
+      spare = spare_in (vec_capacity s.elements) (vec_capacity s.places) (vec_len s.places);
+    } };
 
     ghost invariant = { λ s. AreInOrder s.elements.items s.places.items };
 }
@@ -36,7 +39,7 @@ impl Model for Store {
 impl Store {
     /// With no element.
     pub fn new(alloc: Global) -> Store
-        ensures { result ≡ [] }
+        ensures { result.elements ≡ [] }
     {
         Store {
             elements: Vec::new(alloc),
@@ -47,7 +50,7 @@ impl Store {
     /// What is stored of these updates, of which among equal bests of an id the first counts. They are taken in the order
     /// of their ids, so that each one's place comes after those that are there.
     pub fn from_updates(alloc: Global, updates: List<Element>) -> Result<Store, AllocError>
-        ensures { IfOk result (λ store. AreStored updates store) }
+        ensures { IfOk result (λ store. AreStored updates store.elements) }
     {
         let mut updates = updates.into_vec();
         updates.sort_by(|e, other| e.id.cmp(&other.id))?;
@@ -58,7 +61,7 @@ impl Store {
 
     /// Takes the updates in their order.
     fn take_each(&mut self, elements: Vec<Element>) -> Result<(), AllocError>
-        ensures { OnOk result ((updates : Items Drawn) → AreStored updates self.old → AreStored (updates ++ elements.items) self.new) }
+        ensures { OnOk result ((updates : Items Drawn) → AreStored updates self.old.elements → AreStored (updates ++ elements.items) self.new.elements) }
     {
         for e in elements {
             self.take(e).map_err(|(_, error)| error)?;
@@ -66,18 +69,32 @@ impl Store {
         Ok(())
     }
 
+    /// Makes room for this many new ids. The elements stay, also for want of memory.
+    pub fn reserve(&mut self, n: usize) -> Result<(), AllocError>
+        ensures room { OnOk result (n ≤ self.new.spare) }
+        ensures kept { self.old.spare ≤ self.new.spare }
+        ensures elements { self.new.elements ≡ self.old.elements }
+    {
+        self.places.reserve(n)?;
+        self.elements.reserve(n)
+    }
+
     /// Stores the element where its id is new or it beats the stored one, and tells whether it did. For want of memory
-    /// it hands the element back, and the store is unchanged. It takes no memory where the id is stored.
+    /// it hands the element back, and the stored elements are unchanged. It takes no memory where the id is stored or
+    /// there is room for a new one.
     pub fn take(&mut self, e: Element) -> Result<bool, (Element, AllocError)>
         // What is stored of a list of updates is then stored of the list with this one at its end.
-        ensures stored { OnOk result ((updates : Items Drawn) → AreStored updates self.old → AreStored (updates ++ e ∷ []) self.new) }
+        ensures stored { OnOk result ((updates : Items Drawn)
+            → AreStored updates self.old.elements → AreStored (updates ++ e ∷ []) self.new.elements) }
 
-        ensures after { OnOk result (HasTaken self.old e self.new) }
-        ensures taken { IfOk result (λ taken. taken ≡ is_taken self.old e) }
-        ensures left { result ≡ Ok false → self.new ≡ self.old }
+        ensures after { OnOk result (HasTaken self.old.elements e self.new.elements) }
+        ensures taken { IfOk result (λ taken. taken ≡ is_taken self.old.elements e) }
+        ensures left { result ≡ Ok false → self.new.elements ≡ self.old.elements }
 
-        ensures err { IfErr result (λ back. (self.new ≡ self.old) × (back.0 ≡ e)) }
-        ensures known { IsSome (element_of self.old e.id) → IsOk result }
+        ensures err { IfErr result (λ back. (self.new.elements ≡ self.old.elements) × (back.0 ≡ e)) }
+        ensures known { IsSome (element_of self.old.elements e.id) → IsOk result }
+        ensures room { 0 < self.old.spare → IsOk result }
+        ensures spare { self.old.spare ≤ self.new.spare + 1 }
     {
         match find_place(&self.elements, &self.places, &e.id) {
             Ok(i) => Ok(replace_beaten(&mut self.elements, self.places[i], e)),
@@ -90,7 +107,7 @@ impl Store {
 
     /// The stored element of this id. It takes no memory.
     pub fn get(&self, id: &Text) -> Option<&Element>
-        ensures { option_copied result ≡ element_of self.now id.now }
+        ensures { option_copied result ≡ element_of self.now.elements id.now }
     {
         match find_place(&self.elements, &self.places, id) {
             Ok(i) => self.at(i),
@@ -100,8 +117,8 @@ impl Store {
 
     /// The stored element at this index, in the order of the ids. It takes no memory.
     pub fn at(&self, i: usize) -> Option<&Element>
-        ensures element { option_copied result ≡ slice_get self.now i }
-        ensures ordered { are_rising (ids_of self.now) ≡ true }
+        ensures element { option_copied result ≡ slice_get self.now.elements i }
+        ensures ordered { are_rising (ids_of self.now.elements) ≡ true }
     {
         let place = *self.places.get(i)?;
         Some(&self.elements[place])
@@ -109,7 +126,7 @@ impl Store {
 
     /// How many elements are stored.
     pub fn len(&self) -> usize
-        ensures { result ≡ length self.now }
+        ensures { result ≡ length self.now.elements }
     {
         self.places.len()
     }

@@ -1,5 +1,5 @@
 -- A scene and a fault are determined by the text, and a joined head by the heads.
-use Rattle.std.proofs.Common.{◌≡◌, ◌⊎◌, inl, inr, ℕ, zero, suc, List, [], ◌∷◌, Option, Some, None, true, codes, drop, refl, sym, ap, ap₂, ◌∙◌, subst}
+use Rattle.std.proofs.Common.{◌≡◌, ℕ, List, [], ◌∷◌, Option, Some, None, true, codes, drop, refl, sym, ap, ap₂, ◌∙◌, subst}
 use Rattle.scene_json.specs.Characters.{is_blank}
 use Rattle.scene_json.specs.Compact.{Member as Pair}
 use Rattle.scene_json.specs.Members.{pairs}
@@ -11,17 +11,15 @@ use Rattle.scene_json.specs.declared.text.Member.{Member}
 use Rattle.scene_json.proofs.FirstFaults as json
 use Rattle.scene_json.proofs.Lookups.{rising_same}
 use Rattle.scene_json.proofs.Reading.{Stands-once}
-use Rattle.elem.specs.Drawn.{Drawn}
 use Rattle.elem.specs.Forms.{IsObject}
 use Rattle.elem.proofs.FormsOnce.{text-once, members-once}
 use Rattle.elem.proofs.Once.{array-once}
-use Rattle.elem_read.specs.Reading.{IsSelection, IsElementIn, IsFaultIn}
+use Rattle.elem_read.specs.Elements.{IsFirstFaulty, AreRead}
 use Rattle.elem_read.specs.declared.fault.ElemFault.{ElemFault}
-use Rattle.elem_read.proofs.Unique.{element-once, element-faultless, element-kept, fault-dropped}
-use Rattle.elem_read.proofs.Unique as element
+use Rattle.elem_read.proofs.ReadElements.{read-once, faulty-once, faultless}
 use Rattle.file_table.proofs.Least.{AreFilesOf-unique}
 use Rattle.scene_file.specs.Heads.{Heading, IsJoinedHead, settings_of, files_of}
-use Rattle.scene_file.specs.Reading.{given, HasItems, HasMembers, IsSource, IsScene, AreRead, IsFirstFaulty, loaded, IsHeadOf, IsSceneOf, IsSceneFault, IsSceneAt, IsFaultAt}
+use Rattle.scene_file.specs.Reading.{given, HasItems, HasMembers, IsSource, IsScene, loaded, IsHeadOf, IsSceneOf, IsSceneFault, IsSceneAt, IsFaultAt}
 use Rattle.scene_file.specs.declared.scene.Scene.{Scene}
 use Rattle.scene_file.specs.declared.fault.SceneFault.{SceneFault}
 use Rattle.scene_file.specs.declared.fault.SceneFault.TheVariants.{Json, NotObject, NotScene, Elements, AppState, Files, Element}
@@ -41,14 +39,6 @@ given-once (Some value) ms ns one two = members-once value ms ns one two
 items-once : (found : Option (List ℕ)) (vs ws : List (List ℕ)) → HasItems found vs → HasItems found ws → vs ≡ ws
 items-once None vs ws one two = one ∙ sym two
 items-once (Some value) vs ws one two = array-once vs ws one.0 two.0 (sym one.1 ∙ two.1)
-
-read-once : (values : List (List ℕ)) (es fs : List Drawn) → AreRead values es → AreRead values fs → es ≡ fs
-read-once [] es fs one two = one ∙ sym two
-read-once (v ∷ values) es fs (inl (dropped, read)) (inl (gone, others)) = read-once values es fs read others
-read-once (v ∷ values) es fs (inl (dropped, read)) (inr (f, more, all, is, others)) = absurd (element-kept v f is dropped)
-read-once (v ∷ values) es fs (inr (e, more, all, is, read)) (inl (dropped, others)) = absurd (element-kept v e is dropped)
-read-once (v ∷ values) es fs (inr (e, more, all, is, read)) (inr (f, rest, each, are, others)) =
-    all ∙ (ap₂ (λ x xs. x ∷ xs) (element-once v e f is are) (read-once values more rest read others) ∙ sym each)
 
 pairs-once : (xs ys : List Member) → pairs xs ≡ pairs ys → xs ≡ ys
 pairs-once [] [] e = refl
@@ -93,26 +83,6 @@ pub scene-some : {bytes : List ℕ} {scene : Scene} {rest : List ℕ} → IsScen
 scene-some {bytes = bytes} {rest = rest} is blank = Stands-no_blank bytes is.text rest is.stands blank
 
 -- ---- faults
-no-fault : (v : List ℕ) (fault : ElemFault) → IsFaultIn v fault → IsSelection v ⊎ ((e : Drawn) × IsElementIn v e) → ⊥
-no-fault v fault one (inl dropped) = fault-dropped v fault one dropped
-no-fault v fault one (inr (e, is)) = element-faultless v e fault is one
-
-faulty-once : (values : List (List ℕ)) (place other : ℕ) (fault why : ElemFault) → IsFirstFaulty values place fault → IsFirstFaulty values other why → (place ≡ other) × (fault ≡ why)
-faulty-once [] place other fault why one two = absurd one
-faulty-once (v ∷ values) zero zero fault why one two = (refl, element.fault-once v fault why one two)
-faulty-once (v ∷ values) zero (suc other) fault why one two = absurd (no-fault v fault one two.0)
-faulty-once (v ∷ values) (suc place) zero fault why one two = absurd (no-fault v why two one.0)
-faulty-once (v ∷ values) (suc place) (suc other) fault why one two =
-    let more = faulty-once values place other fault why one.1 two.1 in
-    (ap suc more.0, more.1)
-
-faultless : (values : List (List ℕ)) (elements : List Drawn) (place : ℕ) (fault : ElemFault) → AreRead values elements → IsFirstFaulty values place fault → ⊥
-faultless [] elements place fault read faulty = faulty
-faultless (v ∷ values) elements zero fault (inl (dropped, read)) faulty = no-fault v fault faulty (inl dropped)
-faultless (v ∷ values) elements zero fault (inr (e, others, all, is, read)) faulty = no-fault v fault faulty (inr (e, is))
-faultless (v ∷ values) elements (suc place) fault (inl (dropped, read)) faulty = faultless values elements place fault read faulty.1
-faultless (v ∷ values) elements (suc place) fault (inr (e, others, all, is, read)) faulty = faultless values others place fault read faulty.1
-
 -- one question on the way to a fault: it is answered by no, and this is the fault, or by yes, and the fault comes later
 data Asked (Yes : Type 0) (known : SceneFault) (Later : SceneFault → Type 0) (fault : SceneFault) : Type 0 where
   no : fault ≡ known → (Yes → ⊥) → Asked Yes known Later fault

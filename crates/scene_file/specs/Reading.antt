@@ -1,6 +1,6 @@
 -- What a scene's text says, and its first fault. After Excalidraw's JSON schema; which forms are accepted, and how missing
 -- keys are filled, is this project's own.
-use Rattle.std.specs.Prelude.{◌≡◌, ◌⊎◌, ℕ, zero, suc, List, [], ◌∷◌, Option, Some, None, drop, map, codes, bytes_eq, is_some, if◌then◌else◌}
+use Rattle.std.specs.Prelude.{◌≡◌, ℕ, List, [], ◌∷◌, Option, Some, None, drop, map, codes, bytes_eq, is_some, if◌then◌else◌}
 use Rattle.std.specs.List.{AllByRecursion, list_all}
 use Rattle.scene_json.specs.Compact.{Member as Pair, array_text, object_text}
 use Rattle.scene_json.specs.Faults.{IsFirstFault}
@@ -11,8 +11,7 @@ use Rattle.scene_json.specs.Value.{IsCompact, Stands}
 use Rattle.index_repair.specs.Repair.{repaired}
 use Rattle.elem.specs.Drawn.{Drawn}
 use Rattle.elem.specs.Forms.{IsText, IsObject}
-use Rattle.elem_read.specs.Reading.{IsElementIn, IsSelection, IsFaultIn}
-use Rattle.elem_read.specs.declared.fault.ElemFault.{ElemFault}
+use Rattle.elem_read.specs.Elements.{AreRead, IsFirstFaulty}
 use Rattle.view.specs.Shown.{index_of, keyed}
 use Rattle.scene_file.specs.Heads.{Heading}
 use Rattle.scene_file.specs.declared.scene.Scene.{Scene}
@@ -41,20 +40,6 @@ IsSource found (Some source) = IsText found source
 -- The members say a scene's form: an object of type `excalidraw`.
 abbrev pub IsScene : List Pair → Type 0
 IsScene members = IsText (value_at (codes "type") members) (codes "excalidraw")
-
--- Each value is read as an element, in their order; one of type `selection` is dropped.
-abbrev pub AreRead : List (List ℕ) → List Drawn → Type 0
-AreRead [] elements = elements ≡ []
-AreRead (value ∷ values) elements =
-    (IsSelection value × AreRead values elements)
-    ⊎ ((e : Drawn) × (others : List Drawn) × (elements ≡ e ∷ others) × IsElementIn value e × AreRead values others)
-
--- The value at this place, counted from 0, is the first with a fault; dropped ones count.
-abbrev pub IsFirstFaulty : List (List ℕ) → ℕ → ElemFault → Type 0
-IsFirstFaulty [] place fault = ⊥
-IsFirstFaulty (value ∷ values) zero fault = IsFaultIn value fault
-IsFirstFaulty (value ∷ values) (suc place) fault =
-    (IsSelection value ⊎ ((e : Drawn) × IsElementIn value e)) × IsFirstFaulty values place fault
 
 -- the elements as they are loaded: their keys are kept where each has one, else the keys of all are repaired in the
 -- array's order

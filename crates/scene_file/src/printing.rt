@@ -49,7 +49,7 @@ pub fn scene_text(
 /// The compact text of all that is stored, deleted elements too, as stored, under this head and with all its files. Fails
 /// only for want of memory.
 pub fn state_text(alloc: Global, head: &Head, store: &Store) -> Result<Bytes, AllocError>
-    ensures exact { IfOk result (λ text. text ≡ scenes.state_text head.now store.now) }
+    ensures exact { IfOk result (λ text. text ≡ scenes.state_text head.now store.now.elements) }
 {
     let files = head.files.by_id()?;
     let mut state = Vec::new(alloc);
@@ -145,7 +145,7 @@ fn push_elements(out: &mut Vec<u8>, elements: &[Element]) -> Result<(), AllocErr
 
 /// Appends the texts of all stored elements, in the order of their ids, with commas between them.
 fn push_stored(out: &mut Vec<u8>, store: &Store) -> Result<(), AllocError>
-    ensures { OnOk result (out.new.items ≡ out.old.items ++ join_with_byte 44 (map element_text store.now)) }
+    ensures { OnOk result (out.new.items ≡ out.old.items ++ join_with_byte 44 (map element_text store.now.elements)) }
 {
     for i in 0..store.len() {
         if let Some(e) = store.at(i) {

@@ -4,9 +4,9 @@ ghost use Rattle.std.specs.Prelude.{◌≡◌, ◌<◌, ◌≤◌, ℕ, List as 
 ghost use Rattle.std.specs.List.{list_all};
 ghost use Rattle.scene_json.specs.Compact.{Member as Pair};
 ghost use Rattle.scene_json.specs.Members.{pairs};
-ghost use Rattle.elem_read.specs.Reading.{IsSelection, IsElementIn, IsFaultIn};
+ghost use Rattle.elem_read.specs.Elements.{AreRead, IsFirstFaulty};
 ghost use Rattle.elem_read.specs.declared.fault.ElemFault.{ElemFault};
-ghost use Rattle.scene_file.specs.Reading.{given, loaded, HasItems, HasMembers, AreRead, IsFirstFaulty, IsSceneOf, IsSceneFault, IsSceneAt, IsFaultAt};
+ghost use Rattle.scene_file.specs.Reading.{given, loaded, HasItems, HasMembers, IsSceneOf, IsSceneFault, IsSceneAt, IsFaultAt};
 ghost use Rattle.scene_file.specs.declared.scene.Scene.{Scene};
 ghost use Rattle.scene_file.specs.declared.fault.SceneFault.{SceneFault};
 
@@ -15,7 +15,7 @@ use crate::head::head_of;
 use crate::scene::Scene;
 use board_io::{List, Stop};
 use elem::Element;
-use elem_read::read_element;
+use elem_read::read_elements;
 use scene_json::{Member, Raw, has_value, is_null, items, members, scan, shaped, value_named};
 use std::alloc::{AllocError, Global};
 use view::with_repaired_keys;
@@ -60,7 +60,8 @@ pub fn scene_of(alloc: Global, value: &Raw) -> Result<Scene, Stop<SceneFault>>
     let Some(entries) = members_given(alloc, &found, "files")? else {
         return Err(Stop::Fault(SceneFault::Files));
     };
-    let elements = loaded(alloc, elements_of(alloc, &values)?)?;
+    let read = elements_of(alloc, &values)?;
+    let elements = loaded(alloc, read.into_vec())?;
     Ok(Scene {
         head: head_of(alloc, &found, settings, entries)?,
         elements: List::from_vec(elements),
@@ -110,30 +111,16 @@ fn members_given(
 }
 
 /// The elements that the values are, in their order, or the first fault among them.
-fn elements_of(alloc: Global, values: &List<Raw>) -> Result<Vec<Element>, Stop<SceneFault>>
-    ensures read { IfOk result (λ elements. AreRead values.now elements.items) }
+fn elements_of(alloc: Global, values: &List<Raw>) -> Result<List<Element>, Stop<SceneFault>>
+    ensures read { IfOk result (AreRead values.now) }
     ensures fault { (fault : SceneFault) → result ≡ Err (Stop.Fault fault)
         → (place : ℕ) × (why : ElemFault) × (fault ≡ SceneFault.Element place why) × IsFirstFaulty values.now place why }
 {
-    let mut elements = Vec::new(alloc);
-    for (place, value) in values.as_slice().iter().enumerate() {
-        let read = element_of(alloc, value, place)?;
-        if let Some(element) = read {
-            elements.push(element)?;
+    match read_elements(alloc, values) {
+        Ok(elements) => Ok(elements),
+        Err(Stop::Fault(faulty)) => {
+            Err(Stop::Fault(SceneFault::Element(faulty.place, faulty.fault)))
         }
-    }
-    Ok(elements)
-}
-
-/// The element that a value is, if it isn't dropped, or its fault at this place.
-fn element_of(alloc: Global, value: &Raw, place: usize) -> Result<Option<Element>, Stop<SceneFault>>
-    ensures read { IfOk result (λ found. MatchOption found (IsSelection value.now) (IsElementIn value.now)) }
-    ensures fault { (fault : SceneFault) → result ≡ Err (Stop.Fault fault)
-        → (why : ElemFault) × (fault ≡ SceneFault.Element place why) × IsFaultIn value.now why }
-{
-    match read_element(alloc, value) {
-        Ok(found) => Ok(found),
-        Err(Stop::Fault(fault)) => Err(Stop::Fault(SceneFault::Element(place as u64, fault))),
         Err(Stop::Memory) => Err(Stop::Memory),
     }
 }

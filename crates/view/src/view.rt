@@ -38,7 +38,7 @@ impl Model for View {
 
 /// The view of a store: of all its live elements. Fails only for want of memory.
 pub fn view_of(alloc: Global, store: &Store) -> Result<View, AllocError>
-    ensures { IfOk result (λ view. view ≡ live_elements store.now) }
+    ensures { IfOk result (λ view. view ≡ live_elements store.now.elements) }
 {
     let live = live_of(alloc, store)?;
     let shown = shown_of(alloc, &live)?;
@@ -65,7 +65,7 @@ impl View {
 
 /// The live elements of a store, in the order of their ids.
 fn live_of(alloc: Global, store: &Store) -> Result<List<Element>, AllocError>
-    ensures exact { IfOk result (λ live. live ≡ live_elements store.now) }
+    ensures exact { IfOk result (λ live. live ≡ live_elements store.now.elements) }
     ensures ordered { IfOk result (λ live. are_rising (ids_of live) ≡ true) }
 {
     let mut live = Vec::new(alloc);

@@ -8,7 +8,7 @@ returns c =
     let settled = shown-settled c.view.inside.live (HaveDistinctIds-rising c.view.inside.live c.view.invariant.ordered) c.view.invariant.keys in
     IfOk-weaker c.ended.result _ _ (λ text made. record {
       head = c.in_ok-head.head;
-      stored = c.in_ok-head.store;
+      stored = c.in_ok-head.store.elements;
       board = c.in_ok-head.ensures;
       written = c.in_ok-scene_text.field-0;
       scene = rw (← c.in_ok-view.ensures) c.in_ok-scene_text.ensures.text;

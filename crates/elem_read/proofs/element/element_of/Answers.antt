@@ -1,11 +1,9 @@
 -- Each part is read in the order of the faults.
-use Rattle.std.proofs.Common.{codes, inl, inr, subst, sym, ◌∙◌}
+use Rattle.std.proofs.Common.{codes, inl, inr, subst, sym}
 use Rattle.std.proofs.lemmas.Result.{err_from_is_err_and}
 use Rattle.scene_json.specs.Members.{pairs}
-use Rattle.elem.specs.Drawn.{Drawn}
 use Rattle.elem.specs.Facts.{is_header}
 use Rattle.elem.specs.Forms.{Find, find_in, IsTextOrNull, IsBindingOrNull, AreOthers}
-use Rattle.elem.specs.Said.{Says}
 use Rattle.elem_read.specs.declared.fault.ElemFault.TheVariants.{Container, Binding, File}
 use Rattle.elem_read.proofs.Drawings.{members-found}
 use Rattle.elem_read.proofs.Firsts.{after-id, after-kind, after-version, after-nonce, after-updated, after-index, after-deleted, after-groups, after-frame, after-bound, after-container, after-bindings}

@@ -1,12 +1,14 @@
 use Rattle.std.proofs.Common.{◌≡◌, None, Ok, Err, refl, sym, ap, subst, ◌∙◌}
 use Rattle.std.proofs.lemmas.Bool.{both_ways}
+use Rattle.std.proofs.lemmas.Option.{MatchOption-at_some, MatchOption-at_none}
 use Rattle.std.proofs.lemmas.Result.{IfOk-at_ok, err_from_is_err_and}
 use Rattle.scene_json.specs.Characters.{quote}
 use Rattle.scene_json.specs.Members.{pairs}
-use Rattle.scene_file.specs.Reading.{IsSceneFault}
+use Rattle.elem_read.proofs.Parts.{stop-same}
+use Rattle.scene_file.specs.Reading.{IsSceneFault, loaded}
 use Rattle.scene_file.specs.declared.fault.SceneFault.TheVariants.{NotScene, Elements, AppState, Files}
 use Rattle.scene_file.proofs.Forms.{is-object, is-scene}
-use Rattle.scene_file.proofs.Values.{some-left, none-left, stop-same, fault-same}
+use Rattle.scene_file.proofs.Values.{fault-same}
 use Rattle.scene_file.proofs.reading.scene_of.Goals as goal
 
 pub returns-then-not-has_value-clause-fault : goal.returns-then-not-has_value-clause-fault
@@ -25,7 +27,7 @@ returns-in_default-2-clause-fault c = λ fault e.
     let object = is-object value (pairs c.in-Some.found) (IfOk-at_ok _ found c.members.ensures.spelled) (IfOk-at_ok _ found c.members.ensures.kept) in
     let kind = is-scene (pairs c.in-Some.found) (c.if-not-has_value.ensures.0 refl) in
     let none : c.in_ok-values.field-0 ≡ None = cc in
-    let lacks = none-left c.in_ok-values.field-0 _ _ none c.in_ok-values.ensures in
+    let lacks = MatchOption-at_none _ _ none c.in_ok-values.ensures in
     subst (IsSceneFault value) (fault-same _ Elements fault e) (pairs c.in-Some.found, object, kind, lacks)
 
 pub returns-in_default-3-clause-fault : goal.returns-in_default-3-clause-fault
@@ -35,9 +37,9 @@ returns-in_default-3-clause-fault c = λ fault e.
     let found : c.members.result ≡ Ok c.in-Some.found = c.shaped.ensures.found c.in-Some.found (c.in_ok-found.was ∙ ap Ok c.in-Some.is) in
     let object = is-object value (pairs c.in-Some.found) (IfOk-at_ok _ found c.members.ensures.spelled) (IfOk-at_ok _ found c.members.ensures.kept) in
     let kind = is-scene (pairs c.in-Some.found) (c.if-not-has_value.ensures.0 refl) in
-    let items = some-left c.in_ok-values.field-0 c.in-Some-2.values _ _ c.in-Some-2.is c.in_ok-values.ensures in
+    let items = MatchOption-at_some _ _ c.in-Some-2.values c.in-Some-2.is c.in_ok-values.ensures in
     let none : c.in_ok-settings.field-0 ≡ None = cc in
-    let lacks = none-left c.in_ok-settings.field-0 _ _ none c.in_ok-settings.ensures in
+    let lacks = MatchOption-at_none _ _ none c.in_ok-settings.ensures in
     subst (IsSceneFault value) (fault-same _ AppState fault e) (pairs c.in-Some.found, object, kind, (c.in-Some-2.values, items), lacks)
 
 pub returns-in_default-4-clause-fault : goal.returns-in_default-4-clause-fault
@@ -47,25 +49,25 @@ returns-in_default-4-clause-fault c = λ fault e.
     let found : c.members.result ≡ Ok c.in-Some.found = c.shaped.ensures.found c.in-Some.found (c.in_ok-found.was ∙ ap Ok c.in-Some.is) in
     let object = is-object value (pairs c.in-Some.found) (IfOk-at_ok _ found c.members.ensures.spelled) (IfOk-at_ok _ found c.members.ensures.kept) in
     let kind = is-scene (pairs c.in-Some.found) (c.if-not-has_value.ensures.0 refl) in
-    let items = some-left c.in_ok-values.field-0 c.in-Some-2.values _ _ c.in-Some-2.is c.in_ok-values.ensures in
-    let settings = some-left c.in_ok-settings.field-0 c.in-Some-3.settings _ _ c.in-Some-3.is c.in_ok-settings.ensures in
+    let items = MatchOption-at_some _ _ c.in-Some-2.values c.in-Some-2.is c.in_ok-values.ensures in
+    let settings = MatchOption-at_some _ _ c.in-Some-3.settings c.in-Some-3.is c.in_ok-settings.ensures in
     let none : c.in_ok-entries.field-0 ≡ None = cc in
-    let lacks = none-left c.in_ok-entries.field-0 _ _ none c.in_ok-entries.ensures in
+    let lacks = MatchOption-at_none _ _ none c.in_ok-entries.ensures in
     subst (IsSceneFault value) (fault-same _ Files fault e) (pairs c.in-Some.found, object, kind, (c.in-Some-2.values, items), (pairs c.in-Some-3.settings, settings), lacks)
 
-pub returns-in_err-elements_of-clause-fault : goal.returns-in_err-elements_of-clause-fault
+pub returns-in_err-read-clause-fault : goal.returns-in_err-read-clause-fault
 unfolding quote
-returns-in_err-elements_of-clause-fault c =
+returns-in_err-read-clause-fault c =
     let value = c.args.value.now in
     let found : c.members.result ≡ Ok c.in-Some.found = c.shaped.ensures.found c.in-Some.found (c.in_ok-found.was ∙ ap Ok c.in-Some.is) in
     let object = is-object value (pairs c.in-Some.found) (IfOk-at_ok _ found c.members.ensures.spelled) (IfOk-at_ok _ found c.members.ensures.kept) in
     let kind = is-scene (pairs c.in-Some.found) (c.if-not-has_value.ensures.0 refl) in
-    let items = some-left c.in_ok-values.field-0 c.in-Some-2.values _ _ c.in-Some-2.is c.in_ok-values.ensures in
-    let settings = some-left c.in_ok-settings.field-0 c.in-Some-3.settings _ _ c.in-Some-3.is c.in_ok-settings.ensures in
-    let entries = some-left c.in_ok-entries.field-0 c.in-Some-4.entries _ _ c.in-Some-4.is c.in_ok-entries.ensures in
-    let p = err_from_is_err_and c.from_residual-in_err-elements_of.result c.from_residual-in_err-elements_of.ensures.1 in
+    let items = MatchOption-at_some _ _ c.in-Some-2.values c.in-Some-2.is c.in_ok-values.ensures in
+    let settings = MatchOption-at_some _ _ c.in-Some-3.settings c.in-Some-3.is c.in_ok-settings.ensures in
+    let entries = MatchOption-at_some _ _ c.in-Some-4.entries c.in-Some-4.is c.in_ok-entries.ensures in
+    let p = err_from_is_err_and c.from_residual-in_err-read.result c.from_residual-in_err-read.ensures.1 in
     rw (p.1, p.2) (λ fault e.
-    let told = c.in_err-elements_of.ensures.fault fault (ap Err (stop-same _ _ _ e)) in
+    let told = c.in_err-read.ensures.fault fault (ap Err (stop-same _ _ _ e)) in
     subst (IsSceneFault value) (sym told.2)
     (pairs c.in-Some.found, object, kind, (c.in-Some-2.values, items, told.3), (pairs c.in-Some-3.settings, settings), (pairs c.in-Some-4.entries, entries)))
 
@@ -76,7 +78,7 @@ returns-clause-scene c =
     let found : c.members.result ≡ Ok c.in-Some.found = c.shaped.ensures.found c.in-Some.found (c.in_ok-found.was ∙ ap Ok c.in-Some.is) in
     let object = is-object value (pairs c.in-Some.found) (IfOk-at_ok _ found c.members.ensures.spelled) (IfOk-at_ok _ found c.members.ensures.kept) in
     let kind = is-scene (pairs c.in-Some.found) (c.if-not-has_value.ensures.0 refl) in
-    let items = some-left c.in_ok-values.field-0 c.in-Some-2.values _ _ c.in-Some-2.is c.in_ok-values.ensures in
+    let items = MatchOption-at_some _ _ c.in-Some-2.values c.in-Some-2.is c.in_ok-values.ensures in
     record {
       members = pairs c.in-Some.found;
       object = object;
@@ -84,7 +86,7 @@ returns-clause-scene c =
       head = c.in_ok-head_of.ensures;
       values = c.in-Some-2.values;
       items = items;
-      elements = c.in_ok-elements_of.field-0.items;
-      read = c.in_ok-elements_of.ensures.read;
-      are_loaded = c.from_vec.ensures ∙ c.in_ok-elements.ensures;
+      elements = c.in_ok-read.read;
+      read = c.in_ok-read.ensures.read;
+      are_loaded = c.from_vec.ensures ∙ (c.in_ok-elements.ensures ∙ ap loaded c.into_vec.ensures);
     }

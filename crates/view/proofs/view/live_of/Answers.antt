@@ -13,12 +13,12 @@ pub loop-i-preserved : goal.loop-i-preserved
 loop-i-preserved c = record {
   made = elim c.match-at.branch [
     | in-Some+then-is_live+in_ok-try_clone+in_ok-push w ↦ rw w.live-is
-        (live_one c.args.store.now c.loop-i.i w.in-Some.e.now w.in-Some.ensures.element c.loop-i.live.items w.push.new.self.items w.in_ok-try_clone.field-0
+        (live_one c.args.store.now.elements c.loop-i.i w.in-Some.e.now w.in-Some.ensures.element c.loop-i.live.items w.push.new.self.items w.in_ok-try_clone.field-0
         (sym w.is_live.ensures ∙ w.if-is_live.true) c.loop-i.invariant.made w.in_ok-try_clone.ensures w.in_ok-push.ensures.items)
     | in-Some+else-is_live w ↦ rw w.live-is
-        (deleted_one c.args.store.now c.loop-i.i w.in-Some.e.now w.in-Some.ensures.element c.loop-i.live.items
+        (deleted_one c.args.store.now.elements c.loop-i.i w.in-Some.e.now w.in-Some.ensures.element c.loop-i.live.items
         (sym w.is_live.ensures ∙ w.if-is_live.false) c.loop-i.invariant.made)
-    | in_default w ↦ absurd (within_stored c.args.store.now c.loop-i.i (omega (arith, c.len-i-end.ensures)) w.in_default.ensures.element)
+    | in_default w ↦ absurd (within_stored c.args.store.now.elements c.loop-i.i (omega (arith, c.len-i-end.ensures)) w.in_default.ensures.element)
   ];
   ordered = λ some. c.at.ensures.ordered;
 }
@@ -32,10 +32,10 @@ rising stored h = elim (cases_lt 0 (length stored)) [
 
 pub returns-clause-exact : goal.returns-clause-exact
 returns-clause-exact c =
-    c.from_vec.ensures ∙ c.loop-i.invariant.made ∙ ap live_elements (take_all c.loop-i.i c.args.store.now (omega (arith, c.len-i-end.ensures)))
+    c.from_vec.ensures ∙ c.loop-i.invariant.made ∙ ap live_elements (take_all c.loop-i.i c.args.store.now.elements (omega (arith, c.len-i-end.ensures)))
 
 pub returns-clause-ordered : goal.returns-clause-ordered
 returns-clause-ordered c =
-    let exact : c.from_vec.result ≡ live_elements c.args.store.now =
-    c.from_vec.ensures ∙ c.loop-i.invariant.made ∙ ap live_elements (take_all c.loop-i.i c.args.store.now (omega (arith, c.len-i-end.ensures))) in
-    rw exact (live_elements-rise c.args.store.now (rising c.args.store.now (λ some. c.loop-i.invariant.ordered (omega (arith, c.len-i-end.ensures)))))
+    let exact : c.from_vec.result ≡ live_elements c.args.store.now.elements =
+    c.from_vec.ensures ∙ c.loop-i.invariant.made ∙ ap live_elements (take_all c.loop-i.i c.args.store.now.elements (omega (arith, c.len-i-end.ensures))) in
+    rw exact (live_elements-rise c.args.store.now.elements (rising c.args.store.now.elements (λ some. c.loop-i.invariant.ordered (omega (arith, c.len-i-end.ensures)))))

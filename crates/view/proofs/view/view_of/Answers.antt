@@ -8,6 +8,6 @@ pub invariant_of-result : goal.invariant_of-result
 invariant_of-result c = record {
   exact = c.in_ok-shown.ensures.exact;
   ordered = c.in_ok-live.ensures.ordered;
-  all_live = rw c.in_ok-live.ensures.exact (live_elements-live c.args.store.now);
+  all_live = rw c.in_ok-live.ensures.exact (live_elements-live c.args.store.now.elements);
   keys = c.in_ok-shown.ensures.keys;
 }

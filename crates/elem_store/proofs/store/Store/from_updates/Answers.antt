@@ -14,6 +14,6 @@ returns c =
     let sorted = c.sort_by.new.self.items in
     let stable : IsStableBy lower c.into_vec-updates.result.items sorted =
     c.in_ok-sort_by.ensures.stable lower (ranks_by nat_list_cmp_total (λ (e : Drawn). e.id)) (answers_always _ _ _ (λ f a r g h. search rules)) in
-    AreStored-sorted c.args.updates sorted c.take_each.new.self
+    AreStored-sorted c.args.updates sorted c.take_each.new.self.elements
     (subst (λ us. IsStableBy lower us sorted) c.into_vec-updates.ensures stable)
     (c.in_ok-take_each.ensures [] (rw c.new-store.ensures (AreStored-itself [] refl)))

@@ -2,6 +2,7 @@
 use Rattle.std.proofs.Common.{sym, ap, ◌∙◌, subst, arith}
 use Rattle.elem.specs.Drawn.{Drawn}
 use Rattle.elem_store.specs.Updates.{is_taken}
+use Rattle.elem_store.specs.Stock.{Stock}
 use Rattle.elem_store.specs.Places.{elements_at, IsAt, IsGapFor}
 use Rattle.elem_store.proofs.StoreLaws.{AreStored-push}
 use Rattle.elem_store.proofs.Edits.{element-gap, is_taken-gap}
@@ -39,14 +40,14 @@ returns-in-Ok-clause-after c =
     (HasTaken-replaced s.elements.items s.places.items c.self.invariant c.args.e c.in-Ok.i c.index.result.now (at (goal.at.returns-in-Ok-clause-after c).In-Ok) c.index.ensures _ c.replace_beaten.ensures.beaten)
 
 pub returns-in-Ok-clause-stored : goal.returns-in-Ok-clause-stored
-returns-in-Ok-clause-stored c updates stored = AreStored-push updates c.args.self.now _ c.args.e stored (returns-in-Ok-clause-after c)
+returns-in-Ok-clause-stored c updates stored = AreStored-push updates c.args.self.now.elements _ c.args.e stored (returns-in-Ok-clause-after c)
 
 pub returns-in-Ok-clause-taken : goal.returns-in-Ok-clause-taken
 returns-in-Ok-clause-taken c =
     let s = c.self.inside in
     c.replace_beaten.ensures.beaten
     ∙ sym (taken-replaced s.elements.items s.places.items c.self.invariant c.args.e c.in-Ok.i c.index.result.now (at (goal.at.returns-in-Ok-clause-taken c).In-Ok) c.index.ensures)
-    ∙ ap (λ xs. is_taken xs c.args.e) c.self.view_is
+    ∙ ap (λ (s : Stock). is_taken s.elements c.args.e) c.self.view_is
 
 pub add-requires : goal.add-requires
 add-requires c =
@@ -67,12 +68,12 @@ returns-in_ok-add-in-Err-clause-after c =
 
 pub returns-in_ok-add-in-Err-clause-stored : goal.returns-in_ok-add-in-Err-clause-stored
 returns-in_ok-add-in-Err-clause-stored c updates stored =
-    AreStored-push updates c.args.self.now _ c.args.e stored (returns-in_ok-add-in-Err-clause-after c)
+    AreStored-push updates c.args.self.now.elements _ c.args.e stored (returns-in_ok-add-in-Err-clause-after c)
 
 pub returns-in_ok-add-in-Err-clause-taken : goal.returns-in_ok-add-in-Err-clause-taken
 returns-in_ok-add-in-Err-clause-taken c =
-    sym (is_taken-gap _ c.args.e c.in-Err.i (gap (goal.at.returns-in_ok-add-in-Err-clause-taken c).In-Err)) ∙ ap (λ xs. is_taken xs c.args.e) c.self.view_is
+    sym (is_taken-gap _ c.args.e c.in-Err.i (gap (goal.at.returns-in_ok-add-in-Err-clause-taken c).In-Err)) ∙ ap (λ (s : Stock). is_taken s.elements c.args.e) c.self.view_is
 
 pub returns-in_err-add-in-Err-clause-known : goal.returns-in_err-add-in-Err-clause-known
 returns-in_err-add-in-Err-clause-known c some =
-    grind (arith, element-gap _ c.args.e.id c.in-Err.i (gap (goal.at.returns-in_err-add-in-Err-clause-known c).In-Err), c.self.view_is)
+    grind (arith, element-gap _ c.args.e.id c.in-Err.i (gap (goal.at.returns-in_err-add-in-Err-clause-known c).In-Err), ap (λ (s : Stock). s.elements) c.self.view_is)

@@ -1,0 +1,5 @@
+pub mod Back
+pub mod Blanks
+pub mod Once
+pub mod Told
+pub mod Written

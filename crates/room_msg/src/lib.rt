@@ -1,0 +1,15 @@
+//! Messages of a room: each is read, or has one first fault, and has its text.
+#![tactic(auto)]
+
+mod fault;
+pub mod laws;
+mod message;
+mod printing;
+mod reading;
+#[cfg(test)]
+mod tests;
+
+pub use fault::MsgFault;
+pub use message::Message;
+pub use printing::message_text;
+pub use reading::read_message;

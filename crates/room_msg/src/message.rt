@@ -1,0 +1,16 @@
+//! A message.
+
+use board_io::List;
+use elem::Element;
+use scene_json::Raw;
+
+/// A message of a room.
+#[derive(Drop)]
+pub enum Message {
+    /// All elements of the room, as one that joins gets them: `SCENE_INIT`.
+    Init(List<Element>),
+    /// Changed elements: `SCENE_UPDATE`.
+    Update(List<Element>),
+    /// A message of any other type, whole: what it says is left to those who get it.
+    Presence(Raw),
+}
