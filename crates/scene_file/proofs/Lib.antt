@@ -2,8 +2,12 @@ pub mod Blanks
 pub mod Forms
 pub mod HeadsTold
 pub mod Joining
+pub mod NamedFiles
 pub mod Nesting
 pub mod Once
 pub mod Ordered
+pub mod ReadBack
 pub mod SceneTexts
+pub mod Sound
 pub mod Values
+pub mod WholeScenes

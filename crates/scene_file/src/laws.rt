@@ -1,9 +1,17 @@
 //! Laws on scenes and heads, for all of them. They do nothing when they run.
 
-ghost use Rattle.std.specs.Prelude.{◌≡◌, ℕ, List, true, drop};
+ghost use Rattle.std.specs.Prelude.{◌≡◌, ℕ, List, ◌++◌, true, drop, All};
 ghost use Rattle.scene_json.specs.Characters.{is_blank};
+ghost use Rattle.elem.specs.Drawn.{Drawn};
+ghost use Rattle.elem_read.specs.Reading.{IsWhole};
+ghost use Rattle.elem_store.specs.Updates.{AreStored};
+ghost use Rattle.view.specs.Shown.{shown};
 ghost use Rattle.scene_file.specs.Heads.{Heading, IsJoinedHead};
 ghost use Rattle.scene_file.specs.Reading.{IsSceneAt, IsFaultAt};
+ghost use Rattle.scene_file.specs.Scenes.{scene_text, state_text};
+ghost use Rattle.scene_file.specs.Texts.{IsSceneText};
+ghost use Rattle.scene_file.specs.Whole.{IsWholeHead, HaveKeys, IsWholeScene, with_named_files};
+ghost use Rattle.scene_file.specs.declared.layout.Layout.{Layout};
 ghost use Rattle.scene_file.specs.declared.scene.Scene.{Scene};
 ghost use Rattle.scene_file.specs.declared.fault.SceneFault.{SceneFault};
 
@@ -28,4 +36,29 @@ pub fn fault_is_unique()
 pub fn joined_head_is_unique()
     ensures { (heads : List Heading) (head other : Heading)
         → IsJoinedHead heads head → IsJoinedHead heads other → head ≡ other }
+{}
+
+/// A scene that is read is whole, and so is what is made of whole scenes: their joined head, what is stored of their
+/// elements, and what is shown of these.
+pub fn scenes_are_whole()
+    ensures read { (bytes : List ℕ) (scene : Scene) (rest : List ℕ) → IsSceneAt bytes scene rest → IsWholeScene scene }
+    ensures joined { (heads : List Heading) (head : Heading)
+        → All IsWholeHead heads → IsJoinedHead heads head → IsWholeHead head }
+    ensures stored { (updates elements : List Drawn)
+        → All IsWhole updates → AreStored updates elements → All IsWhole elements }
+    ensures shown { (live : List Drawn) → All IsWhole live → All IsWhole (shown live) }
+{}
+
+/// The text of a whole scene, in whatever layout and whatever follows it, is read as that scene: with its elements, and
+/// under its head with those of the files that the elements name, which have the same text. The text of all that is stored
+/// is read as that, under its whole head.
+pub fn texts_are_read_back()
+    ensures scene { (layout : Layout) (head : Heading) (elements : List Drawn) (written rest : List ℕ)
+        → IsWholeHead head → All IsWhole elements → HaveKeys elements → IsSceneText layout head elements written
+        → IsSceneAt (written ++ rest) (record { head = with_named_files head elements; elements = elements }) rest }
+    ensures same { (head : Heading) (elements : List Drawn)
+        → scene_text (with_named_files head elements) elements ≡ scene_text head elements }
+    ensures state { (head : Heading) (stored : List Drawn) (rest : List ℕ)
+        → IsWholeHead head → All IsWhole stored → HaveKeys stored
+        → IsSceneAt (state_text head stored ++ rest) (record { head = head; elements = stored }) rest }
 {}
