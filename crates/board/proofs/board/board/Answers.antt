@@ -1,6 +1,8 @@
 use Rattle.std.proofs.Common.{Ok, Err, refl}
 use Rattle.board.specs.Words.{asked}
+use Rattle.board.proofs.Again.{restores-once, restores-merges}
 use Rattle.board.proofs.Answering.{done-answer, text-ends, fault-ends}
+use Rattle.board.proofs.States.{states-stand_for}
 use Rattle.board.proofs.Unique.{merges-converge}
 use Rattle.board.proofs.board.board.Goals as goal
 
@@ -10,6 +12,15 @@ returns-in-Ok-clause-complete_refused g c command bytes why is left answer reads
 
 pub returns-in-Ok-clause-converges : goal.returns-in-Ok-clause-converges
 returns-in-Ok-clause-converges g c = merges-converge
+
+pub returns-in-Ok-clause-restores_once : goal.returns-in-Ok-clause-restores_once
+returns-in-Ok-clause-restores_once g c = restores-once
+
+pub returns-in-Ok-clause-restores_merges : goal.returns-in-Ok-clause-restores_merges
+returns-in-Ok-clause-restores_merges g c = restores-merges
+
+pub returns-in-Ok-clause-states_stand_for : goal.returns-in-Ok-clause-states_stand_for
+returns-in-Ok-clause-states_stand_for g c = states-stand_for
 
 pub returns-in-Err-clause-complete : goal.returns-in-Err-clause-complete
 returns-in-Err-clause-complete g c command bytes text is left answer reads writes =
@@ -23,3 +34,12 @@ returns-in-Err-clause-complete_refused g c command bytes why is left answer read
 
 pub returns-in-Err-clause-converges : goal.returns-in-Err-clause-converges
 returns-in-Err-clause-converges g c = merges-converge
+
+pub returns-in-Err-clause-restores_once : goal.returns-in-Err-clause-restores_once
+returns-in-Err-clause-restores_once g c = restores-once
+
+pub returns-in-Err-clause-restores_merges : goal.returns-in-Err-clause-restores_merges
+returns-in-Err-clause-restores_merges g c = restores-merges
+
+pub returns-in-Err-clause-states_stand_for : goal.returns-in-Err-clause-states_stand_for
+returns-in-Err-clause-states_stand_for g c = states-stand_for
