@@ -1,8 +1,12 @@
+pub mod Again
 pub mod Answering
 pub mod Blanks
 pub mod Existing
+pub mod ById
 pub mod Given
 pub mod Inputs
 pub mod Lines
+pub mod Reread
 pub mod Scenes
+pub mod States
 pub mod Unique

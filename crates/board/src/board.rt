@@ -2,6 +2,7 @@
 
 ghost use Rattle.std.specs.Prelude.{◌≡◌, ◌≢◌, ◌↔◌, ◌⊎◌, ℕ, List, None, IsSome, IfOk, IfErr, OnOk, Result, Ok, Err};
 ghost use Rattle.board_io.specs.Counts.{Rose};
+ghost use Rattle.board.specs.Again.{RestoresOnce, RestoresMerges, StatesStandFor};
 ghost use Rattle.board.specs.Answers.{IsAnswer, Converges};
 ghost use Rattle.board.specs.Causes.{HasCause};
 ghost use Rattle.board.specs.Ends.{EndsWith, GaveWithin, GaveTooMuch, HasLeft, WasDone, WasDoneInPart, WasRefused};
@@ -64,6 +65,11 @@ pub fn board<S: Source, K: Sink, N: Sink, L: Links>(
 
     // Inputs with the same updates, free of clashes, are merged to one text.
     ensures converges { Converges }
+
+    // What was restored or merged is restored as the input itself, and the states of inputs stand for these.
+    ensures restores_once { RestoresOnce }
+    ensures restores_merges { RestoresMerges }
+    ensures states_stand_for { StatesStandFor }
 
     // What stays, and what the notes gain.
     ensures output_kept { result ≢ Status.Done → result ≢ Status.WriteFault → output.new ≡ output.old }

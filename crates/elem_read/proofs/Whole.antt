@@ -185,7 +185,7 @@ truth-no-null : (truth : Bool) (default : List ℕ) → truth_text truth ≡ nul
 truth-no-null true default e = absurd (heads-differ 116 110 _ _ refl e)
 truth-no-null false default e = absurd (heads-differ 102 110 _ _ refl e)
 
-module _ (e : Drawn) (rs : List Pair) (is : IsElement e) (w : IsWritten e) (said : Says (find_in rs) e) (lack : LackNothing rs) where
+module _ (e : Drawn) (rs : List Pair) (is : IsElement e) (w : IsWritten e) (rest : AreOthers (is_header e.kind) (find_in rs) e.rest) (lack : LackNothing rs) where
   own-says : Says (find_in (element_members e)) e
   own-says = element-says e is w
 
@@ -193,7 +193,7 @@ module _ (e : Drawn) (rs : List Pair) (is : IsElement e) (w : IsWritten e) (said
   same-beside : (name : List ℕ) → list_any (bytes_eq name) header_names ≡ false → list_any (bytes_eq name) all_own ≡ false → value_at name (element_members e) ≡ value_at name rs
   same-beside name header own =
       let other = no-header e.kind name header own in
-      sym (own-says.rest.same name other) ∙ said.rest.same name other
+      sym (own-says.rest.same name other) ∙ rest.same name other
 
   beside : (name default : List ℕ) → list_any (bytes_eq name) header_names ≡ false → list_any (bytes_eq name) all_own ≡ false → value_at name defaults ≡ Some default → IsFull (element_members e) (name, default)
   beside name default header own row =
@@ -313,21 +313,41 @@ no-selection Iframe is e = apart-names (codes "iframe") refl e
 no-selection Embeddable is e = apart-names (codes "embeddable") refl e
 no-selection (Other name) is e = false≢true (sym is ∙ ap (λ n. list_any (bytes_eq n) known_names) e)
 
-pub whole : (value : List ℕ) (e : Drawn) → IsElementIn value e → IsWhole e
-whole value e in_ =
+-- An element that a value says has the facts of elements, and its further members are those of members that lack nothing.
+pub record IsSound (e : Drawn) : Type 0 where
+  pub restored : List Pair
+  pub is : IsElement e
+  pub written : IsWritten e
+  pub rest : AreOthers (is_header e.kind) (find_in restored) e.rest
+  pub lack : LackNothing restored
+
+pub IsSound-read : (value : List ℕ) (e : Drawn) → IsElementIn value e → IsSound e
+IsSound-read value e in_ =
     let given : AreMembers 119 in_.members = object-nests 120 value in_.members (lit≤ tt) (lit≤ tt) in_.shallow in_.drawing.object in
-    let is = says-element (find_in in_.restored) e (restored-nest in_.members in_.restored given in_.restores) in_.says in
-    let w = says-written (find_in in_.restored) e (restored-named 119 in_.members in_.restored given in_.restores) in_.says in
-    let are = element-are e is w in
-    let says = element-says e is w in
+    record {
+      restored = in_.restored;
+      is = says-element (find_in in_.restored) e (restored-nest in_.members in_.restored given in_.restores) in_.says;
+      written = says-written (find_in in_.restored) e (restored-named 119 in_.members in_.restored given in_.restores) in_.says;
+      rest = in_.says.rest;
+      lack = restored-lack in_.members in_.restored in_.restores;
+    }
+
+-- and each such element is whole
+pub IsSound-whole : (e : Drawn) → IsSound e → IsWhole e
+IsSound-whole e sound =
+    let are = element-are e sound.is sound.written in
+    let says = element-says e sound.is sound.written in
     record {
       members = element_members e;
       restored = element_members e;
       drawing = record {
         object = record { are = AreMembers-deeper 119 127 (element_members e) (lit≤ tt) are; spelled = refl };
-        kind = λ selection. no-selection e.kind is.kind (text-once _ (kind_name e.kind) (codes "selection") says.kind.0 (literal (codes "selection") refl, selection));
+        kind = λ selection. no-selection e.kind sound.is.kind (text-once _ (kind_name e.kind) (codes "selection") says.kind.0 (literal (codes "selection") refl, selection));
       };
       shallow = object-compact 119 (element_members e) are;
-      restores = restored-itself (element_members e) (element-rise e is) (lacks-nothing e in_.restored is w in_.says (restored-lack in_.members in_.restored in_.restores));
+      restores = restored-itself (element_members e) (element-rise e sound.is) (lacks-nothing e sound.restored sound.is sound.written sound.rest sound.lack);
       says = says;
     }
+
+pub whole : (value : List ℕ) (e : Drawn) → IsElementIn value e → IsWhole e
+whole value e in_ = IsSound-whole e (IsSound-read value e in_)

@@ -26,11 +26,11 @@ is_lesser text other = bytes_less (quote text) (quote other)
 lesser_order : IsStrictWeakOrder is_lesser
 lesser_order = ranks_by nat_list_cmp_total quote
 
-lesser_source-none : (source : Option (List ℕ)) → lesser_source source None ≡ source
+pub lesser_source-none : (source : Option (List ℕ)) → lesser_source source None ≡ source
 lesser_source-none None = refl
 lesser_source-none (Some text) = refl
 
-lesser_source-assoc : (a b c : Option (List ℕ)) → lesser_source a (lesser_source b c) ≡ lesser_source (lesser_source a b) c
+pub lesser_source-assoc : (a b c : Option (List ℕ)) → lesser_source a (lesser_source b c) ≡ lesser_source (lesser_source a b) c
 lesser_source-assoc None b c = refl
 lesser_source-assoc (Some a) None c = refl
 lesser_source-assoc (Some a) (Some b) None = sym (lesser_source-none (lesser_source (Some a) (Some b)))

@@ -4,8 +4,12 @@ pub mod Fitting
 pub mod Forms
 pub mod HeadsTold
 pub mod Joining
+pub mod NamedFiles
 pub mod Nesting
 pub mod Once
 pub mod Ordered
+pub mod ReadBack
 pub mod SceneTexts
+pub mod Sound
 pub mod Values
+pub mod WholeScenes

@@ -13,7 +13,7 @@ use Rattle.scene_json.specs.Characters.{quote}
 use Rattle.scene_json.specs.Compact.{Member as Pair, member_text, array_text, object_text}
 use Rattle.scene_json.specs.Layout.{laid_out}
 use Rattle.scene_json.specs.Members.{pairs, pair_of}
-use Rattle.scene_json.specs.Parts.{names_of}
+use Rattle.scene_json.specs.Parts.{names_of, AreMembers}
 use Rattle.scene_json.specs.Tree.{Tree, IsGood, spelling}
 use Rattle.scene_json.specs.Value.{IsCompact}
 use Rattle.scene_json.specs.declared.text.Member.{Member}
@@ -134,20 +134,24 @@ utf8 s h = IsUtf8-from_ascii s (ascii s h)
 elements-compact : (elements : List Drawn) → All (λ e. IsCompact 120 (element_text e)) elements → IsCompact 121 (array_text (map element_text elements))
 elements-compact elements each = array-compact 120 (map element_text elements) (recursion_from_All (IsCompact 120) _ (All-map (IsCompact 120) element_text elements each))
 
+pub scene-are : (head : Heading) (elements : List Drawn) (files : List Pair) → IsCompact 0 (text_or_null head.source) → All (λ e. IsCompact 120 (element_text e)) elements →
+    IsCompact 127 (object_text (pairs head.app_state)) → IsCompact 127 (object_text files) → AreMembers 127 (scene_members head elements files)
+scene-are head elements files source each settings table = record {
+  named = (utf8 (codes "type") refl, (utf8 (codes "version") refl, (utf8 (codes "source") refl, (utf8 (codes "elements") refl, (utf8 (codes "appState") refl, (utf8 (codes "files") refl, tt))))));
+  valued = (
+    quote-compact 127 (codes "excalidraw") (utf8 (codes "excalidraw") refl),
+    (decimal_nests 127 2 (omega arith), (Value-deeper (omega arith) source, (Value-deeper (omega arith) (elements-compact elements each), (settings, (table, tt))))),
+  );
+  distinct = IsDistinct-from_count nat_list_eq_equiv _ refl;
+}
+
 pub scene-compact : (head : Heading) (elements : List Drawn) (files : List Pair) → IsCompact 0 (text_or_null head.source) → All (λ e. IsCompact 120 (element_text e)) elements →
     IsCompact 127 (object_text (pairs head.app_state)) → IsCompact 127 (object_text files) → IsCompact 128 (object_text (scene_members head elements files))
 scene-compact head elements files source each settings table =
-    object-compact 127 (scene_members head elements files) (record {
-      named = (utf8 (codes "type") refl, (utf8 (codes "version") refl, (utf8 (codes "source") refl, (utf8 (codes "elements") refl, (utf8 (codes "appState") refl, (utf8 (codes "files") refl, tt))))));
-      valued = (
-        quote-compact 127 (codes "excalidraw") (utf8 (codes "excalidraw") refl),
-        (decimal_nests 127 2 (omega arith), (Value-deeper (omega arith) source, (Value-deeper (omega arith) (elements-compact elements each), (settings, (table, tt))))),
-      );
-      distinct = IsDistinct-from_count nat_list_eq_equiv _ refl;
-    })
+    object-compact 127 (scene_members head elements files) (scene-are head elements files source each settings table)
 
 -- ---- the text is written in one way
-trees-once : (t u : Tree) → IsGood t → IsGood u → spelling t ≡ spelling u → t ≡ u
+pub trees-once : (t u : Tree) → IsGood t → IsGood u → spelling t ≡ spelling u → t ≡ u
 trees-once t u good fine e = (tree-once t u [] [] good fine tt tt (append-nil (spelling t) ∙ e ∙ sym (append-nil (spelling u)))).0
 
 written-once : (layout : Layout) (text a b : List ℕ) → IsWritten layout text a → IsWritten layout text b → a ≡ b

@@ -5,3 +5,4 @@ pub mod Printing
 pub mod Reading
 pub mod Scenes
 pub mod Texts
+pub mod Whole

@@ -1,15 +1,17 @@
 //! Laws on scenes and heads, for all of them. They do nothing when they run.
 
-ghost use Rattle.std.specs.Prelude.{◌≡◌, ◌⊎◌, ◌<◌, ◌≤◌, ℕ, List, All, true, drop, flat_map, length, map};
+ghost use Rattle.std.specs.Prelude.{◌≡◌, ◌⊎◌, ◌<◌, ◌≤◌, ℕ, List, ◌++◌, All, true, drop, flat_map, length, map};
 ghost use Rattle.scene_json.specs.Characters.{is_blank};
 ghost use Rattle.scene_json.specs.Value.{IsCompact};
 ghost use Rattle.elem.specs.Drawn.{Drawn};
+ghost use Rattle.elem_read.specs.Reading.{IsWhole};
 ghost use Rattle.elem_store.specs.Updates.{AreStored};
 ghost use Rattle.view.specs.Shown.{live_elements, shown};
 ghost use Rattle.scene_file.specs.Heads.{Heading, IsJoinedHead};
 ghost use Rattle.scene_file.specs.Reading.{IsSceneOf, IsSceneAt, IsFaultAt};
-ghost use Rattle.scene_file.specs.Scenes.{scene_text};
+ghost use Rattle.scene_file.specs.Scenes.{scene_text, state_text};
 ghost use Rattle.scene_file.specs.Texts.{IsSceneText};
+ghost use Rattle.scene_file.specs.Whole.{IsWholeHead, HaveKeys, IsWholeScene, with_named_files};
 ghost use Rattle.scene_file.specs.declared.layout.Layout.{Layout};
 ghost use Rattle.scene_file.specs.declared.scene.Scene.{Scene};
 ghost use Rattle.scene_file.specs.declared.fault.SceneFault.{SceneFault};
@@ -60,4 +62,29 @@ pub fn shown_scene_is_written()
         → IsCompact 128 (scene_text head (shown (live_elements stored))) }
     ensures written { (layout : Layout) (head : Heading) (elements : List Drawn)
         → IsCompact 128 (scene_text head elements) → (written : List ℕ) × IsSceneText layout head elements written }
+{}
+
+/// A scene that is read is whole, and so is what is made of whole scenes: their joined head, what is stored of their
+/// elements, and what is shown of these.
+pub fn scenes_are_whole()
+    ensures read { (bytes : List ℕ) (scene : Scene) (rest : List ℕ) → IsSceneAt bytes scene rest → IsWholeScene scene }
+    ensures joined { (heads : List Heading) (head : Heading)
+        → All IsWholeHead heads → IsJoinedHead heads head → IsWholeHead head }
+    ensures stored { (updates elements : List Drawn)
+        → All IsWhole updates → AreStored updates elements → All IsWhole elements }
+    ensures shown { (live : List Drawn) → All IsWhole live → All IsWhole (shown live) }
+{}
+
+/// The text of a whole scene, in whatever layout and whatever follows it, is read as that scene: with its elements, and
+/// under its head with those of the files that the elements name, which have the same text. The text of all that is stored
+/// is read as that, under its whole head.
+pub fn texts_are_read_back()
+    ensures scene { (layout : Layout) (head : Heading) (elements : List Drawn) (written rest : List ℕ)
+        → IsWholeHead head → All IsWhole elements → HaveKeys elements → IsSceneText layout head elements written
+        → IsSceneAt (written ++ rest) (record { head = with_named_files head elements; elements = elements }) rest }
+    ensures same { (head : Heading) (elements : List Drawn)
+        → scene_text (with_named_files head elements) elements ≡ scene_text head elements }
+    ensures state { (head : Heading) (stored : List Drawn) (rest : List ℕ)
+        → IsWholeHead head → All IsWhole stored → HaveKeys stored
+        → IsSceneAt (state_text head stored ++ rest) (record { head = head; elements = stored }) rest }
 {}

@@ -10,9 +10,11 @@ use Rattle.board.specs.declared.status.Fault.{Fault}
 use Rattle.board.specs.declared.status.Status.{Status}
 use Rattle.board.specs.declared.status.Status.TheVariants as status
 use Rattle.board.specs.declared.words.Command.{Command}
+use Rattle.board.proofs.Again.{restores-once, restores-merges}
 use Rattle.board.proofs.Answering.{not-done, text-ends, fault-ends}
 use Rattle.board.proofs.Existing.{answer-exists}
 use Rattle.board.proofs.Given.{read-whole}
+use Rattle.board.proofs.States.{states-stand_for}
 use Rattle.board.proofs.Unique.{merges-converge}
 use Rattle.board.proofs.board.board.Goals as goal
 
@@ -49,6 +51,15 @@ returns-in-Ok-clause-complete g c command bytes is left reads writes =
 pub returns-in-Ok-clause-converges : goal.returns-in-Ok-clause-converges
 returns-in-Ok-clause-converges g c = merges-converge
 
+pub returns-in-Ok-clause-restores_once : goal.returns-in-Ok-clause-restores_once
+returns-in-Ok-clause-restores_once g c = restores-once
+
+pub returns-in-Ok-clause-restores_merges : goal.returns-in-Ok-clause-restores_merges
+returns-in-Ok-clause-restores_merges g c = restores-merges
+
+pub returns-in-Ok-clause-states_stand_for : goal.returns-in-Ok-clause-states_stand_for
+returns-in-Ok-clause-states_stand_for g c = states-stand_for
+
 pub returns-in-Err-clause-complete : goal.returns-in-Err-clause-complete
 returns-in-Err-clause-complete g c command bytes is left reads writes =
     let ends = c.noted.ensures in
@@ -56,3 +67,12 @@ returns-in-Err-clause-complete g c command bytes is left reads writes =
 
 pub returns-in-Err-clause-converges : goal.returns-in-Err-clause-converges
 returns-in-Err-clause-converges g c = merges-converge
+
+pub returns-in-Err-clause-restores_once : goal.returns-in-Err-clause-restores_once
+returns-in-Err-clause-restores_once g c = restores-once
+
+pub returns-in-Err-clause-restores_merges : goal.returns-in-Err-clause-restores_merges
+returns-in-Err-clause-restores_merges g c = restores-merges
+
+pub returns-in-Err-clause-states_stand_for : goal.returns-in-Err-clause-states_stand_for
+returns-in-Err-clause-states_stand_for g c = states-stand_for

@@ -1,0 +1,264 @@
+-- Elements that are read stay whole: with the keys that they are loaded with, as they are stored, and as they are shown.
+use Rattle.std.proofs.Common.{◌≡◌, ◌⊎◌, ℕ, List, [], ◌∷◌, ◌++◌, Bool, true, false, cond, not, Option, Some, None, IfSome, is_some, All, Contains, find, filter, map, refl, sym, ap, subst, inl, inr, IsUtf8}
+use Rattle.std.specs.List.{AllByRecursion, list_all}
+use Rattle.std.specs.Option.{option_or, option_map}
+use Rattle.std.proofs.lemmas.Bool.{cond_both, and_parts, and_from}
+use Rattle.std.proofs.lemmas.List.Elements.{All-from_recursion, recursion_from_All, All-nil, All-cons, All-head, All-tail, All-append, All-weaker, All-map, All-filter, All-contains, All-contains_itself}
+use Rattle.std.proofs.lemmas.List.Sorted.{All-permutation}
+use Rattle.frac_keys.specs.Keys.{is_key}
+use Rattle.index_repair.specs.Repair.{repaired, is_key_or_none}
+use Rattle.index_repair.proofs.RepairLaws.{repaired-law}
+use Rattle.first_texts.specs.FirstOccurrences as texts
+use Rattle.elem.specs.declared.parts.BoundRef.{BoundRef}
+use Rattle.elem.specs.declared.parts.Binding.{Binding}
+use Rattle.elem.specs.Drawn.{Drawn}
+use Rattle.elem_read.proofs.Whole.{IsSound}
+use Rattle.elem_store.specs.Updates.{AreStored}
+use Rattle.elem_store.proofs.BestUpdates.{IsBestOf-stored}
+use Rattle.elem_store.proofs.StoreLaws.{AreStored-stored}
+use Rattle.links.specs.Arrows.{names_target, is_true_entry, arrow_entries, text_entries, listing, with_settled_links, settled_arrows}
+use Rattle.links.specs.Arrows as arrows
+use Rattle.links.specs.Entries.{same_entry, arrow_entry, text_entry, first_occurrences}
+use Rattle.links.specs.Names.{id_of, names_container, target_of, can_hold_text}
+use Rattle.links.specs.Settled.{settled_links}
+use Rattle.links.specs.Texts.{is_text_entry, listed_text, first_text, text_of, keeps_container, with_settled_container, settled_texts}
+use Rattle.frames_groups.specs.Frames.{has_frame, keeps_frame, without_frame, framed, frames_settled}
+use Rattle.frames_groups.specs.Groups.{grouped, groups_settled}
+use Rattle.view.specs.Settled.{settled}
+use Rattle.view.specs.Shown.{in_scene_order, index_of, with_index, keyed, placed, shown, HaveRisingKeys}
+use Rattle.view.proofs.SceneOrder.{IsPermutation-in_scene_order}
+use Rattle.scene_file.specs.Reading.{loaded}
+use Rattle.scene_file.specs.Whole.{HaveKeys}
+
+-- ---- an element with other parts
+-- a part that is as it was, or gone
+abbrev Stays : {A : Type 0} → Option A → Option A → Type 0
+Stays new old = (new ≡ old) ⊎ (new ≡ None)
+
+stays-holds : {A : Type 0} (P : A → Type 0) (new old : Option A) → Stays new old → IfSome old P → IfSome new P
+stays-holds P new old (inl same) is = subst (λ o. IfSome o P) (sym same) is
+stays-holds P new old (inr gone) is = subst (λ o. IfSome o P) (sym gone) tt
+
+stays-if : {A : Type 0} (keeps : Bool) (old : Option A) → Stays (cond keeps old None) old
+stays-if true old = inl refl
+stays-if false old = inr refl
+
+abbrev IsListed : BoundRef → Type 0
+IsListed entry = IsUtf8 entry.id
+
+abbrev with_parts : Drawn → Option (List ℕ) → List (List ℕ) → Option (List ℕ) → List BoundRef → Option (List ℕ) → Option Binding → Option Binding → Drawn
+with_parts e index groups frame bound container start final = record e {
+  index = index;
+  groups = groups;
+  frame = frame;
+  bound = bound;
+  container = container;
+  start_binding = start;
+  end_binding = final;
+}
+
+sound-with : (e : Drawn) (index : Option (List ℕ)) (groups : List (List ℕ)) (frame : Option (List ℕ)) (bound : List BoundRef) (container : Option (List ℕ)) (start final : Option Binding)
+    → IsSound e → IfSome index (λ key. is_key key ≡ true) → AllByRecursion IsUtf8 groups → IfSome frame IsUtf8 → AllByRecursion IsListed bound
+    → Stays container e.container → Stays start e.start_binding → Stays final e.end_binding → IsSound (with_parts e index groups frame bound container start final)
+sound-with e index groups frame bound container start final sound key texts name entries holder first last = record {
+  restored = sound.restored;
+  is = record {
+    named = sound.is.named;
+    version = sound.is.version;
+    nonce = sound.is.nonce;
+    updated = sound.is.updated;
+    kind = sound.is.kind;
+    container = stays-holds _ container e.container holder sound.is.container;
+    start_binding = stays-holds _ start e.start_binding first sound.is.start_binding;
+    end_binding = stays-holds _ final e.end_binding last sound.is.end_binding;
+    file = sound.is.file;
+    rise = sound.is.rise;
+    free = sound.is.free;
+    nest = sound.is.nest;
+  };
+  written = record {
+    id = sound.written.id;
+    kind = sound.written.kind;
+    index = key;
+    groups = texts;
+    frame = name;
+    bound = entries;
+    container = stays-holds _ container e.container holder sound.written.container;
+    start_binding = stays-holds _ start e.start_binding first sound.written.start_binding;
+    end_binding = stays-holds _ final e.end_binding last sound.written.end_binding;
+    file = sound.written.file;
+    rest = sound.written.rest;
+  };
+  rest = sound.rest;
+  lack = sound.lack;
+}
+
+-- ---- elements with new keys
+abbrev pub AreSound : List Drawn → Type 0
+AreSound elements = All IsSound elements
+
+sound-key : (e : Drawn) (key : List ℕ) → IsSound e → is_key key ≡ true → IsSound (with_index e key)
+sound-key e key sound is =
+    sound-with e (Some key) e.groups e.frame e.bound e.container e.start_binding e.end_binding sound is sound.written.groups sound.written.frame sound.written.bound (inl refl) (inl refl) (inl refl)
+
+keyed-sound : (elements : List Drawn) (keys : List (List ℕ)) → list_all is_key keys ≡ true → AreSound elements → AreSound (keyed elements keys)
+keyed-sound [] keys are sound = All-nil IsSound
+keyed-sound (e ∷ elements) [] are sound = All-nil IsSound
+keyed-sound (e ∷ elements) (key ∷ keys) are sound =
+    let parts = and_parts (is_key key) (list_all is_key keys) are in
+    All-cons IsSound (with_index e key) (keyed elements keys) (sound-key e key (All-head IsSound e elements sound) parts.0) (keyed-sound elements keys parts.1 (All-tail IsSound e elements sound))
+
+pub keys-or-none : (elements : List Drawn) → AreSound elements → list_all is_key_or_none (map index_of elements) ≡ true
+keys-or-none [] sound = refl
+keys-or-none (e ∷ elements) sound =
+    and_from (is_key_or_none e.index) (list_all is_key_or_none (map index_of elements)) (own e.index (All-head IsSound e elements sound).written.index)
+    (keys-or-none elements (All-tail IsSound e elements sound))
+  where
+    own : (index : Option (List ℕ)) → IfSome index (λ key. is_key key ≡ true) → is_key_or_none index ≡ true
+    own None is = refl
+    own (Some key) is = is
+
+repaired-sound : (elements : List Drawn) → AreSound elements → AreSound (keyed elements (repaired (map index_of elements)))
+repaired-sound elements sound =
+    keyed-sound elements (repaired (map index_of elements)) (repaired-law (map index_of elements) (keys-or-none elements sound)).are_keys sound
+
+pub loaded-sound : (elements : List Drawn) → AreSound elements → AreSound (loaded elements)
+loaded-sound elements sound =
+    cond_both (list_all (λ (e : Drawn). is_some e.index) elements) elements (keyed elements (repaired (map index_of elements))) AreSound (λ _. sound) (λ _. repaired-sound elements sound)
+
+keyed-keys : (elements : List Drawn) (keys : List (List ℕ)) → HaveKeys (keyed elements keys)
+keyed-keys [] keys = refl
+keyed-keys (e ∷ elements) [] = refl
+keyed-keys (e ∷ elements) (key ∷ keys) = keyed-keys elements keys
+
+pub loaded-keys : (elements : List Drawn) → HaveKeys (loaded elements)
+loaded-keys elements =
+    cond_both (list_all (λ (e : Drawn). is_some e.index) elements) elements (keyed elements (repaired (map index_of elements))) HaveKeys (λ have. have)
+    (λ _. keyed-keys elements (repaired (map index_of elements)))
+
+placed-sound : (live : List Drawn) → AreSound live → AreSound (placed live)
+unfolding placed
+placed-sound live sound = repaired-sound (in_scene_order live) (All-permutation IsSound live (in_scene_order live) (IsPermutation-in_scene_order live) sound)
+
+-- ---- what is stored
+module _ (P : Drawn → Type 0) (updates elements : List Drawn) (are : AreStored updates elements) where
+  stored-taken : (e : Drawn) → Contains elements e → Contains updates e
+  stored-taken e c = (IsBestOf-stored updates e.id e (AreStored-stored updates elements e are c)).taken
+
+  -- what holds of all updates holds of what is stored of them
+  pub stored-all : All P updates → All P elements
+  stored-all all = All-weaker (Contains elements) P (λ e c. All-contains P updates e all (stored-taken e c)) elements (All-contains_itself elements)
+
+-- ---- settled links
+map-all : {X Y : Type 0} (P : X → Type 0) (Q : Y → Type 0) (f : X → Y) (xs : List X) → ((x : X) → P x → Q (f x)) → All P xs → All Q (map f xs)
+map-all P Q f xs each all = All-map Q f xs (All-weaker P (λ x. Q (f x)) each xs all)
+
+find-all : {X : Type 0} (P : X → Type 0) (test : X → Bool) (xs : List X) → All P xs → IfSome (find test xs) P
+find-all P test [] all = tt
+find-all P test (x ∷ xs) all = cond_both (test x) (Some x) (find test xs) (λ o. IfSome o P) (λ _. All-head P x xs all) (λ _. find-all P test xs (All-tail P x xs all))
+
+map-holds : {X Y : Type 0} (P : X → Type 0) (Q : Y → Type 0) (f : X → Y) (o : Option X) → ((x : X) → P x → Q (f x)) → IfSome o P → IfSome (option_map f o) Q
+map-holds P Q f None each is = tt
+map-holds P Q f (Some x) each is = each x is
+
+or-holds : {X : Type 0} (P : X → Type 0) (o p : Option X) → IfSome o P → IfSome p P → IfSome (option_or o p) P
+or-holds P None p first second = second
+or-holds P (Some x) p first second = first
+
+abbrev AreListed : List BoundRef → Type 0
+AreListed entries = All IsListed entries
+
+first-listed : (entries : List BoundRef) → AreListed entries → AreListed (first_occurrences entries)
+first-listed [] all = all
+first-listed (entry ∷ entries) all =
+    let rest = first_occurrences entries in
+    All-cons IsListed entry (filter (λ other. not (same_entry entry other)) rest) (All-head IsListed entry entries all)
+    (All-filter (λ other. not (same_entry entry other)) IsListed rest (first-listed entries (All-tail IsListed entry entries all)))
+
+text-written : (list : List Drawn) (e : Drawn) → AreSound list → IsSound e → IfSome (text_of list e) IsUtf8
+unfolding text_of
+text-written list e sounds sound =
+    cond_both (can_hold_text e.kind) (option_or (listed_text list e) (first_text list e)) None (λ o. IfSome o IsUtf8)
+    (λ _. or-holds IsUtf8 (listed_text list e) (first_text list e)
+    (map-holds IsListed IsUtf8 (λ (entry : BoundRef). entry.id) (find (is_text_entry list e) e.bound) (λ entry is. is)
+    (find-all IsListed (is_text_entry list e) e.bound (All-from_recursion IsListed e.bound sound.written.bound)))
+    (map-holds IsSound IsUtf8 id_of (find (names_container e.id) list) (λ (text : Drawn) (is : IsSound text). is.written.id) (find-all IsSound (names_container e.id) list sounds)))
+    (λ _. tt)
+
+text-listed : (text : Option (List ℕ)) → IfSome text IsUtf8 → AreListed (text_entries text)
+text-listed None is = All-nil IsListed
+text-listed (Some id) is = All-cons IsListed (text_entry id) [] is (All-nil IsListed)
+
+listing-written : (list : List Drawn) (e : Drawn) → AreSound list → IsSound e → AllByRecursion IsListed (listing list e)
+unfolding listing
+listing-written list e sounds sound =
+    let own = filter (is_true_entry list e) e.bound in
+    let entries = arrow_entries list e in
+    let texts = text_entries (text_of list e) in
+    recursion_from_All IsListed (first_occurrences (own ++ (entries ++ texts)))
+    (first-listed (own ++ (entries ++ texts))
+    (All-append IsListed own (entries ++ texts) (All-filter (is_true_entry list e) IsListed e.bound (All-from_recursion IsListed e.bound sound.written.bound))
+    (All-append IsListed entries texts
+    (map-all IsSound IsListed (λ (arrow : Drawn). arrow_entry arrow.id) (filter (arrows.is_bound_to e) list) (λ (arrow : Drawn) (is : IsSound arrow). is.written.id)
+    (All-filter (arrows.is_bound_to e) IsSound list sounds))
+    (text-listed (text_of list e) (text-written list e sounds sound)))))
+
+texts-sound : (list : List Drawn) → AreSound list → AreSound (settled_texts list)
+texts-sound list sounds = map-all IsSound IsSound (with_settled_container list) list each sounds
+  where
+    each : (e : Drawn) → IsSound e → IsSound (with_settled_container list e)
+    each e sound =
+        sound-with e e.index e.groups e.frame e.bound (cond (keeps_container list e) e.container None) e.start_binding e.end_binding
+        sound sound.written.index sound.written.groups sound.written.frame sound.written.bound (stays-if (keeps_container list e) e.container) (inl refl) (inl refl)
+
+arrows-sound : (list : List Drawn) → AreSound list → AreSound (settled_arrows list)
+arrows-sound list sounds = map-all IsSound IsSound (with_settled_links list) list each sounds
+  where
+    each : (e : Drawn) → IsSound e → IsSound (with_settled_links list e)
+    each e sound =
+        sound-with e e.index e.groups e.frame (listing list e) e.container (arrows.settled_end list e.start_binding) (arrows.settled_end list e.end_binding)
+        sound sound.written.index sound.written.groups sound.written.frame (listing-written list e sounds sound) (inl refl)
+        (stays-if (names_target list (target_of e.start_binding)) e.start_binding) (stays-if (names_target list (target_of e.end_binding)) e.end_binding)
+
+-- ---- settled frames and groups
+frames-sound : (list : List Drawn) → AreSound list → AreSound (frames_settled list)
+frames-sound list sounds = map-all IsSound IsSound (framed (has_frame list)) list each sounds
+  where
+    each : (e : Drawn) → IsSound e → IsSound (framed (has_frame list) e)
+    each e sound =
+        cond_both (keeps_frame (has_frame list) e) e (without_frame e) IsSound (λ _. sound)
+        (λ _. sound-with e e.index e.groups None e.bound e.container e.start_binding e.end_binding sound sound.written.index sound.written.groups tt sound.written.bound (inl refl) (inl refl) (inl refl))
+
+first-texts : (groups : List (List ℕ)) → All IsUtf8 groups → All IsUtf8 (texts.first_occurrences groups)
+first-texts [] all = all
+first-texts (text ∷ groups) all =
+    let rest = texts.first_occurrences groups in
+    All-cons IsUtf8 text (filter (texts.is_other text) rest) (All-head IsUtf8 text groups all)
+    (All-filter (texts.is_other text) IsUtf8 rest (first-texts groups (All-tail IsUtf8 text groups all)))
+
+groups-sound : (list : List Drawn) → AreSound list → AreSound (groups_settled list)
+groups-sound list sounds = map-all IsSound IsSound grouped list each sounds
+  where
+    each : (e : Drawn) → IsSound e → IsSound (grouped e)
+    each e sound =
+        let groups = texts.first_occurrences e.groups in
+        sound-with e e.index groups e.frame e.bound e.container e.start_binding e.end_binding sound sound.written.index
+        (recursion_from_All IsUtf8 groups (first-texts e.groups (All-from_recursion IsUtf8 e.groups sound.written.groups))) sound.written.frame sound.written.bound
+        (inl refl) (inl refl) (inl refl)
+
+pub shown-sound : (live : List Drawn) → AreSound live → AreSound (shown live)
+unfolding shown settled
+shown-sound live sounds =
+    let there = placed live in
+    groups-sound (frames_settled (settled_links there)) (frames-sound (settled_links there) (arrows-sound (settled_texts there) (texts-sound there (placed-sound live sounds))))
+
+-- keys that rise are there
+some-keys : (elements : List Drawn) (keys : List (List ℕ)) → map index_of elements ≡ map Some keys → HaveKeys elements
+some-keys [] keys same = refl
+some-keys (e ∷ elements) [] same = cc
+some-keys (e ∷ elements) (key ∷ keys) same =
+    let first : e.index ≡ Some key = cc in
+    and_from (is_some e.index) (list_all (λ (f : Drawn). is_some f.index) elements) (ap is_some first) (some-keys elements keys (cc))
+
+pub rising-keys : (elements : List Drawn) → HaveRisingKeys elements → HaveKeys elements
+rising-keys elements rise = some-keys elements rise.keys rise.each
