@@ -6,7 +6,7 @@ use Rattle.std.proofs.lemmas.Slice.Eq.{bytes_eq-Decides}
 use Rattle.frac_keys.specs.Digits.{is_digit}
 use Rattle.frac_keys.specs.Keys.{digit_count, integer_part, fraction, ends_in_zero, smallest_integer, is_key, bytes_less}
 use Rattle.frac_keys.specs.Between.{midpoint_above, midpoint, increment, decrement, key_above, key_below, key_inside, key_between}
-use Rattle.frac_keys.specs.Rising.{ends_rise, is_end, lies_between}
+use Rattle.frac_keys.specs.Rising.{ends_rise, is_key_or_none, lies_between}
 use Rattle.frac_keys.proofs.OrderLaws.{IsLess, IsLess-from, bytes_less-from, bytes_less_itself, IsLess-append, IsLess-cancel, IsLess-up, IsLess-down, Part, Up, Down, ended}
 use Rattle.frac_keys.proofs.MidpointLaws.{IsPositive, last, IsPositive-from, not_below_nil, midpoint_above-law, midpoint-law}
 use Rattle.frac_keys.proofs.IntegerLaws.{IsInteger, integer, increment-law, increment-other, decrement-law, decrement-none, IsInteger-part}
@@ -156,7 +156,7 @@ first : is_key (codes "a0") ≡ true
 unfolding is_key digit_count
 first = refl
 
-pub key_between-law : (a b : Option (List ℕ)) → is_end a ≡ true → is_end b ≡ true → ends_rise a b ≡ true → IsBetween a b (key_between a b)
+pub key_between-law : (a b : Option (List ℕ)) → is_key_or_none a ≡ true → is_key_or_none b ≡ true → ends_rise a b ≡ true → IsBetween a b (key_between a b)
 key_between-law None None h l e = record { key = first; above = refl; below = refl }
 key_between-law None (Some b) h l e = let k = key_below-law (IsKey-from b l) in record { key = k.key; above = refl; below = bytes_less-from k.below }
 key_between-law (Some a) None h l e = let k = key_above-law (IsKey-from a h) in record { key = k.key; above = bytes_less-from k.above; below = refl }
@@ -165,7 +165,7 @@ key_between-law (Some a) (Some b) h l e =
     record { key = k.key; above = bytes_less-from k.above; below = bytes_less-from k.below }
 
 -- the same of a list that is known to be that key
-pub key_between_is : (a b : Option (List ℕ)) → is_end a ≡ true → is_end b ≡ true → ends_rise a b ≡ true → (k : List ℕ) → k ≡ key_between a b → (is_key k ≡ true) × (lies_between a b k ≡ true)
+pub key_between_is : (a b : Option (List ℕ)) → is_key_or_none a ≡ true → is_key_or_none b ≡ true → ends_rise a b ≡ true → (k : List ℕ) → k ≡ key_between a b → (is_key k ≡ true) × (lies_between a b k ≡ true)
 key_between_is a b h l e k is =
     let law = key_between-law a b h l e in
     subst (λ k. (is_key k ≡ true) × (lies_between a b k ≡ true)) (sym is) (law.key, and_from (ends_rise a (Some (key_between a b))) (ends_rise (Some (key_between a b)) b) law.above law.below)

@@ -5,7 +5,7 @@ use Rattle.std.proofs.lemmas.Bool.{cond_both, and_from, and_parts, eqb-true, eqb
 use Rattle.std.proofs.lemmas.List.Folds.{list_all-append}
 use Rattle.frac_keys.specs.Keys.{is_key}
 use Rattle.frac_keys.specs.Between.{key_between, keys_above, keys_below, keys_inside, keys_between}
-use Rattle.frac_keys.specs.Rising.{ends_rise, is_end, lies_between, rise_between}
+use Rattle.frac_keys.specs.Rising.{ends_rise, is_key_or_none, lies_between, rise_between}
 use Rattle.frac_keys.proofs.OrderLaws.{IsLess-from, bytes_less-from, IsLess-trans}
 use Rattle.frac_keys.proofs.BetweenLaws.{key_between-law}
 
@@ -67,21 +67,21 @@ open_above : (a : Option (List ℕ)) → ends_rise a None ≡ true
 open_above None = refl
 open_above (Some a) = refl
 
-keys_above-law : (a : Option (List ℕ)) (n : ℕ) → is_end a ≡ true → AreBetween a None n (keys_above a n)
+keys_above-law : (a : Option (List ℕ)) (n : ℕ) → is_key_or_none a ≡ true → AreBetween a None n (keys_above a n)
 unfolding keys_above
 keys_above-law a zero h = none a None (open_above a)
 keys_above-law a (suc n) h =
     let k = key_between-law a None h refl (open_above a) in
     joined {xs = []} (suc n) (omega arith) k.key (none a (Some (key_between a None)) k.above) (keys_above-law (Some (key_between a None)) n k.key)
 
-keys_below-law : (b : Option (List ℕ)) (n : ℕ) → is_end b ≡ true → AreBetween None b n (keys_below b n)
+keys_below-law : (b : Option (List ℕ)) (n : ℕ) → is_key_or_none b ≡ true → AreBetween None b n (keys_below b n)
 unfolding keys_below
 keys_below-law b zero h = none None b refl
 keys_below-law b (suc n) h =
     let k = key_between-law None b refl h refl in
     joined {ys = []} (suc n) (omega arith) k.key (keys_below-law (Some (key_between None b)) n k.key) (none (Some (key_between None b)) b k.below)
 
-keys_inside-law : (depth : ℕ) (a b : Option (List ℕ)) (n : ℕ) → n ≤ depth → is_end a ≡ true → is_end b ≡ true → ends_rise a b ≡ true → AreBetween a b n (keys_inside depth a b n)
+keys_inside-law : (depth : ℕ) (a b : Option (List ℕ)) (n : ℕ) → n ≤ depth → is_key_or_none a ≡ true → is_key_or_none b ≡ true → ends_rise a b ≡ true → AreBetween a b n (keys_inside depth a b n)
 unfolding keys_inside
 keys_inside-law zero a b n most h l e = let none_left : 0 ≡ n = omega arith in subst (λ m. AreBetween a b m []) none_left (none a b e)
 keys_inside-law (suc depth) a b n most h l e =
@@ -96,11 +96,11 @@ keys_inside-law (suc depth) a b n most h l e =
     (keys_inside-law depth a c (n / 2) (omega arith) h k.key k.above)
     (keys_inside-law depth c b upper (omega arith) k.key l k.below))
 
-pub keys_between-law : (a b : Option (List ℕ)) (n : ℕ) → is_end a ≡ true → is_end b ≡ true → ends_rise a b ≡ true → AreBetween a b n (keys_between a b n)
+pub keys_between-law : (a b : Option (List ℕ)) (n : ℕ) → is_key_or_none a ≡ true → is_key_or_none b ≡ true → ends_rise a b ≡ true → AreBetween a b n (keys_between a b n)
 keys_between-law a None n h l e = keys_above-law a n h
 keys_between-law None (Some b) n h l e = keys_below-law (Some b) n l
 keys_between-law (Some a) (Some b) n h l e = keys_inside-law n (Some a) (Some b) n (le_refl n) h l e
 
 -- the same of lists that are known to be those keys
-pub keys_between_are : (a b : Option (List ℕ)) (n : ℕ) → is_end a ≡ true → is_end b ≡ true → ends_rise a b ≡ true → (keys : List (List ℕ)) → keys ≡ keys_between a b n → AreBetween a b n keys
+pub keys_between_are : (a b : Option (List ℕ)) (n : ℕ) → is_key_or_none a ≡ true → is_key_or_none b ≡ true → ends_rise a b ≡ true → (keys : List (List ℕ)) → keys ≡ keys_between a b n → AreBetween a b n keys
 keys_between_are a b n h l e keys are = subst (AreBetween a b n) (sym are) (keys_between-law a b n h l e)

@@ -8,10 +8,10 @@ ends_rise (Some a) (Some b) = bytes_less a b
 ends_rise None b = true
 ends_rise (Some a) None = true
 
--- Whether an end, where it is given, is a key.
-abbrev pub is_end : Option (List ℕ) → Bool
-is_end None = true
-is_end (Some key) = is_key key
+-- Whether a key that may be missing is one where it is there.
+abbrev pub is_key_or_none : Option (List ℕ) → Bool
+is_key_or_none None = true
+is_key_or_none (Some key) = is_key key
 
 -- The last of the keys, or the end that they begin from where there is none.
 abbrev pub last_or : Option (List ℕ) → List (List ℕ) → Option (List ℕ)

@@ -5,7 +5,7 @@ ghost use Rattle.std.specs.List.{list_all};
 ghost use Rattle.frac_keys.specs.Digits.{is_digit};
 ghost use Rattle.frac_keys.specs.Keys.{is_key, bytes_less};
 ghost use Rattle.frac_keys.specs.Between.{midpoint, midpoint_above, key_above, key_below, key_inside, key_between};
-ghost use Rattle.frac_keys.specs.Rising.{ends_rise, is_end, lies_between};
+ghost use Rattle.frac_keys.specs.Rising.{ends_rise, is_key_or_none, lies_between};
 
 use crate::integers::{decrement, increment};
 use crate::key::Key;
@@ -28,7 +28,7 @@ pub fn between(alloc: Global, a: Option<&Key>, b: Option<&Key>) -> Result<Key, A
 /// The bytes of an end.
 pub(crate) fn end_bytes(end: Option<&Key>) -> Option<&[u8]>
     ensures value { option_copied result ≡ option_copied end.entry }
-    ensures end { IsTrue (is_end (option_copied result)) }
+    ensures end { IsTrue (is_key_or_none (option_copied result)) }
 {
     end.map(|key| key.as_bytes())
 }
@@ -39,8 +39,8 @@ pub(crate) fn key_between(
     a: Option<&[u8]>,
     b: Option<&[u8]>,
 ) -> Result<Key, AllocError>
-    requires a { IsTrue (is_end (option_copied a)) }
-    requires b { IsTrue (is_end (option_copied b)) }
+    requires a { IsTrue (is_key_or_none (option_copied a)) }
+    requires b { IsTrue (is_key_or_none (option_copied b)) }
     requires rise { IsTrue (ends_rise (option_copied a) (option_copied b)) }
     ensures exact { IfOk result (λ key. key ≡ key_between (option_copied a.entry) (option_copied b.entry)) }
     ensures key { IfOk result (λ key. IsTrue (is_key key)) }
@@ -52,8 +52,8 @@ pub(crate) fn key_between(
 
 /// The bytes of the key between two ends.
 fn bytes_between(alloc: Global, a: Option<&[u8]>, b: Option<&[u8]>) -> Result<Vec<u8>, AllocError>
-    requires a { IsTrue (is_end (option_copied a)) }
-    requires b { IsTrue (is_end (option_copied b)) }
+    requires a { IsTrue (is_key_or_none (option_copied a)) }
+    requires b { IsTrue (is_key_or_none (option_copied b)) }
     ensures { IfOk result (λ v. v.items ≡ key_between (option_copied a.entry) (option_copied b.entry)) }
 {
     match (a, b) {

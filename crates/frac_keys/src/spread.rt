@@ -4,7 +4,7 @@ ghost use Rattle.std.specs.Prelude.{◌≡◌, ◌++◌, IfOk, OnOk, IsTrue, Som
 ghost use Rattle.std.specs.List.{list_all};
 ghost use Rattle.frac_keys.specs.Keys.{is_key};
 ghost use Rattle.frac_keys.specs.Between.{keys_above, keys_below, keys_inside, keys_between};
-ghost use Rattle.frac_keys.specs.Rising.{ends_rise, is_end, last_or, lies_between, rise_between};
+ghost use Rattle.frac_keys.specs.Rising.{ends_rise, is_key_or_none, last_or, lies_between, rise_between};
 
 use crate::generate::{end_bytes, key_between};
 use crate::key::Key;
@@ -37,8 +37,8 @@ fn keys_between(
     b: Option<&[u8]>,
     n: usize,
 ) -> Result<Vec<Key>, AllocError>
-    requires a { IsTrue (is_end (option_copied a)) }
-    requires b { IsTrue (is_end (option_copied b)) }
+    requires a { IsTrue (is_key_or_none (option_copied a)) }
+    requires b { IsTrue (is_key_or_none (option_copied b)) }
     requires rise { IsTrue (ends_rise (option_copied a) (option_copied b)) }
     ensures { IfOk result (λ keys. keys.items ≡ keys_between (option_copied a.entry) (option_copied b.entry) n) }
 {
@@ -55,7 +55,7 @@ fn keys_between(
 
 /// `n` keys above an end, each made from the one before it.
 fn keys_above(alloc: Global, a: Option<&[u8]>, n: usize) -> Result<Vec<Key>, AllocError>
-    requires { IsTrue (is_end (option_copied a)) }
+    requires { IsTrue (is_key_or_none (option_copied a)) }
     ensures { IfOk result (λ keys. keys.items ≡ keys_above (option_copied a.entry) n) }
 {
     let mut keys = Vec::with_capacity(alloc, n)?;
@@ -68,7 +68,7 @@ fn keys_above(alloc: Global, a: Option<&[u8]>, n: usize) -> Result<Vec<Key>, All
 
 /// `n` keys below an end, each made from the one after it.
 fn keys_below(alloc: Global, b: Option<&[u8]>, n: usize) -> Result<Vec<Key>, AllocError>
-    requires { IsTrue (is_end (option_copied b)) }
+    requires { IsTrue (is_key_or_none (option_copied b)) }
     ensures { IfOk result (λ keys. keys.items ≡ keys_below (option_copied b.entry) n) }
 {
     let mut keys = Vec::with_capacity(alloc, n)?;
@@ -88,8 +88,8 @@ fn push_inside(
     b: Option<&[u8]>,
     n: usize,
 ) -> Result<(), AllocError>
-    requires a { IsTrue (is_end (option_copied a)) }
-    requires b { IsTrue (is_end (option_copied b)) }
+    requires a { IsTrue (is_key_or_none (option_copied a)) }
+    requires b { IsTrue (is_key_or_none (option_copied b)) }
     requires rise { IsTrue (ends_rise (last_or (option_copied a) keys.old.items) (option_copied b)) }
     ensures { OnOk result (keys.new.items ≡ keys.old.items ++ keys_inside n (last_or (option_copied a.entry) keys.old.items) (option_copied b.entry) n) }
 {
@@ -104,9 +104,9 @@ fn push_inside(
 
 /// The bytes of the last key, or of the end where there is none.
 fn last_or<'a>(keys: &'a [Key], end: Option<&'a [u8]>) -> Option<&'a [u8]>
-    requires { IsTrue (is_end (option_copied end)) }
+    requires { IsTrue (is_key_or_none (option_copied end)) }
     ensures value { option_copied result ≡ last_or (option_copied end.entry) keys.now }
-    ensures end { IsTrue (is_end (option_copied result)) }
+    ensures end { IsTrue (is_key_or_none (option_copied result)) }
 {
     match keys.last() {
         Some(key) => Some(key.as_bytes()),

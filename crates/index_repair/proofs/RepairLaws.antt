@@ -5,10 +5,10 @@ use Rattle.std.specs.List.{list_all, IsAllAdjacentAnswer}
 use Rattle.std.proofs.lemmas.Bool.{cond_both, and_from, and_parts, and_left, and_right}
 use Rattle.std.proofs.lemmas.List.Folds.{list_all-append}
 use Rattle.frac_keys.specs.Keys.{is_key, bytes_less}
-use Rattle.frac_keys.specs.Rising.{ends_rise, is_end, rise_between, are_rising}
+use Rattle.frac_keys.specs.Rising.{ends_rise, is_key_or_none, rise_between, are_rising}
 use Rattle.frac_keys.specs.Between.{keys_above, keys_below, keys_inside, keys_between}
 use Rattle.frac_keys.proofs.KeysLaws.{AreBetween, keys_between-law, rise_between-join, rise_between-ends}
-use Rattle.index_repair.specs.Repair.{kept_after, kept, IsAboveKept, AreKept, filled_after, repaired, KeepsAll, is_key_or_none}
+use Rattle.index_repair.specs.Repair.{kept_after, kept, IsAboveKept, AreKept, filled_after, repaired, KeepsAll}
 
 open_above : (a : Option (List ℕ)) → ends_rise a None ≡ true
 open_above None = refl
@@ -24,7 +24,7 @@ joined {a} {b} {m} {n} {xs} {k} {ys} total e key h l = record {
 }
 
 -- the repaired keys are as many as the positions, are keys, and rise
-filled-law : (low : Option (List ℕ)) (run : ℕ) (keys : List (Option (List ℕ))) → is_end low ≡ true → list_all is_key_or_none keys ≡ true
+filled-law : (low : Option (List ℕ)) (run : ℕ) (keys : List (Option (List ℕ))) → is_key_or_none low ≡ true → list_all is_key_or_none keys ≡ true
     → AreBetween low None (run + length keys) (filled_after low run (kept_after low keys))
 filled-law low run [] h l = subst (λ n. AreBetween low None n (keys_between low None run)) (omega arith) (keys_between-law low None run h refl (open_above low))
 filled-law low run (None ∷ keys) h l =
@@ -51,7 +51,7 @@ longer_run : (run : ℕ) (keys : List (Option (List ℕ))) → replicate run Non
 longer_run zero keys = refl
 longer_run (suc run) keys = ap (λ ks. None ∷ ks) (longer_run run keys)
 
-filled-keeps : (low : Option (List ℕ)) (run : ℕ) (keys : List (Option (List ℕ))) → is_end low ≡ true → list_all is_key_or_none keys ≡ true
+filled-keeps : (low : Option (List ℕ)) (run : ℕ) (keys : List (Option (List ℕ))) → is_key_or_none low ≡ true → list_all is_key_or_none keys ≡ true
     → KeepsAll (replicate run None ++ kept_after low keys) (filled_after low run (kept_after low keys))
 filled-keeps low run [] h l =
     let p = keys_between-law low None run h refl (open_above low) in

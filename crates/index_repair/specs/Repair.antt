@@ -1,7 +1,7 @@
 -- Index repair: a list of optional keys becomes a list of rising ones. This project's own.
 use Rattle.std.specs.Prelude.{◌≡◌, ◌↔◌, ℕ, suc, ◌<◌, List, [], ◌∷◌, ◌++◌, length, slice_get, Bool, true, Option, Some, None, if◌then◌else◌}
 use Rattle.frac_keys.specs.Keys.{bytes_less}
-use Rattle.frac_keys.specs.Rising.{ends_rise, is_end}
+use Rattle.frac_keys.specs.Rising.{ends_rise}
 use Rattle.frac_keys.specs.Between.{keys_between}
 
 -- The keys that are kept behind others, of which the last is given: those that are greater than all kept before them.
@@ -46,7 +46,3 @@ KeepsAll [] (new ∷ news) = ⊥
 KeepsAll (key ∷ keys) [] = ⊥
 KeepsAll (None ∷ keys) (new ∷ news) = KeepsAll keys news
 KeepsAll (Some key ∷ keys) (new ∷ news) = (new ≡ key) × KeepsAll keys news
-
--- whether a key that may be missing is one where it is there
-abbrev pub is_key_or_none : Option (List ℕ) → Bool
-is_key_or_none key = is_end key

@@ -3,8 +3,8 @@
 ghost use Rattle.std.specs.Prelude.{◌≡◌, ℕ, List, length, map, Option, Some, IsTrue};
 ghost use Rattle.std.specs.List.{list_all};
 ghost use Rattle.frac_keys.specs.Keys.{is_key};
-ghost use Rattle.frac_keys.specs.Rising.{are_rising};
-ghost use Rattle.index_repair.specs.Repair.{kept, AreKept, repaired, KeepsAll, is_key_or_none};
+ghost use Rattle.frac_keys.specs.Rising.{are_rising, is_key_or_none};
+ghost use Rattle.index_repair.specs.Repair.{kept, AreKept, repaired, KeepsAll};
 
 /// Exactly the positions are kept that have a key greater than all keys kept before it.
 pub fn greater_keys_are_kept()

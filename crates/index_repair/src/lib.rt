@@ -9,8 +9,8 @@ ghost use Rattle.std.specs.Prelude.{◌≡◌, ℕ, List, ◌++◌, length, map,
 ghost use Rattle.std.specs.List.{list_all};
 ghost use Rattle.frac_keys.specs.Keys.{is_key};
 ghost use Rattle.frac_keys.specs.Between.{keys_between};
-ghost use Rattle.frac_keys.specs.Rising.{ends_rise, are_rising};
-ghost use Rattle.index_repair.specs.Repair.{kept, repaired, KeepsAll, is_key_or_none, kept_key};
+ghost use Rattle.frac_keys.specs.Rising.{ends_rise, are_rising, is_key_or_none};
+ghost use Rattle.index_repair.specs.Repair.{kept, repaired, KeepsAll, kept_key};
 
 use board_io::List;
 use frac_keys::{Key, n_between};

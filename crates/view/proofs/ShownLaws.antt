@@ -14,9 +14,9 @@ use Rattle.std.proofs.lemmas.Map.Keys.{IsDistinct-IsPermutation}
 use Rattle.std.proofs.lemmas.List.Sums.{AllPass-from_list_all, list_all-from_AllPass}
 use Rattle.std.proofs.lemmas.List.Sorted.{IsPermutation-refl, IsPermutation-sym, IsPermutation-map, All-permutation}
 use Rattle.frac_keys.specs.Keys.{bytes_less}
-use Rattle.frac_keys.specs.Rising.{ends_rise, lies_between, rise_between, are_rising}
+use Rattle.frac_keys.specs.Rising.{ends_rise, is_key_or_none, lies_between, rise_between, are_rising}
 use Rattle.frac_keys.proofs.KeysLaws.{AreBetween, lies_between-risen, rise_between-ends}
-use Rattle.index_repair.specs.Repair.{repaired, is_key_or_none}
+use Rattle.index_repair.specs.Repair.{repaired}
 use Rattle.index_repair.proofs.RepairLaws.{repaired-law, repaired-rising}
 use Rattle.elem.specs.Drawn.{Drawn}
 use Rattle.elem_store.specs.Updates.{ids_of}

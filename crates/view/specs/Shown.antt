@@ -2,8 +2,8 @@
 use Rattle.std.specs.Prelude.{◌≡◌, ℕ, List, [], ◌∷◌, Bool, true, false, not, ◌&&◌, ◌||◌, Option, Some, None, filter, map, bytes_eq, if◌then◌else◌, AllPairs, IsPermutation}
 use Rattle.std.specs.List.{list_all, IsDistinct}
 use Rattle.frac_keys.specs.Keys.{bytes_less}
-use Rattle.frac_keys.specs.Rising.{are_rising}
-use Rattle.index_repair.specs.Repair.{repaired, is_key_or_none}
+use Rattle.frac_keys.specs.Rising.{are_rising, is_key_or_none}
+use Rattle.index_repair.specs.Repair.{repaired}
 use Rattle.elem.specs.Drawn.{Drawn}
 use Rattle.elem_store.specs.Updates.{ids_of}
 use Rattle.view.specs.Settled.{settled, unsettled}

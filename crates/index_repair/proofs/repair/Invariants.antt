@@ -1,6 +1,7 @@
 use Rattle.std.proofs.Common.{◌≡◌, true, option_copied, ◌++◌, ◌≤◌, take, drop}
 use Rattle.std.specs.List.{list_all}
-use Rattle.index_repair.specs.Repair.{repaired, filled_after, kept_after, is_key_or_none}
+use Rattle.frac_keys.specs.Rising.{is_key_or_none}
+use Rattle.index_repair.specs.Repair.{repaired, filled_after, kept_after}
 use Rattle.index_repair.proofs.repair.Given as goal
 
 abbrev pub invariant-loop-key : goal.invariant-loop-key

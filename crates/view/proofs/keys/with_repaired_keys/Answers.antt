@@ -1,7 +1,8 @@
 use Rattle.std.proofs.Common.{◌≡◌, ℕ, List, [], ◌∷◌, Option, true, map, refl, ap, ◌∙◌, subst}
 use Rattle.std.specs.List.{zip, list_all}
 use Rattle.std.proofs.lemmas.Result.{IfOk-weaker}
-use Rattle.index_repair.specs.Repair.{repaired, is_key_or_none}
+use Rattle.frac_keys.specs.Rising.{is_key_or_none}
+use Rattle.index_repair.specs.Repair.{repaired}
 use Rattle.elem.specs.Drawn.{Drawn}
 use Rattle.view.specs.Shown.{index_of, keyed, with_index}
 use Rattle.view.proofs.keys.with_repaired_keys.Goals as goal
