@@ -6,7 +6,8 @@ use Rattle.std.proofs.lemmas.Bool.{cond_both, and_parts, and_from}
 use Rattle.std.proofs.lemmas.List.Elements.{All-from_recursion, recursion_from_All, All-nil, All-cons, All-head, All-tail, All-append, All-weaker, All-map, All-filter, All-contains, All-contains_itself}
 use Rattle.std.proofs.lemmas.List.Sorted.{All-permutation}
 use Rattle.frac_keys.specs.Keys.{is_key}
-use Rattle.index_repair.specs.Repair.{repaired, is_key_or_none}
+use Rattle.frac_keys.specs.Rising.{is_key_or_none}
+use Rattle.index_repair.specs.Repair.{repaired}
 use Rattle.index_repair.proofs.RepairLaws.{repaired-law}
 use Rattle.first_texts.specs.FirstOccurrences as texts
 use Rattle.elem.specs.declared.parts.BoundRef.{BoundRef}

@@ -6,7 +6,8 @@ use Rattle.std.proofs.lemmas.Bool.{and_from, and_parts}
 use Rattle.std.proofs.lemmas.List.Elements.{All-from_recursion, recursion_from_All}
 use Rattle.std.proofs.lemmas.List.Sorted.{All-permutation}
 use Rattle.frac_keys.specs.Keys.{is_key}
-use Rattle.index_repair.specs.Repair.{repaired, is_key_or_none}
+use Rattle.frac_keys.specs.Rising.{is_key_or_none}
+use Rattle.index_repair.specs.Repair.{repaired}
 use Rattle.index_repair.proofs.RepairLaws.{AreRepaired-from}
 use Rattle.first_texts.specs.FirstOccurrences as texts
 use Rattle.elem.specs.declared.parts.BoundRef.{BoundRef}
