@@ -18,4 +18,4 @@ pub use element::Element;
 pub use kind::{Kind, Role};
 pub use order::{beats, same, same_but_stamp};
 pub use parts::{Binding, BoundRef};
-pub use raw::{element_raw, push_element};
+pub use raw::{element_raw, push_element, push_elements};

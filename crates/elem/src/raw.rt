@@ -1,6 +1,7 @@
 //! The text of an element.
 
 ghost use Rattle.std.specs.Prelude.{◌≡◌, ◌≢◌, ℕ, ◌+◌, List as Items, [], ◌∷◌, ◌++◌, map, IfOk, OnOk, IfSome, IsTrue, IsPermutation, All, length, ◌≤◌};
+ghost use Rattle.std.specs.List.{join_with_byte};
 ghost use Rattle.std.specs.Str.{IsUtf8};
 ghost use Rattle.scene_json.specs.Compact.{Member as Pair, object_text};
 ghost use Rattle.scene_json.specs.Members.{pairs};
@@ -17,7 +18,7 @@ use crate::parts::Binding;
 use crate::values::{
     push_key, push_kind, push_listing, push_null, push_text, push_texts, push_truth,
 };
-use scene_json::{Raw, push_quote, push_whole, raw_of};
+use scene_json::{Raw, push_comma, push_quote, push_whole, raw_of};
 use std::alloc::{AllocError, Global};
 
 /// The text of an element: the object of its header members and of all others, in the order of the bytes of their
@@ -49,6 +50,18 @@ pub fn push_element(out: &mut Vec<u8>, e: &Element) -> Result<(), AllocError>
     }
     push_members(out, start, rest)?;
     out.push(b'}')?;
+    Ok(())
+}
+
+/// Appends the texts of elements, with commas between them. After want of memory a part of them may stand there.
+pub fn push_elements(out: &mut Vec<u8>, elements: &[Element]) -> Result<(), AllocError>
+    ensures text { OnOk result (out.new.items ≡ out.old.items ++ join_with_byte 44 (map element_text elements.now)) }
+    ensures nest { OnOk result (All (λ e. IsCompact 120 (element_text e)) elements.now) }
+{
+    for (i, e) in elements.iter().enumerate() {
+        push_comma(out, i)?;
+        push_element(out, e)?;
+    }
     Ok(())
 }
 

@@ -1,15 +1,13 @@
 //! The texts of messages.
 
-ghost use Rattle.std.specs.Prelude.{◌≡◌, ◌⊎◌, ◌<◌, ◌∷◌, [], ◌++◌, map, IfOk, OnOk};
-ghost use Rattle.std.specs.List.{join_with_byte};
+ghost use Rattle.std.specs.Prelude.{◌≡◌, IfOk};
 ghost use Rattle.scene_json.specs.Compact.{object_text};
-ghost use Rattle.elem.specs.Texts.{element_text};
 ghost use Rattle.room_msg.specs.Texts as texts;
 ghost use Rattle.room_msg.specs.Texts.{tagged_members};
 
 use crate::message::Message;
 use board_io::{Bytes, List};
-use elem::{Element, push_element};
+use elem::{Element, push_elements};
 use scene_json::push_quoted;
 use std::alloc::{AllocError, Global};
 
@@ -35,25 +33,4 @@ fn tagged_text(alloc: Global, tag: &str, elements: &List<Element>) -> Result<Byt
     push_elements(&mut out, elements.as_slice())?;
     out.extend_from_slice(b"]}}")?;
     Ok(Bytes::from_vec(out))
-}
-
-/// Appends the texts of elements, with commas between them.
-fn push_elements(out: &mut Vec<u8>, elements: &[Element]) -> Result<(), AllocError>
-    ensures { OnOk result (out.new.items ≡ out.old.items ++ join_with_byte 44 (map element_text elements.now)) }
-{
-    for (i, e) in elements.iter().enumerate() {
-        push_comma(out, i)?;
-        push_element(out, e)?;
-    }
-    Ok(())
-}
-
-/// Appends the comma before the item at this index, which the first has none of.
-fn push_comma(out: &mut Vec<u8>, i: usize) -> Result<(), AllocError>
-    ensures { OnOk result (((0 < i) × (out.new.items ≡ out.old.items ++ 44 ∷ [])) ⊎ ((i ≡ 0) × (out.new.items ≡ out.old.items))) }
-{
-    if i > 0 {
-        out.push(b',')?;
-    }
-    Ok(())
 }

@@ -1,6 +1,6 @@
 //! The text of a scene, and that of all that is stored.
 
-ghost use Rattle.std.specs.Prelude.{◌≡◌, ◌⊎◌, ◌<◌, ◌∷◌, [], ◌++◌, All, bytes_eq, map, IfOk, OnOk};
+ghost use Rattle.std.specs.Prelude.{◌≡◌, ◌++◌, bytes_eq, map, IfOk, OnOk};
 ghost use Rattle.std.specs.List.{IsDistinct, join_with_byte};
 ghost use Rattle.std.specs.Str.{IsUtf8};
 ghost use Rattle.scene_json.specs.Compact.{object_text};
@@ -17,9 +17,9 @@ ghost use Rattle.scene_file.specs.Texts.{IsSceneText};
 use crate::head::Head;
 use crate::layout::Layout;
 use board_io::{Bytes, List};
-use elem::{Element, push_element};
+use elem::{Element, push_element, push_elements};
 use elem_store::Store;
-use scene_json::{Member, Text, push_member, push_pretty, push_quote};
+use scene_json::{Member, Text, push_comma, push_member, push_pretty, push_quote};
 use std::alloc::{AllocError, Global};
 use view::View;
 
@@ -131,18 +131,6 @@ fn push_object(out: &mut Vec<u8>, members: &List<Member>) -> Result<(), AllocErr
     Ok(())
 }
 
-/// Appends the texts of elements, with commas between them.
-fn push_elements(out: &mut Vec<u8>, elements: &[Element]) -> Result<(), AllocError>
-    ensures text { OnOk result (out.new.items ≡ out.old.items ++ join_with_byte 44 (map element_text elements.now)) }
-    ensures nest { OnOk result (All (λ e. IsCompact 120 (element_text e)) elements.now) }
-{
-    for (i, e) in elements.iter().enumerate() {
-        push_comma(out, i)?;
-        push_element(out, e)?;
-    }
-    Ok(())
-}
-
 /// Appends the texts of all stored elements, in the order of their ids, with commas between them.
 fn push_stored(out: &mut Vec<u8>, store: &Store) -> Result<(), AllocError>
     ensures { OnOk result (out.new.items ≡ out.old.items ++ join_with_byte 44 (map element_text store.now.elements)) }
@@ -152,16 +140,6 @@ fn push_stored(out: &mut Vec<u8>, store: &Store) -> Result<(), AllocError>
             push_comma(out, i)?;
             push_element(out, e)?;
         }
-    }
-    Ok(())
-}
-
-/// Appends the comma before the item at this index, which the first has none of.
-fn push_comma(out: &mut Vec<u8>, i: usize) -> Result<(), AllocError>
-    ensures { OnOk result (((0 < i) × (out.new.items ≡ out.old.items ++ 44 ∷ [])) ⊎ ((i ≡ 0) × (out.new.items ≡ out.old.items))) }
-{
-    if i > 0 {
-        out.push(b',')?;
     }
     Ok(())
 }

@@ -1,6 +1,6 @@
 //! Values made of their parts.
 
-ghost use Rattle.std.specs.Prelude.{◌≡◌, ℕ, ◌++◌, ◌+◌, ◌<◌, map, IfOk, OnOk, if◌then◌else◌, decimal, All, bytes_eq, flat_map, position};
+ghost use Rattle.std.specs.Prelude.{◌≡◌, ◌⊎◌, ℕ, [], ◌∷◌, ◌++◌, ◌+◌, ◌<◌, map, IfOk, OnOk, if◌then◌else◌, decimal, All, bytes_eq, flat_map, position};
 ghost use Rattle.std.specs.List.{IsDistinct};
 ghost use Rattle.std.specs.Str.{IsUtf8};
 ghost use Rattle.scene_json.specs.Characters;
@@ -106,6 +106,16 @@ pub fn push_member(out: &mut Vec<u8>, name: &Text, value: &Raw) -> Result<(), Al
     push_quote(out, name)?;
     out.push(b':')?;
     out.extend_from_slice(value.as_bytes())
+}
+
+/// Appends the comma before the item at this index, which the first has none of. For want of memory nothing is appended.
+pub fn push_comma(out: &mut Vec<u8>, i: usize) -> Result<(), AllocError>
+    ensures { OnOk result (((0 < i) × (out.new.items ≡ out.old.items ++ 44 ∷ [])) ⊎ ((i ≡ 0) × (out.new.items ≡ out.old.items))) }
+{
+    if i > 0 {
+        out.push(b',')?;
+    }
+    Ok(())
 }
 
 /// Appends the quote of a text. After want of memory a part of it may stand there.

@@ -27,8 +27,8 @@ mod text;
 mod texts;
 
 pub use build::{
-    push_member, push_quote, push_quoted, push_whole, raw_array, raw_null, raw_object, raw_of,
-    raw_text, raw_truth, raw_whole,
+    push_comma, push_member, push_quote, push_quoted, push_whole, raw_array, raw_null, raw_object,
+    raw_of, raw_text, raw_truth, raw_whole,
 };
 pub use end::skip_space;
 pub use fault::{JsonFault, Shape};

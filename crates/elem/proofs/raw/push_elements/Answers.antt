@@ -4,7 +4,7 @@ use Rattle.std.specs.List.{join_with_byte}
 use Rattle.scene_json.specs.Value.{IsCompact}
 use Rattle.scene_json.proofs.Appended.{mapped-step}
 use Rattle.elem.specs.Texts.{element_text}
-use Rattle.scene_file.proofs.printing.push_elements.Goals as goal
+use Rattle.elem.proofs.raw.push_elements.Goals as goal
 
 pub loop-i-preserved : goal.loop-i-preserved
 loop-i-preserved c =
