@@ -10,7 +10,7 @@ use Rattle.std.proofs.lemmas.Map.Made.{IsDistinct-from_count}
 use Rattle.scene_json.specs.Compact.{Member as Pair}
 use Rattle.scene_json.specs.Members.{pairs}
 use Rattle.scene_json.specs.declared.text.Member.{Member}
-use Rattle.scene_json.proofs.Collapsed.{name_of, names_of}
+use Rattle.scene_json.proofs.Collapsed.{name_of, names_of, none_passes}
 use Rattle.scene_json.proofs.Pairs.{names-pairs}
 use Rattle.frac_keys.specs.Keys.{bytes_less}
 use Rattle.frac_keys.specs.Rising.{are_rising}
@@ -23,10 +23,6 @@ use Rattle.elem.specs.Texts.{header_members, own_members}
 use Rattle.elem.proofs.Sorting.{IsRising, IsRising-from, less_is}
 
 -- ---- lists of names
-none_passes : {X : Type 0} (test : X → Bool) (xs : List X) → list_any test xs ≡ false → AllByRecursion (λ x. test x ≡ false) xs
-none_passes test [] h = tt
-none_passes test (x ∷ xs) h = let parts = or_parts (test x) (list_any test xs) h in (parts.0, none_passes test xs parts.1)
-
 bytes_eq-less : (a b : List ℕ) → bytes_less a b ≡ true → bytes_eq a b ≡ false
 bytes_eq-less a b h = texts_ties a b ∙ ap is_eq (less_is (slice_cmp nat_cmp a b) h)
 

@@ -35,12 +35,6 @@ selection value ms object kind = record { members = ms; object = object; kind = 
 pub drawing : (value : List ℕ) (ms : List Pair) → IsObject value ms → value_at (codes "type") ms ≢ Some selection_text → IsDrawing value ms
 drawing value ms object kind = record { object = object; kind = kind }
 
-pub too-deep : (value : List ℕ) (ms : List Pair) (depth : ℕ) → IsDrawing value ms → 120 < depth → ((limit : ℕ) → IsCompact limit value → depth ≤ limit) → IsFaultIn value Depth
-too-deep value ms depth drawing deep least = record { members = ms; drawing = drawing; deep = λ shallow. let within = least 120 shallow in omega arith }
-
-pub shallow-is : (value : List ℕ) (depth : ℕ) → IsCompact depth value → depth ≤ 120 → IsCompact 120 value
-shallow-is value depth is within = Value-deeper within is
-
 -- the members of a value that nests at most 120
 pub given-nest : (value : List ℕ) (ms : List Member) → IsObject value (pairs ms) → IsCompact 120 value → All (λ (m : Member). IsCompact 119 m.value) ms
 given-nest value ms object shallow = AreMembers-values 119 ms (object-nests 120 value (pairs ms) (lit≤ tt) (lit≤ tt) shallow object)

@@ -109,12 +109,14 @@ pub(crate) fn is_image(kind: &Kind) -> bool
     matches!(kind, Kind::Image)
 }
 
-/// The members that are no header members of the kind, in their order.
+/// The members that are no header members of the kind, in their order. They are kept as long as the element, so no room
+/// is left beside them.
 pub(crate) fn others(members: List<Member>, kind: &Kind) -> List<Member>
     ensures { result ≡ filter (λ member. not (facts.is_header kind.now member.name)) members }
 {
     let mut others = members.into_vec();
     others.retain(|member| !is_header(kind, member.name.as_bytes()));
+    others.shrink_to_fit();
     List::from_vec(others)
 }
 

@@ -11,7 +11,7 @@ use crate::fault::{ElemFault, FaultyElement};
 use board_io::{List, Stop};
 use elem::Element;
 use restore_table::into_restored;
-use scene_json::{Raw, depth_of, has_value, members, shaped};
+use scene_json::{Raw, has_value, members, nests_at_most, shaped};
 use std::alloc::Global;
 
 /// How many brackets may be open at once in an element, its own counted.
@@ -30,7 +30,7 @@ pub fn read_element(alloc: Global, value: &Raw) -> Result<Option<Element>, Stop<
     if has_value(&given, "type", "\"selection\"") {
         return Ok(None);
     }
-    if depth_of(value) > DEEPEST {
+    if !nests_at_most(value, DEEPEST) {
         return Err(Stop::Fault(ElemFault::Depth));
     }
     let restored = into_restored(alloc, given)?;

@@ -43,8 +43,8 @@ pub fn into_restored(alloc: Global, members: List<Member>) -> Result<List<Member
 fn between_defaults(alloc: Global, members: Vec<Member>) -> Result<Vec<Member>, AllocError>
     ensures { IfOk result (λ all. pairs all.items ≡ merged (pairs members.items) defaults) }
 {
-    let mut all = Vec::new(alloc);
     let mut left = rows();
+    let mut all = Vec::with_capacity(alloc, members.len() + left.len())?;
     for member in members {
         left = place(&mut all, left, member)?;
     }

@@ -1,8 +1,8 @@
 -- Members of an object whose names are kept once.
 use Rattle.std.proofs.Common.{◌≡◌, ℕ, List, [], ◌∷◌, ◌++◌, Bool, true, false, if◌then◌else◌, refl, sym, ap, ◌∙◌, map, filter, bytes_eq, inl, inr}
-use Rattle.std.proofs.lemmas.Bool.{cases_Bool, false_from_ne_true, false≢true}
+use Rattle.std.proofs.lemmas.Bool.{cases_Bool, false_from_ne_true, false≢true, or_parts}
 use Rattle.std.proofs.lemmas.Slice.Eq.{bytes_eq-Decides}
-use Rattle.std.specs.List.{AllByRecursion, IsDistinct}
+use Rattle.std.specs.List.{AllByRecursion, IsDistinct, list_any}
 use Rattle.scene_json.specs.Compact.{Member, is_other, last_value, collapsed}
 
 -- equal names are told by `bytes_eq`
@@ -27,6 +27,11 @@ names_of members = map name_of members
 -- no member has this name
 abbrev pub IsAbsent : List ℕ → List Member → Type 0
 IsAbsent name members = AllByRecursion (λ other. bytes_eq name other ≡ false) (names_of members)
+
+-- where no item passes a test, each fails it
+pub none_passes : {X : Type 0} (test : X → Bool) (xs : List X) → list_any test xs ≡ false → AllByRecursion (λ x. test x ≡ false) xs
+none_passes test [] h = tt
+none_passes test (x ∷ xs) h = let parts = or_parts (test x) (list_any test xs) h in (parts.0, none_passes test xs parts.1)
 
 -- what holds of each member holds of each that a filter keeps, and of each collapsed one
 filter-All : (P : Member → Type 0) (p : Member → Bool) (ms : List Member) → AllByRecursion P ms → AllByRecursion P (filter p ms)

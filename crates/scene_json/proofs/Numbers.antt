@@ -54,11 +54,3 @@ pub decimal-number : (n : ℕ) → n < 2 ^ 64 → IsNumber (decimal n)
 decimal-number n h =
     let d = decimal_by_steps Digits one_digit more_digits n h in
     whole_number (decimal n) (⊎_elim (λ e. inl (d.zero e)) (λ p. inr (d.first, d.more, d.parts, d.positive p, d.digits)) (eq-zero-or-pos n))
-
--- the digits of a number of more than one are those of its tenth and one more
-pub decimal-step : (n : ℕ) → 10 ≤ n → n < 2 ^ 64 → decimal n ≡ decimal (n / 10) ++ (48 + n % 10) ∷ []
-decimal-step n more small =
-    let above : 0 < n / 10 = omega arith in
-    let below : n / 10 < 2 ^ 64 = omega arith in
-    decimal-digits_of n (omega arith) small ∙ ap (map (λ d. 48 + d)) (digits_of_step 10 n (omega arith) (omega arith))
-    ∙ map-append (λ d. 48 + d) (digits_of 10 (n / 10)) (n % 10 ∷ []) ∙ ap (λ ds. ds ++ (48 + n % 10) ∷ []) (sym (decimal-digits_of (n / 10) above below))

@@ -12,6 +12,7 @@ ghost use Rattle.scene_json.specs.Members.{pairs};
 
 use crate::text::{Member, Raw, Text};
 use board_io::List;
+use itoa::Buffer;
 use std::alloc::{AllocError, Global};
 
 /// `null`. It takes no memory.
@@ -141,11 +142,8 @@ pub fn push_whole(out: &mut Vec<u8>, number: u64) -> Result<(), AllocError>
     ensures ok { OnOk result (out.new.items ≡ out.old.items ++ decimal number) }
     ensures nests { IsCompact 0 (decimal number) }
 {
-    if number >= 10 {
-        push_whole(out, number / 10)?;
-    }
-    out.push(b'0' + (number % 10) as u8)?;
-    Ok(())
+    let mut buffer = Buffer::new();
+    out.extend_from_slice(buffer.format(number).as_bytes())
 }
 
 /// Appends the quote of a text of these bytes.

@@ -1,7 +1,9 @@
 //! Keeping each name of an object once.
 
-ghost use Rattle.std.specs.Prelude.{◌≡◌, ◌<◌, ◌≤◌, ◌++◌, take, drop, length, slice_set, slice_index_or, IfOk, OnOk, IfSome, MatchOption};
+ghost use Rattle.std.specs.Prelude.{◌≡◌, ◌<◌, ◌≤◌, ◌++◌, take, drop, length, slice_set, slice_index_or, IsTrue, IfOk, OnOk, IfSome, MatchOption, bytes_eq};
+ghost use Rattle.std.specs.List.{IsDistinct, list_any};
 ghost use Rattle.scene_json.specs.Compact.{collapsed};
+ghost use Rattle.scene_json.specs.Parts.{names_of};
 ghost use Rattle.scene_json.specs.Places.{cut, entries, IsWithin, AreWithin, joined};
 
 use std::alloc::{AllocError, Global};
@@ -21,9 +23,12 @@ pub(crate) struct Place {
     pub value: Span,
 }
 
+/// How many names are compared one by one at most.
+const FEW: usize = 40;
+
 /// Where a name comes again in the object that stands from an offset on, writes the object anew: the last value stands at
-/// the first one's place. Names are equal where their quotes are. An ordered map finds them, so that no choice of names
-/// makes this slow.
+/// the first one's place. Names are equal where their quotes are. Among many an ordered map finds them, so that no choice
+/// of names makes this slow.
 pub(crate) fn collapse(
     alloc: Global,
     out: &mut Vec<u8>,
@@ -34,12 +39,43 @@ pub(crate) fn collapse(
     requires written { drop start out.old.items ≡ joined 123 (entries out.old.items places.now) }
     ensures { OnOk result (out.new.items ≡ take start out.old.items ++ joined 123 (collapsed (entries out.old.items places.now))) }
 {
+    if places.len() <= FEW && are_distinct(out.as_slice(), places) {
+        return Ok(());
+    }
     if let Some(kept) = kept_places(alloc, out.as_slice(), places)? {
         let text = object_of(alloc, out.as_slice(), kept.as_slice())?;
         out.truncate(start);
         out.extend_from_slice(text.as_slice())?;
     }
     Ok(())
+}
+
+/// Whether no name comes again.
+fn are_distinct(bytes: &[u8], places: &[Place]) -> bool
+    requires { AreWithin (length bytes.now) places.now }
+    ensures { IsTrue result → IsDistinct bytes_eq (names_of (entries bytes.now places.now)) }
+{
+    let mut rest = places;
+    while let Some((place, others)) = rest.split_first() {
+        if comes_again(bytes, bytes_at(bytes, place.name), others) {
+            return false;
+        }
+        rest = others;
+    }
+    true
+}
+
+/// Whether the name is one of those at these places.
+fn comes_again(bytes: &[u8], name: &[u8], places: &[Place]) -> bool
+    requires { AreWithin (length bytes.now) places.now }
+    ensures { result ≡ list_any (bytes_eq name.now) (names_of (entries bytes.now places.now)) }
+{
+    for place in places {
+        if name == bytes_at(bytes, place.name) {
+            return true;
+        }
+    }
+    false
 }
 
 /// Where the members stand that are kept, or `None` if no name comes again.

@@ -2,12 +2,12 @@
 
 ghost use Rattle.std.specs.Prelude.{◌≡◌, ◌+◌, ◌++◌, ◌*◌, ◌<◌, ◌^◌, IfOk, OnOk};
 ghost use Rattle.scene_json.specs.Layout.{line, laid_out};
-ghost use Rattle.scene_json.specs.Passes.{behind_token, is_opening, is_closing, spaces_from, put_before, put_behind};
+ghost use Rattle.scene_json.specs.Passes.{behind_token, is_closing, spaces_from, put_before, put_behind};
 ghost use Rattle.scene_json.specs.Tree.{Tree, IsGood, spelling};
 ghost use Rattle.scene_json.specs.Value.{Value};
 
 use crate::machine::is_space;
-use crate::nesting::after_string;
+use crate::nesting::{after_string, opens};
 use crate::text::Raw;
 use board_io::Bytes;
 use std::alloc::{AllocError, Global};
@@ -96,13 +96,6 @@ pub fn push_line(out: &mut Vec<u8>, level: u64) -> Result<(), AllocError>
         out.extend_from_slice(b"  ")?;
     }
     Ok(())
-}
-
-/// Whether the byte opens a container.
-fn opens(byte: u8) -> bool
-    ensures { result ≡ is_opening byte }
-{
-    matches!(byte, b'[' | b'{')
 }
 
 /// Whether the byte closes a container.

@@ -1,8 +1,9 @@
 //! How deep a value is.
 
-ghost use Rattle.std.specs.Prelude.{◌≡◌, ℕ, ◌≤◌, false};
+ghost use Rattle.std.specs.Prelude.{◌≡◌, ◌↔◌, ℕ, ◌≤◌, false, IsTrue};
+ghost use Rattle.std.specs.List.{count_by};
 ghost use Rattle.scene_json.specs.Value.{IsCompact};
-ghost use Rattle.scene_json.specs.Passes.{behind_string};
+ghost use Rattle.scene_json.specs.Passes.{behind_string, is_opening};
 
 use crate::text::Raw;
 
@@ -27,6 +28,28 @@ pub fn depth_of(value: &Raw) -> u64
         }
     }
     deepest
+}
+
+/// Whether at most so many brackets are open at once. It takes no memory.
+pub fn nests_at_most(value: &Raw, limit: u64) -> bool
+    ensures { IsTrue result ↔ IsCompact limit value.now }
+{
+    let bytes = value.as_bytes();
+    opened(bytes) <= limit || depth_of(value) <= limit
+}
+
+/// How many bytes look like a bracket that opens a container, those in strings among them.
+fn opened(bytes: &[u8]) -> u64
+    ensures { result ≡ count_by is_opening bytes.now }
+{
+    bytes.iter().filter(|byte| opens(**byte)).count() as u64
+}
+
+/// Whether the byte opens a container.
+pub(crate) fn opens(byte: u8) -> bool
+    ensures { result ≡ is_opening byte }
+{
+    matches!(byte, b'[' | b'{')
 }
 
 /// What stands behind the string that these bytes are the rest of.

@@ -7,7 +7,7 @@ use Rattle.scene_json.specs.Members.{pairs}
 use Rattle.scene_json.proofs.Pairs.{AreMembers-distinct}
 use Rattle.elem_read.specs.Reading.{IsFaultIn}
 use Rattle.elem_read.specs.declared.fault.ElemFault.TheVariants.{Depth}
-use Rattle.elem_read.proofs.Drawings.{is-object, selection, drawing, too-deep, shallow-is, given-nest, kind-stays, element-in, fault-in}
+use Rattle.elem_read.proofs.Drawings.{is-object, selection, drawing, given-nest, kind-stays, element-in, fault-in}
 use Rattle.elem_read.proofs.Parts.{stop-same}
 use Rattle.elem_read.proofs.Whole.{whole}
 use Rattle.elem_read.proofs.reading.read_element.Goals as goal
@@ -20,15 +20,19 @@ returns-then-has_value-clause-read c =
     let object = is-object value (pairs c.in-Some.given) (IfOk-at_ok _ found c.members.ensures.spelled) (IfOk-at_ok _ found c.members.ensures.kept) in
     selection value (pairs c.in-Some.given) object (c.has_value.ensures.0 c.if-has_value.true)
 
-pub returns-then-depth_of-gt-DEEPEST-clause-fault : goal.returns-then-depth_of-gt-DEEPEST-clause-fault
+pub returns-then-not-nests_at_most-clause-fault : goal.returns-then-not-nests_at_most-clause-fault
 unfolding quote
-returns-then-depth_of-gt-DEEPEST-clause-fault c = λ fault e.
+returns-then-not-nests_at_most-clause-fault c = λ fault e.
     let value = c.args.value.now in
     let found : c.members.result ≡ Ok c.in-Some.given = c.shaped.ensures.found c.in-Some.given (c.in_ok-given.was ∙ ap Ok c.in-Some.is) in
     let object = is-object value (pairs c.in-Some.given) (IfOk-at_ok _ found c.members.ensures.spelled) (IfOk-at_ok _ found c.members.ensures.kept) in
     let draws = drawing value (pairs c.in-Some.given) object (λ e. both_ways _ c.if-has_value.false (c.has_value.ensures.1 e)) in
     let same : Depth ≡ fault = cc in
-    subst (IsFaultIn value) same (too-deep value (pairs c.in-Some.given) c.depth_of.result draws c.if-depth_of-gt-DEEPEST.true c.depth_of.ensures.least)
+    subst (IsFaultIn value) same (record {
+      members = pairs c.in-Some.given;
+      drawing = draws;
+      deep = λ shallow. both_ways _ c.if-not-nests_at_most.true (c.nests_at_most.ensures.1 shallow);
+    })
 
 pub into_restored-requires : goal.into_restored-requires
 into_restored-requires c =
@@ -45,7 +49,7 @@ element_of-requires-clause-nest c =
     let value = c.args.value.now in
     let found : c.members.result ≡ Ok c.in-Some.given = c.shaped.ensures.found c.in-Some.given (c.in_ok-given.was ∙ ap Ok c.in-Some.is) in
     let object = is-object value (pairs c.in-Some.given) (IfOk-at_ok _ found c.members.ensures.spelled) (IfOk-at_ok _ found c.members.ensures.kept) in
-    let shallow = shallow-is value c.depth_of.result c.depth_of.ensures.holds c.if-depth_of-gt-DEEPEST.false in
+    let shallow = c.nests_at_most.ensures.0 c.if-not-nests_at_most.false in
     c.in_ok-restored.ensures.nests 119 (lit≤ tt) (given-nest value c.in-Some.given object shallow)
 
 pub returns-in_err-element-clause-fault : goal.returns-in_err-element-clause-fault
@@ -55,7 +59,7 @@ returns-in_err-element-clause-fault c =
     let found : c.members.result ≡ Ok c.in-Some.given = c.shaped.ensures.found c.in-Some.given (c.in_ok-given.was ∙ ap Ok c.in-Some.is) in
     let object = is-object value (pairs c.in-Some.given) (IfOk-at_ok _ found c.members.ensures.spelled) (IfOk-at_ok _ found c.members.ensures.kept) in
     let draws = drawing value (pairs c.in-Some.given) object (λ e. both_ways _ c.if-has_value.false (c.has_value.ensures.1 e)) in
-    let shallow = shallow-is value c.depth_of.result c.depth_of.ensures.holds c.if-depth_of-gt-DEEPEST.false in
+    let shallow = c.nests_at_most.ensures.0 c.if-not-nests_at_most.false in
     let p = err_from_is_err_and c.from_residual-in_err-element.result c.from_residual-in_err-element.ensures.1 in
     rw (p.1, p.2) (λ fault e. fault-in value (pairs c.in-Some.given) (pairs c.in_ok-restored.restored) fault draws shallow c.in_ok-restored.ensures.restored
     (c.in_err-element.ensures.fault fault (ap Err (stop-same _ _ _ e))))
@@ -67,7 +71,7 @@ returns-clause-read c =
     let found : c.members.result ≡ Ok c.in-Some.given = c.shaped.ensures.found c.in-Some.given (c.in_ok-given.was ∙ ap Ok c.in-Some.is) in
     let object = is-object value (pairs c.in-Some.given) (IfOk-at_ok _ found c.members.ensures.spelled) (IfOk-at_ok _ found c.members.ensures.kept) in
     let draws = drawing value (pairs c.in-Some.given) object (λ e. both_ways _ c.if-has_value.false (c.has_value.ensures.1 e)) in
-    let shallow = shallow-is value c.depth_of.result c.depth_of.ensures.holds c.if-depth_of-gt-DEEPEST.false in
+    let shallow = c.nests_at_most.ensures.0 c.if-not-nests_at_most.false in
     element-in value (pairs c.in-Some.given) (pairs c.in_ok-restored.restored) c.in_ok-element.element draws shallow c.in_ok-restored.ensures.restored c.in_ok-element.ensures.says
 
 pub returns-clause-whole : goal.returns-clause-whole
@@ -77,6 +81,6 @@ returns-clause-whole c =
     let found : c.members.result ≡ Ok c.in-Some.given = c.shaped.ensures.found c.in-Some.given (c.in_ok-given.was ∙ ap Ok c.in-Some.is) in
     let object = is-object value (pairs c.in-Some.given) (IfOk-at_ok _ found c.members.ensures.spelled) (IfOk-at_ok _ found c.members.ensures.kept) in
     let draws = drawing value (pairs c.in-Some.given) object (λ e. both_ways _ c.if-has_value.false (c.has_value.ensures.1 e)) in
-    let shallow = shallow-is value c.depth_of.result c.depth_of.ensures.holds c.if-depth_of-gt-DEEPEST.false in
+    let shallow = c.nests_at_most.ensures.0 c.if-not-nests_at_most.false in
     whole value c.in_ok-element.element
     (element-in value (pairs c.in-Some.given) (pairs c.in_ok-restored.restored) c.in_ok-element.element draws shallow c.in_ok-restored.ensures.restored c.in_ok-element.ensures.says)
