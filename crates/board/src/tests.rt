@@ -2,8 +2,12 @@
 
 mod commands;
 mod converging;
+mod elements;
 mod faults;
+mod heads;
 mod keys;
+mod pictures;
+mod realistic;
 mod refusals;
 mod rows;
 mod runs;

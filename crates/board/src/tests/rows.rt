@@ -105,54 +105,6 @@ fn a_container_has_one_text(rt: HostRuntime) -> Result<(), Fail> {
     Ok(())
 }
 
-/// The words are done with over this input, and write exactly this.
-fn writes(
-    rt: &impl Abort,
-    alloc: Global,
-    words: &[&str],
-    input: &str,
-    output: &str,
-) -> Result<(), AllocError> {
-    Case {
-        words,
-        input: input.as_bytes(),
-        chunk: 64,
-        read_fault: NO_FAULT,
-        write_fault: NO_FAULT,
-        status: Status::Done,
-        output: output.as_bytes(),
-        note: "",
-    }
-    .check(rt, alloc)
-}
-
-#[test]
-fn pictures_are_told(rt: HostRuntime) -> Result<(), Fail> {
-    let alloc = rt.alloc();
-    let rows = [
-        (
-            r#"{"dataURL":"data:image/png;base64,AAEC"}"#,
-            "false",
-            "\"f\" 3\n",
-        ),
-        (
-            r#"{"dataURL":"data:image/png;base64,AAE"}"#,
-            "false",
-            "\"f\" not base64\n",
-        ),
-        ("{}", "false", "\"f\" no data url\n"),
-        (r#"{"dataURL":"data:image/png;base64,AAEC"}"#, "true", ""),
-    ];
-    for (entry, deleted, lines) in rows {
-        let input = format!(in alloc;
-            "{{\"type\":\"excalidraw\",\"elements\":[{{\"id\":\"p\",\"type\":\"image\",\"fileId\":\"f\",\"isDeleted\":{deleted}}}],\
-\"files\":{{\"f\":{entry},\"g\":{{}}}}}}"
-        )?;
-        writes(&rt, alloc, &["pictures"], input.as_str(), lines)?;
-    }
-    Ok(())
-}
-
 #[test]
 fn faults_of_scenes_are_told(rt: HostRuntime) -> Result<(), Fail> {
     let alloc = rt.alloc();

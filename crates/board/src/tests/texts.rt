@@ -35,6 +35,10 @@ pub(super) const SCENE: &str =
 \"strokeWidth\":2,\"type\":\"rectangle\",\"updated\":0,\"version\":1,\"versionNonce\":0,\"width\":0,\"x\":0,\"y\":0}\
 ],\"appState\":{},\"files\":{}}";
 
+/// The text of an element of this kind and id, without an index.
+const ELEMENT: &str =
+    r##"{"angle":0,"backgroundColor":"transparent","boundElements":[],"fillStyle":"solid","frameId":null,"groupIds":[],"height":0,"id":"ID","index":null,"isDeleted":false,"link":null,"locked":false,"opacity":100,"roughness":1,"roundness":null,"seed":1,"strokeColor":"#1e1e1e","strokeStyle":"solid","strokeWidth":2,"type":"KIND","updated":0,"version":1,"versionNonce":0,"width":0,"x":0,"y":0}"##;
+
 /// The scene without elements.
 pub(super) const EMPTY: &str =
     r#"{"type":"excalidraw","version":2,"source":null,"elements":[],"appState":{},"files":{}}"#;
@@ -57,6 +61,21 @@ fn element(alloc: Global, e: &Drawing) -> Result<String, AllocError> {
 \"strokeColor\":\"#1e1e1e\",\"strokeStyle\":\"solid\",\"strokeWidth\":2,\"type\":\"{kind}\",\"updated\":0,\
 \"version\":{version},\"versionNonce\":{nonce},\"width\":0,\"x\":{x},\"y\":0}}"
     )
+}
+
+/// The text of an element of this kind and id that has the defaults, with each of these parts replaced.
+pub(super) fn element_with(
+    alloc: Global,
+    kind: &str,
+    id: &str,
+    changes: &[(&str, &str)],
+) -> Result<String, AllocError> {
+    let of_id = changed(alloc, ELEMENT, "ID", id)?;
+    let mut text = changed(alloc, of_id.as_str(), "KIND", kind)?;
+    for (part, other) in changes {
+        text = changed(alloc, text.as_str(), part, other)?;
+    }
+    Ok(text)
 }
 
 /// The text of the scene of these elements.
