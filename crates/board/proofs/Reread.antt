@@ -1,11 +1,10 @@
 -- What was written of scenes is read as whole scenes with the same board.
-use Rattle.std.proofs.Common.{◌≡◌, ℕ, List, [], ◌∷◌, ◌++◌, true, All, is_some, bytes_eq, refl, sym, ap, ◌∙◌, subst}
-use Rattle.std.specs.List.{list_all}
+use Rattle.std.proofs.Common.{◌≡◌, Bool, ℕ, List, [], ◌∷◌, ◌++◌, true, All, is_some, bytes_eq, refl, sym, ap, ◌∙◌, subst}
 use Rattle.std.specs.List.Sorted.{IsPermutation}
 use Rattle.std.specs.Cmp.Lexicographic.{nat_list_eq_equiv}
 use Rattle.std.proofs.lemmas.List.{append-nil}
 use Rattle.std.proofs.lemmas.List.Elements.{All-nil, All-cons, All-head, All-tail, All-append, All-filter}
-use Rattle.std.proofs.lemmas.Bool.{and_parts, and_from}
+use Rattle.std.proofs.lemmas.List.Sums.{AllPass-from_list_all, list_all-from_AllPass}
 use Rattle.std.proofs.lemmas.Map.Keys.{IsDistinct-IsPermutation}
 use Rattle.scene_json.specs.Members.{pairs}
 use Rattle.elem.specs.Drawn.{Drawn}
@@ -53,20 +52,12 @@ updates-all P [] each whole = All-nil P
 updates-all P (scene ∷ scenes) each whole =
     All-append P scene.elements (updates_of scenes) (each scene (All-head IsWholeScene scene scenes whole)) (updates-all P scenes each (All-tail IsWholeScene scene scenes whole))
 
--- the element has a key
+-- whether an element has a key
+abbrev has_key : Drawn → Bool
+has_key e = is_some e.index
+
 abbrev HasKey : Drawn → Type 0
-HasKey e = is_some e.index ≡ true
-
-keys-each : (elements : List Drawn) → HaveKeys elements → All HasKey elements
-keys-each [] keys = All-nil HasKey
-keys-each (e ∷ elements) keys =
-    let parts = and_parts (is_some e.index) (list_all (λ (f : Drawn). is_some f.index) elements) keys in
-    All-cons HasKey e elements parts.0 (keys-each elements parts.1)
-
-each-keys : (elements : List Drawn) → All HasKey elements → HaveKeys elements
-each-keys [] each = refl
-each-keys (e ∷ elements) each =
-    and_from (is_some e.index) (list_all (λ (f : Drawn). is_some f.index) elements) (All-head HasKey e elements each) (each-keys elements (All-tail HasKey e elements each))
+HasKey e = has_key e ≡ true
 
 pub record IsWholeBoard (head : Heading) (stored : List Drawn) : Type 0 where
   pub head_whole : IsWholeHead head
@@ -79,7 +70,8 @@ board-whole bytes scenes head stored has board =
     record {
       head_whole = joined-whole (heads_of scenes) head (heads-whole scenes whole) board.joined;
       whole = stored-whole (updates_of scenes) stored (updates-all IsWhole scenes (λ scene is. is.elements) whole) board.are;
-      keys = each-keys stored (stored-all HasKey (updates_of scenes) stored board.are (updates-all HasKey scenes (λ scene is. keys-each scene.elements is.keys) whole));
+      keys = list_all-from_AllPass has_key stored
+          (stored-all HasKey (updates_of scenes) stored board.are (updates-all HasKey scenes (λ scene is. AllPass-from_list_all has_key scene.elements is.keys) whole));
     }
 
 -- ---- what is shown is read as one scene
