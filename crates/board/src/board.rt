@@ -52,17 +52,13 @@ pub fn board<S: Source, K: Sink, N: Sink, L: Links>(
         → WasDoneInPart (asked words.now) (S.seen input.old) (S.seen input.new) (K.seen output.old) (K.seen output.new) }
 
     // Where the input tells its bytes and no end fails: Done with the one text, or Refused with the one fault, that the
-    // command answers these bytes with; or memory is wanted. A fault of the output plays no part in a refusal.
+    // command answers these bytes with; or memory is wanted.
     ensures complete { (command : Command) (bytes : List ℕ) → asked words.now ≡ Some command
         → HasLeft (S.seen input.old) bytes
         → ¬ Rose (S.seen input.old).faults (S.seen input.new).faults
         → ¬ Rose (K.seen output.old).faults (K.seen output.new).faults
         → (result ≡ Status.Memory) ⊎ ((answer : Result (List ℕ) Fault) × IsAnswer command bytes answer
         × EndsWith answer result (K.seen output.old) (K.seen output.new) (N.seen notes.old) (N.seen notes.new)) }
-    ensures complete_refused { (command : Command) (bytes : List ℕ) (fault : Fault) → asked words.now ≡ Some command
-        → HasLeft (S.seen input.old) bytes → IsAnswer command bytes (Err fault)
-        → ¬ Rose (S.seen input.old).faults (S.seen input.new).faults
-        → (result ≡ Status.Memory) ⊎ ((result ≡ Status.Refused) × Noted fault (N.seen notes.old) (N.seen notes.new)) }
     ensures too_long { IsSome (S.seen input.old).left → GaveTooMuch (S.seen input.old) (S.seen input.new)
         → (result ≡ Status.Memory)
         ⊎ ((result ≡ Status.Refused) × Noted Fault.TooLong (N.seen notes.old) (N.seen notes.new)) }

@@ -11,7 +11,7 @@ use Rattle.board.specs.declared.status.Status.{Status}
 use Rattle.board.specs.declared.status.Status.TheVariants as status
 use Rattle.board.specs.declared.words.Command.{Command}
 use Rattle.board.proofs.Again.{restores-once, restores-merges}
-use Rattle.board.proofs.Answering.{done-answer, not-done, text-ends, fault-ends}
+use Rattle.board.proofs.Answering.{not-done, text-ends, fault-ends}
 use Rattle.board.proofs.Existing.{answer-exists}
 use Rattle.board.proofs.Given.{read-whole}
 use Rattle.board.proofs.States.{states-stand_for}
@@ -48,10 +48,6 @@ pub returns-in-Ok-clause-complete : goal.returns-in-Ok-clause-complete
 returns-in-Ok-clause-complete g c command bytes is left reads writes =
     complete-done (asked c.args.words.now) command bytes _ _ _ _ _ _ _ is left refl c.in-Ok.ensures.done
 
-pub returns-in-Ok-clause-complete_refused : goal.returns-in-Ok-clause-complete_refused
-returns-in-Ok-clause-complete_refused g c command bytes why is left answer reads =
-    let no = done-answer (asked c.args.words.now) command bytes (Err why) _ _ is left answer _ _ _ c.in-Ok.ensures.done in cc
-
 pub returns-in-Ok-clause-converges : goal.returns-in-Ok-clause-converges
 returns-in-Ok-clause-converges g c = merges-converge
 
@@ -68,11 +64,6 @@ pub returns-in-Err-clause-complete : goal.returns-in-Err-clause-complete
 returns-in-Err-clause-complete g c command bytes is left reads writes =
     let ends = c.noted.ensures in
     complete-fault (asked c.args.words.now) command bytes _ _ _ _ _ _ _ is left c.in-Err.fault ends.0 c.in-Err.ensures.fault ends.1 ends.2 ends.3 reads writes
-
-pub returns-in-Err-clause-complete_refused : goal.returns-in-Err-clause-complete_refused
-returns-in-Err-clause-complete_refused g c command bytes why is left answer reads =
-    let ends = c.noted.ensures in
-    fault-ends (asked c.args.words.now) command bytes (Err why) _ _ is left answer _ _ why c.in-Err.fault ends.0 _ _ _ refl c.in-Err.ensures.fault ends.1 ends.2 ends.3 reads
 
 pub returns-in-Err-clause-converges : goal.returns-in-Err-clause-converges
 returns-in-Err-clause-converges g c = merges-converge
