@@ -4,7 +4,7 @@ use Rattle.board_io.specs.Counts.{Rose}
 use Rattle.board_io.specs.Ends.{SourceEnd, SinkEnd}
 use Rattle.board.specs.Answers.{IsAnswer, IsOneRefusal, IsRefusal}
 use Rattle.board.specs.Causes.{HasCause}
-use Rattle.board.specs.Ends.{WasRead, HasLeft, WasAnswered, WasDone}
+use Rattle.board.specs.Ends.{WasRead, HasLeft, WasAnswered}
 use Rattle.board.specs.Faults.{status_of, EndsAs, Noted}
 use Rattle.board.specs.declared.status.Status.{Status}
 use Rattle.board.specs.declared.status.Status.TheVariants as status
@@ -55,17 +55,17 @@ module _ (asked : Option Command) (command : Command) (bytes : List ℕ) (answer
 
   -- the end of a run with a fault, over an input that is answered with a text
   pub text-ends : (text : List ℕ) (f told : Fault) (out out_after : SinkEnd) (result : Status) → answer ≡ Ok text → HasCause f asked before after out out_after
-      → EndsAs f told → status_of told ≡ result → (Rose before.faults after.faults → ⊥) → (Rose out.faults out_after.faults → ⊥)
-      → (result ≡ status.Done) ⊎ (result ≡ status.Memory)
-  text-ends text fault.Memory told out out_after result one cause ends status reads writes = inr (sym status ∙ ap status_of ends)
-  text-ends text fault.Usage told out out_after result one cause ends status reads writes = absurd (asks-none cause)
-  text-ends text fault.Read told out out_after result one cause ends status reads writes = absurd (reads cause.0)
-  text-ends text fault.TooLong told out out_after result one cause ends status reads writes = absurd (left-excludes bytes before after left cause)
-  text-ends text (fault.Text number found) told out out_after result one cause ends status reads writes =
+      → EndsAs f told → status_of told ≡ result → (Rose before.faults after.faults → ⊥)
+      → (result ≡ status.Memory) ⊎ ((result ≡ status.WriteFault) × Rose out.faults out_after.faults)
+  text-ends text fault.Memory told out out_after result one cause ends status reads = inl (sym status ∙ ap status_of ends)
+  text-ends text fault.Usage told out out_after result one cause ends status reads = absurd (asks-none cause)
+  text-ends text fault.Read told out out_after result one cause ends status reads = absurd (reads cause.0)
+  text-ends text fault.TooLong told out out_after result one cause ends status reads = absurd (left-excludes bytes before after left cause)
+  text-ends text (fault.Text number found) told out out_after result one cause ends status reads =
       let same = same-answer cause.0 cause.2 (Err (fault.Text number found)) cause.1 cause.3 cause.4 ∙ one in cc
-  text-ends text (fault.Extra at) told out out_after result one cause ends status reads writes =
+  text-ends text (fault.Extra at) told out out_after result one cause ends status reads =
       let same = same-answer cause.0 cause.2 (Err (fault.Extra at)) cause.1 cause.3 cause.4 ∙ one in cc
-  text-ends text fault.Write told out out_after result one cause ends status reads writes = absurd (writes cause.1)
+  text-ends text fault.Write told out out_after result one cause ends status reads = inr (sym status ∙ ap status_of ends, cause.1)
 
   module _ (notes notes_after : SinkEnd) where
     abbrev EndsRefused : Status → Fault → Type 0
@@ -93,13 +93,3 @@ module _ (asked : Option Command) (command : Command) (bytes : List ℕ) (answer
         subst (EndsRefused result) same (noted (fault.Extra at) told result refl ends status note)
     fault-ends why fault.Write told out out_after result one cause ends status note reads =
         let both = done-answer out out_after _ cause.0.1 ∙ one in cc
-
--- no fault ends a run as done
-pub not-done : (f : Fault) → status_of f ≡ status.Done → ⊥
-not-done fault.Memory e = cc
-not-done fault.Usage e = cc
-not-done fault.Read e = cc
-not-done fault.TooLong e = cc
-not-done (fault.Text number found) e = cc
-not-done (fault.Extra at) e = cc
-not-done fault.Write e = cc

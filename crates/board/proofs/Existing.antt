@@ -34,9 +34,9 @@ abbrev Held : List ℕ → Type 0
 Held bytes = ((scenes : List Scene) × HasScenes bytes scenes) ⊎ ((number : ℕ) × (found : SceneFault) × HasFaultyText bytes number found)
 
 -- whether no more is to be read: there is a scene, and white space alone is left
-read-all : (bytes : List ℕ) (scenes : List Scene) → ((scenes ≢ []) × (is_blank bytes ≡ true)) ⊎ ((scenes ≡ []) ⊎ (is_blank bytes ≡ false))
-read-all bytes [] = inr (inl refl)
-read-all bytes (scene ∷ scenes) = elim (Runs-either is_space bytes) [
+ended-or-not : (bytes : List ℕ) (scenes : List Scene) → ((scenes ≢ []) × (is_blank bytes ≡ true)) ⊎ ((scenes ≡ []) ⊎ (is_blank bytes ≡ false))
+ended-or-not bytes [] = inr (inl refl)
+ended-or-not bytes (scene ∷ scenes) = elim (Runs-either is_space bytes) [
   | inl all ↦ inl (λ e. cc, all.0)
   | inr some ↦ inr (inr some.0)
 ]
@@ -44,7 +44,7 @@ read-all bytes (scene ∷ scenes) = elim (Runs-either is_space bytes) [
 -- one text more, and what comes behind it
 next-text : (bytes : List ℕ) (at : ℕ) (scenes : List Scene) → at ≤ length bytes → ScenesLead bytes scenes (drop at bytes)
     → ((scene : Scene) (end : ℕ) → StandsAt bytes at scene end → Held bytes) → Held bytes
-next-text bytes at scenes within lead onward = by (read-all (drop at bytes) scenes) (scene-or-fault bytes at within)
+next-text bytes at scenes within lead onward = by (ended-or-not (drop at bytes) scenes) (scene-or-fault bytes at within)
   where
     by : ((scenes ≢ []) × (is_blank (drop at bytes) ≡ true)) ⊎ ((scenes ≡ []) ⊎ (is_blank (drop at bytes) ≡ false))
         → ((scene : Scene) × (end : ℕ) × StandsAt bytes at scene end) ⊎ ((found : SceneFault) × IsFaultAt bytes at found) → Held bytes

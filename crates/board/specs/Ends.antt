@@ -1,11 +1,11 @@
 -- What a run did to its input and its output. This project's own.
-use Rattle.std.specs.Prelude.{◌≡◌, ℕ, ◌+◌, ◌≤◌, List, Option, Some, Result, Ok, Err, length, take}
+use Rattle.std.specs.Prelude.{◌≡◌, ◌⊎◌, ℕ, ◌+◌, ◌≤◌, List, Option, Some, Result, Ok, Err, length, take}
 use Rattle.board_io.specs.Counts.{Rose}
 use Rattle.board_io.specs.Ends.{SourceEnd, SinkEnd, Gave, Took, IsAtEnd}
 use Rattle.board.specs.Answers.{IsAnswer}
 use Rattle.board.specs.Faults.{Noted}
 use Rattle.board.specs.declared.status.Status.{Status}
-use Rattle.board.specs.declared.status.Status.TheVariants.{Done, Refused}
+use Rattle.board.specs.declared.status.Status.TheVariants.{Done, Refused, WriteFault}
 use Rattle.board.specs.declared.status.Fault.{Fault}
 use Rattle.board.specs.declared.status.Fault.TheVariants as fault
 use Rattle.board.specs.declared.words.Command.{Command}
@@ -59,7 +59,9 @@ WasRefused command fault.TooLong before after = GaveTooMuch before after
 WasRefused command found before after =
     (asked : Command) × (command ≡ Some asked) × (bytes : List ℕ) × WasRead before after bytes × IsAnswer asked bytes (Err found)
 
--- How a run ends whose input has this answer: Done, and the text was written; or Refused, and the notes tell the fault.
+-- How a run ends whose input has this answer: Done, and the text was written, or WriteFault, where the output's count of
+-- faults rose; or Refused, and the notes tell the fault.
 abbrev pub EndsWith : Result (List ℕ) Fault → Status → SinkEnd → SinkEnd → SinkEnd → SinkEnd → Type 0
-EndsWith (Ok text) status out out_after notes notes_after = (status ≡ Done) × Took out out_after text
+EndsWith (Ok text) status out out_after notes notes_after =
+    ((status ≡ Done) × Took out out_after text) ⊎ ((status ≡ WriteFault) × Rose out.faults out_after.faults)
 EndsWith (Err found) status out out_after notes notes_after = (status ≡ Refused) × Noted found notes notes_after

@@ -51,12 +51,11 @@ pub fn board<S: Source, K: Sink, N: Sink, L: Links>(
     ensures write_fault { result ≡ Status.WriteFault
         → WasDoneInPart (asked words.now) (S.seen input.old) (S.seen input.new) (K.seen output.old) (K.seen output.new) }
 
-    // Where the input tells its bytes and no end fails: Done with the one text, or Refused with the one fault, that the
-    // command answers these bytes with; or memory is wanted.
+    // Where the input tells its bytes and doesn't fail: Done with the one text that the command answers these bytes with,
+    // unless the output fails, or Refused with the one fault; or memory is wanted.
     ensures complete { (command : Command) (bytes : List ℕ) → asked words.now ≡ Some command
         → HasLeft (S.seen input.old) bytes
         → ¬ Rose (S.seen input.old).faults (S.seen input.new).faults
-        → ¬ Rose (K.seen output.old).faults (K.seen output.new).faults
         → (result ≡ Status.Memory) ⊎ ((answer : Result (List ℕ) Fault) × IsAnswer command bytes answer
         × EndsWith answer result (K.seen output.old) (K.seen output.new) (N.seen notes.old) (N.seen notes.new)) }
     ensures too_long { IsSome (S.seen input.old).left → GaveTooMuch (S.seen input.old) (S.seen input.new)

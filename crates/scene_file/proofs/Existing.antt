@@ -14,6 +14,7 @@ use Rattle.scene_json.proofs.Rising.{tabled}
 use Rattle.elem.specs.Drawn.{Drawn}
 use Rattle.elem.specs.Forms.{find_in, IsText, IsObject}
 use Rattle.elem.proofs.FormsOnce.{text-once}
+use Rattle.elem_read.specs.Elements.{AreRead, IsFirstFaulty}
 use Rattle.elem_read.specs.Reading.{IsSelection, IsElementIn, IsFaultIn}
 use Rattle.elem_read.specs.declared.fault.ElemFault.{ElemFault}
 use Rattle.elem_read.proofs.Decided.{Decided, Fits, fits-in, text-or-not, unpaired, pairs-unpaired, not-named}
@@ -21,7 +22,7 @@ use Rattle.elem_read.proofs.Read.{read-exists}
 use Rattle.file_table.specs.Table.{AreFilesOf}
 use Rattle.file_table.proofs.Tabled.{files-exist}
 use Rattle.scene_file.specs.Heads.{Heading, IsJoinedHead, least_source, settings_of, files_of}
-use Rattle.scene_file.specs.Reading.{given, HasItems, HasMembers, IsSource, IsScene, AreRead, IsFirstFaulty, loaded, IsHeadOf, IsSceneOf, IsSceneFault, IsSceneAt, IsFaultAt}
+use Rattle.scene_file.specs.Reading.{given, HasItems, HasMembers, IsSource, IsScene, loaded, IsHeadOf, IsSceneOf, IsSceneFault, IsSceneAt, IsFaultAt}
 use Rattle.scene_file.specs.declared.scene.Scene.{Scene}
 use Rattle.scene_file.specs.declared.fault.SceneFault.{SceneFault}
 use Rattle.scene_file.specs.declared.fault.SceneFault.TheVariants.{Json, NotObject, NotScene, Elements, AppState, Files, Element}

@@ -21,6 +21,7 @@ use Rattle.elem.specs.Drawn.{Drawn}
 use Rattle.elem.specs.Forms.{find_in}
 use Rattle.elem.specs.Texts.{element_members, element_text, text_or_null}
 use Rattle.elem.proofs.Saying.{element-are}
+use Rattle.elem_read.specs.Elements.{AreRead}
 use Rattle.elem_read.specs.Reading.{IsElementIn}
 use Rattle.elem_read.proofs.Keeping.{AllFound, found-has, found-self, object-nests, says-element, says-written}
 use Rattle.elem_read.proofs.Whole.{restored-nest, restored-named}
@@ -37,7 +38,7 @@ use Rattle.elem_store.proofs.Lists.{filter-Contains}
 use Rattle.elem_store.proofs.StoreLaws.{AreStored-best}
 use Rattle.scene_file.specs.Heads.{Heading, IsJoinedHead, lesser_source, least_source, settings_of, files_of}
 use Rattle.scene_file.specs.Layouts.{IsWritten}
-use Rattle.scene_file.specs.Reading.{given, IsSource, AreRead, loaded, IsHeadOf, IsSceneOf}
+use Rattle.scene_file.specs.Reading.{given, IsSource, loaded, IsHeadOf, IsSceneOf}
 use Rattle.scene_file.specs.Scenes.{scene_text}
 use Rattle.scene_file.specs.declared.layout.Layout.{Layout}
 use Rattle.scene_file.specs.declared.layout.Layout.TheVariants.{Compact, Pretty}

@@ -21,11 +21,12 @@ use Rattle.elem.specs.Forms.{IsObject}
 use Rattle.elem.specs.Texts.{element_text, text_or_null}
 use Rattle.elem.proofs.FormsOnce.{null-no-text}
 use Rattle.elem.proofs.Saying.{literal, AreMembers-deeper}
+use Rattle.elem_read.specs.Elements.{AreRead}
 use Rattle.elem_read.specs.Reading.{IsWhole}
 use Rattle.file_table.specs.References.{referred_files}
 use Rattle.scene_file.specs.Heads.{Heading}
 use Rattle.scene_file.specs.Layouts.{IsWritten}
-use Rattle.scene_file.specs.Reading.{HasItems, HasMembers, IsSource, AreRead, IsSceneOf, IsSceneAt}
+use Rattle.scene_file.specs.Reading.{HasItems, HasMembers, IsSource, IsSceneOf, IsSceneAt}
 use Rattle.scene_file.specs.Scenes.{scene_members, scene_text, state_text}
 use Rattle.scene_file.specs.Texts.{IsSceneText}
 use Rattle.scene_file.specs.Whole.{IsWholeHead, HaveKeys, with_named_files}

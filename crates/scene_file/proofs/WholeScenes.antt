@@ -13,6 +13,7 @@ use Rattle.frac_keys.specs.Keys.{bytes_less}
 use Rattle.elem.specs.Drawn.{Drawn}
 use Rattle.elem.specs.Forms.{find_in}
 use Rattle.elem.proofs.Sorting.{AllByRecursion-weaker}
+use Rattle.elem_read.specs.Elements.{AreRead}
 use Rattle.elem_read.specs.Reading.{IsWhole}
 use Rattle.elem_read.proofs.Keeping.{AllFound, found-has, found-self}
 use Rattle.elem_read.proofs.Whole.{IsSound, IsSound-read, IsSound-whole}
@@ -21,7 +22,7 @@ use Rattle.file_table.specs.Table.{IsLeast, AreFilesOf}
 use Rattle.file_table.proofs.Least.{least-is}
 use Rattle.view.specs.Shown.{shown}
 use Rattle.scene_file.specs.Heads.{Heading, lesser_source, least_source, settings_of, files_of, IsJoinedHead}
-use Rattle.scene_file.specs.Reading.{given, loaded, IsSource, AreRead, IsHeadOf, IsSceneAt}
+use Rattle.scene_file.specs.Reading.{given, loaded, IsSource, IsHeadOf, IsSceneAt}
 use Rattle.scene_file.specs.Whole.{IsWholeHead, HaveKeys, IsWholeScene}
 use Rattle.scene_file.specs.declared.scene.Scene.{Scene}
 use Rattle.scene_file.proofs.Nesting.{nests-given}

@@ -11,7 +11,7 @@ use Rattle.board.specs.declared.status.Status.{Status}
 use Rattle.board.specs.declared.status.Status.TheVariants as status
 use Rattle.board.specs.declared.words.Command.{Command}
 use Rattle.board.proofs.Again.{restores-once, restores-merges}
-use Rattle.board.proofs.Answering.{not-done, text-ends, fault-ends}
+use Rattle.board.proofs.Answering.{text-ends, fault-ends}
 use Rattle.board.proofs.Existing.{answer-exists}
 use Rattle.board.proofs.Given.{read-whole}
 use Rattle.board.proofs.States.{states-stand_for}
@@ -28,16 +28,16 @@ module _ (asks : Option Command) (command : Command) (bytes : List ℕ) (before 
   complete-done done w =
       let both : Some w.asked ≡ Some command = sym w.is_asked ∙ is in
       let one : w.asked ≡ command = cc in
-      inr (Ok w.text, subst₂ (λ c b. IsAnswer c b (Ok w.text)) one (read-whole bytes w.bytes before after left w.read) w.answer, (done, w.took))
+      inr (Ok w.text, subst₂ (λ c b. IsAnswer c b (Ok w.text)) one (read-whole bytes w.bytes before after left w.read) w.answer, inl (done, w.took))
 
   complete-fault : (f told : Fault) → HasCause f asks before after out out_after → EndsAs f told → status_of told ≡ result → Noted told notes notes_after
-      → (Rose before.faults after.faults → ⊥) → (Rose out.faults out_after.faults → ⊥) → IsComplete
-  complete-fault f told cause ends ended note reads writes = by (answer-exists command bytes)
+      → (Rose before.faults after.faults → ⊥) → IsComplete
+  complete-fault f told cause ends ended note reads = by (answer-exists command bytes)
     where
       by : (answer : Result (List ℕ) Fault) × IsAnswer command bytes answer → IsComplete
-      by (Ok text, answered) = elim (text-ends asks command bytes (Ok text) before after is left answered text f told out out_after result refl cause ends ended reads writes) [
-        | inl done ↦ absurd (not-done told (ended ∙ done))
-        | inr memory ↦ inl memory
+      by (Ok text, answered) = elim (text-ends asks command bytes (Ok text) before after is left answered text f told out out_after result refl cause ends ended reads) [
+        | inl memory ↦ inl memory
+        | inr failed ↦ inr (Ok text, answered, inr failed)
       ]
       by (Err why, answered) = elim (fault-ends asks command bytes (Err why) before after is left answered notes notes_after why f told out out_after result refl cause ends ended note reads) [
         | inl memory ↦ inl memory
@@ -45,7 +45,7 @@ module _ (asks : Option Command) (command : Command) (bytes : List ℕ) (before 
       ]
 
 pub returns-in-Ok-clause-complete : goal.returns-in-Ok-clause-complete
-returns-in-Ok-clause-complete g c command bytes is left reads writes =
+returns-in-Ok-clause-complete g c command bytes is left reads =
     complete-done (asked c.args.words.now) command bytes _ _ _ _ _ _ _ is left refl c.in-Ok.ensures.done
 
 pub returns-in-Ok-clause-converges : goal.returns-in-Ok-clause-converges
@@ -61,9 +61,9 @@ pub returns-in-Ok-clause-states_stand_for : goal.returns-in-Ok-clause-states_sta
 returns-in-Ok-clause-states_stand_for g c = states-stand_for
 
 pub returns-in-Err-clause-complete : goal.returns-in-Err-clause-complete
-returns-in-Err-clause-complete g c command bytes is left reads writes =
+returns-in-Err-clause-complete g c command bytes is left reads =
     let ends = c.noted.ensures in
-    complete-fault (asked c.args.words.now) command bytes _ _ _ _ _ _ _ is left c.in-Err.fault ends.0 c.in-Err.ensures.fault ends.1 ends.2 ends.3 reads writes
+    complete-fault (asked c.args.words.now) command bytes _ _ _ _ _ _ _ is left c.in-Err.fault ends.0 c.in-Err.ensures.fault ends.1 ends.2 ends.3 reads
 
 pub returns-in-Err-clause-converges : goal.returns-in-Err-clause-converges
 returns-in-Err-clause-converges g c = merges-converge
