@@ -69,3 +69,16 @@ fn the_best_update_of_each_id_is_stored(rt: HostRuntime) -> Result<(), Fail> {
     assert!(rt; store.get(&other).is_none());
     Ok(())
 }
+
+#[test]
+fn there_is_room_for_what_was_reserved(rt: HostRuntime) -> Result<(), Fail> {
+    let alloc = rt.alloc();
+    let mut store = Store::new(alloc);
+    store.reserve(2)?;
+    for id in [b'b', b'a'] {
+        let e = rectangle(alloc, id, 1, 0, 0)?;
+        assert!(rt; store.take(e).map_err(|_| "memory")?);
+    }
+    assert_eq!(rt; store.len(), 2);
+    Ok(())
+}

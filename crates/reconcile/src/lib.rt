@@ -1,0 +1,11 @@
+//! Lists of elements are taken into a store, but for those whose ids are held.
+#![tactic(auto)]
+
+mod held;
+pub mod laws;
+mod taking;
+#[cfg(test)]
+mod tests;
+
+pub use held::Held;
+pub use taking::reconcile;
