@@ -1,0 +1,9 @@
+pub mod ChangeLaws
+pub mod HeaderLaws
+pub mod Injective
+pub mod JoinLaws
+pub mod PairLaws
+pub mod PartLaws
+pub mod RestLaws
+pub mod RisingIds
+pub mod ToldLaws

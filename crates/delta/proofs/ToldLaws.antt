@@ -1,0 +1,242 @@
+-- Changes told of name by name.
+use Rattle.std.proofs.Common.{◌≡◌, ℕ, zero, suc, ◌<◌, length, take, get_or, arith, Bool, true, false, cond, ◌||◌, List, [], ◌∷◌, ◌++◌, find, Option, Some, None, IfSome, inl, inr, codes, bytes_eq, if◌then◌else◌, refl, sym, ap, ◌∙◌, subst}
+use Rattle.std.specs.Cmp.Lexicographic.{nat_list_eq_equiv}
+use Rattle.std.specs.List.{AllByRecursion, IsDistinct, list_any}
+use Rattle.std.specs.Option.{option_or}
+use Rattle.std.proofs.lemmas.Bool.{cases_Bool, false≢true, or_parts}
+use Rattle.std.proofs.lemmas.List.Folds.{find-append, list_any-append}
+use Rattle.std.proofs.lemmas.Map.Keys.{IsDistinct-push}
+use Rattle.scene_json.specs.Value.{IsCompact}
+use Rattle.scene_json.specs.declared.text.Member.{Member}
+use Rattle.scene_json.proofs.Collapsed.{bytes_eq-true, bytes_eq-same}
+use Rattle.elem.specs.declared.parts.BoundRef.{BoundRef}
+use Rattle.elem.specs.Drawn.{Drawn}
+use Rattle.elem.specs.declared.kind.Kind.{Kind}
+use Rattle.elem.specs.Facts.{names, is_header, header_names, own_names}
+use Rattle.delta.specs.declared.change.Change.{Change}
+use Rattle.delta.specs.declared.change.Change.TheVariants.{Scalar, Groups, Bound}
+use Rattle.delta.specs.declared.header.Header.{Header}
+use Rattle.delta.specs.declared.header.Header.TheVariants as headers
+use Rattle.delta.specs.Facts.{IsChange, IsScalar, name_of, change_names, other_names}
+use Rattle.delta.specs.Headers.{header_named, value_named, scalar_at, scalar_of}
+use Rattle.delta.specs.Joined.{are_same, entries_same}
+use Rattle.delta.specs.Parts.{change_of, scalar_change, groups_change, bound_change, scalars_same}
+use Rattle.delta.specs.Told.{change_between, with_change, Told, AreChanges}
+use Rattle.delta.proofs.HeaderLaws.{header_name, named}
+
+-- a change, if it is one, is of the member of this name in elements of the kind
+abbrev pub IsOf : Drawn → List ℕ → Option Change → Type 0
+IsOf e name o = IfSome o (λ c. (name_of c ≡ name) × IsChange e.kind c)
+
+not-found : {X : Type 0} (p : X → Bool) (xs : List X) → list_any p xs ≡ false → find p xs ≡ None
+not-found p [] h = refl
+not-found p (x ∷ xs) h = let parts = or_parts (p x) (list_any p xs) h in ap (λ b. cond b (Some x) (find p xs)) parts.0 ∙ not-found p xs parts.1
+
+is-found : {X : Type 0} (p : X → Bool) (xs : List X) → list_any p xs ≡ true → find p xs ≡ None → ⊥
+is-found p [] h e = false≢true h
+is-found p (x ∷ xs) h e =
+    elim (cases_Bool (p x)) [
+      | inl t ↦ some-none x (sym (ap (λ b. cond b (Some x) (find p xs)) t) ∙ e)
+      | inr f ↦ is-found p xs (sym (ap (λ b. b || list_any p xs) f) ∙ h) (sym (ap (λ b. cond b (Some x) (find p xs)) f) ∙ e)
+    ]
+  where
+    some-none : {X : Type 0} (x : X) → Some x ≡ None → ⊥
+    some-none x e = cc
+
+named-any : (name : List ℕ) (cs : List Change) → list_any (bytes_eq name) (change_names cs) ≡ list_any (λ c. bytes_eq name (name_of c)) cs
+named-any name [] = refl
+named-any name (c ∷ cs) = ap (λ b. bytes_eq name (name_of c) || b) (named-any name cs)
+
+each-push : {X : Type 0} (P : X → Type 0) (xs : List X) (x : X) → AllByRecursion P xs → P x → AllByRecursion P (xs ++ x ∷ [])
+each-push P [] x h p = (p, tt)
+each-push P (y ∷ ys) x h p = (h.0, each-push P ys x h.1 p)
+
+or_false : (b : Bool) → (b || false) ≡ b
+or_false true = refl
+or_false false = refl
+
+or_true : (b : Bool) → (b || true) ≡ true
+or_true true = refl
+or_true false = refl
+
+nothing : (b : Bool) (o : Option Change) → o ≡ None → (if b then o else None) ≡ None
+nothing true o e = e
+nothing false o e = refl
+
+option_or-None : {X : Type 0} (o : Option X) → option_or o None ≡ o
+option_or-None None = refl
+option_or-None (Some x) = refl
+
+-- what the names tell with one more
+module _ (before after : Drawn) (known : List (List ℕ)) (cs : List Change) (name : List ℕ) (told : Told before after known cs) where
+  wanted : List ℕ → Option Change
+  wanted n = if list_any (bytes_eq n) (known ++ name ∷ []) then change_between before after n else None
+
+  others : (n : List ℕ) → bytes_eq n name ≡ false → (if list_any (bytes_eq n) known then change_between before after n else None) ≡ wanted n
+  unfolding wanted
+  others n f =
+      ap (λ b. if b then change_between before after n else None)
+      (sym (or_false (list_any (bytes_eq n) known)) ∙ ap (λ b. list_any (bytes_eq n) known || b) (sym (ap (λ b. b || false) f)) ∙ sym (list_any-append (bytes_eq n) known (name ∷ [])))
+
+  itself : wanted name ≡ change_between before after name
+  unfolding wanted
+  itself =
+      ap (λ b. if b then change_between before after name else None)
+      (list_any-append (bytes_eq name) known (name ∷ []) ∙ ap (λ b. list_any (bytes_eq name) known || (b || false)) (bytes_eq-same name) ∙ or_true (list_any (bytes_eq name) known))
+
+  by-name : (new : List Change) → ((n : List ℕ) → bytes_eq n name ≡ false → change_of new n ≡ change_of cs n) → change_of new name ≡ change_between before after name → (n : List ℕ) → change_of new n ≡ wanted n
+  by-name new apart here n = elim (cases_Bool (bytes_eq n name)) [
+    | inl t ↦ subst (λ m. change_of new m ≡ wanted m) (sym (bytes_eq-true n name t)) (here ∙ sym itself)
+    | inr f ↦ apart n f ∙ told.told n ∙ others n f
+  ]
+
+  known-is : (c : Change) → change_between before after name ≡ Some c → (change_of cs name ≡ None → ⊥) → change_of cs name ≡ change_between before after name
+  known-is c e some = elim (cases_Bool (list_any (bytes_eq name) known)) [
+    | inl t ↦ told.told name ∙ ap (λ b. if b then change_between before after name else None) t
+    | inr f ↦ absurd (some (told.told name ∙ ap (λ b. if b then change_between before after name else None) f))
+  ]
+
+  none-told : change_between before after name ≡ None → change_of cs name ≡ change_between before after name
+  none-told e = told.told name ∙ nothing (list_any (bytes_eq name) known) (change_between before after name) e ∙ sym e
+
+  with_told : (o : Option Change) → o ≡ change_between before after name → IsOf after name o → Told before after (known ++ name ∷ []) (with_change cs o)
+  unfolding wanted
+  with_told None is of = record { told = by-name cs (λ n f. refl) (none-told (sym is)); distinct = told.distinct; each = told.each }
+  with_told (Some c) is of =
+      let any = list_any (λ other. bytes_eq (name_of c) (name_of other)) cs in
+      elim any as (λ b. any ≡ b → Told before after (known ++ name ∷ []) (if b then cs else cs ++ c ∷ [])) [
+        | true ↦ λ t. record {
+          told = by-name cs (λ n f. refl) (known-is c (sym is) (λ e. is-found (λ other. bytes_eq name (name_of other)) cs (ap (λ m. list_any (λ other. bytes_eq m (name_of other)) cs) (sym of.0) ∙ t) e));
+          distinct = told.distinct;
+          each = told.each;
+        }
+        | false ↦ λ f. record {
+          told = by-name (cs ++ c ∷ [])
+              (λ n g. find-append (λ other. bytes_eq n (name_of other)) cs (c ∷ []) ∙ ap (λ b. option_or (change_of cs n) (cond b (Some c) None)) (ap (bytes_eq n) of.0 ∙ g) ∙ option_or-None (change_of cs n))
+              (find-append (λ other. bytes_eq name (name_of other)) cs (c ∷ [])
+              ∙ ap (λ o. option_or o (cond (bytes_eq name (name_of c)) (Some c) None)) (not-found (λ other. bytes_eq name (name_of other)) cs (ap (λ m. list_any (λ other. bytes_eq m (name_of other)) cs) (sym of.0) ∙ f))
+              ∙ ap (λ b. option_or None (cond b (Some c) None)) (ap (bytes_eq name) of.0 ∙ bytes_eq-same name) ∙ is);
+          distinct = subst (IsDistinct bytes_eq) (sym (map-push cs)) (IsDistinct-push nat_list_eq_equiv (change_names cs) (name_of c) told.distinct (named-any (name_of c) cs ∙ f));
+          each = each-push (IsChange after.kind) cs c told.each of.1;
+        }
+      ] refl
+    where
+      map-push : (ds : List Change) → change_names (ds ++ c ∷ []) ≡ change_names ds ++ name_of c ∷ []
+      map-push [] = refl
+      map-push (d ∷ ds) = ap (λ ns. name_of d ∷ ns) (map-push ds)
+
+  pub Told-more : (o : Option Change) (new : List Change) → o ≡ change_between before after name → IsOf after name o → new ≡ with_change cs o → Told before after (known ++ name ∷ []) new
+  Told-more o new is of made = subst (Told before after (known ++ name ∷ [])) (sym made) (with_told o is of)
+
+pub Told-none : (before after : Drawn) → Told before after [] []
+unfolding IsDistinct
+Told-none before after = record { told = λ n. refl; distinct = tt; each = tt }
+
+-- ---- changes of scalars and lists
+pub scalar-between : (before after : Drawn) (name : List ℕ) → list_any (bytes_eq name) other_names ≡ false → scalar_change name (scalar_of before name) (scalar_of after name) ≡ change_between before after name
+scalar-between before after name free =
+    let o1 = or_parts (bytes_eq name (codes "id")) _ free in
+    let o2 = or_parts (bytes_eq name (codes "type")) _ o1.1 in
+    let o3 = or_parts (bytes_eq name (codes "groupIds")) _ o2.1 in
+    let o4 = or_parts (bytes_eq name (codes "boundElements")) _ o3.1 in
+    let scalar = scalar_change name (scalar_of before name) (scalar_of after name) in
+    sym (ap (λ b. if b then groups_change before.groups after.groups else (if bytes_eq name (codes "boundElements") then bound_change before.bound after.bound else scalar)) o3.0
+    ∙ ap (λ b. if b then bound_change before.bound after.bound else scalar) o4.0)
+
+pub IsOf-scalar : (e : Drawn) (name : List ℕ) (before after : Option (List ℕ)) → list_any (bytes_eq name) other_names ≡ false → IsScalar (header_named e.kind name) before → IsScalar (header_named e.kind name) after → IsOf e name (scalar_change name before after)
+IsOf-scalar e name before after free b a =
+    elim (scalars_same before after) as (λ same. IsOf e name (if same then None else Some (Scalar name before after))) [ true ↦ tt | false ↦ (refl, (free, b, a)) ]
+
+pub IsOf-groups : (e : Drawn) (before after : List (List ℕ)) → IsOf e (codes "groupIds") (groups_change before after)
+IsOf-groups e before after =
+    elim (are_same bytes_eq before after) as (λ same. IsOf e (codes "groupIds") (if same then None else Some (Groups before after))) [ true ↦ tt | false ↦ (refl, tt) ]
+
+pub IsOf-bound : (e : Drawn) (before after : List BoundRef) → IsOf e (codes "boundElements") (bound_change before after)
+IsOf-bound e before after =
+    elim (are_same entries_same before after) as (λ same. IsOf e (codes "boundElements") (if same then None else Some (Bound before after))) [ true ↦ tt | false ↦ (refl, tt) ]
+
+-- ---- all names
+abbrev pub first_names : List (List ℕ)
+first_names =
+    codes "groupIds" ∷ codes "boundElements" ∷ codes "isDeleted" ∷ codes "index" ∷ codes "frameId"
+    ∷ codes "containerId" ∷ codes "startBinding" ∷ codes "endBinding" ∷ codes "fileId" ∷ []
+
+header-first : (h : Header) → list_any (bytes_eq (header_name h)) first_names ≡ true
+header-first headers.Deleted = refl
+header-first headers.Index = refl
+header-first headers.Frame = refl
+header-first headers.Container = refl
+header-first headers.StartBinding = refl
+header-first headers.EndBinding = refl
+header-first headers.File = refl
+
+pub not-named : (name : List ℕ) (ms : List Member) → list_any (bytes_eq name) (names ms) ≡ false → value_named name ms ≡ None
+not-named name [] h = refl
+not-named name (m ∷ ms) h =
+    let parts = or_parts (bytes_eq name m.name) (list_any (bytes_eq name) (names ms)) h in
+    ap (λ b. if b then Some m.value else value_named name ms) parts.0 ∙ not-named name ms parts.1
+
+pub AreChanges-from : (before after : Drawn) (cs : List Change) → before.kind ≡ after.kind → Told before after ((first_names ++ names before.rest) ++ names after.rest) cs → AreChanges before after cs
+AreChanges-from before after cs kind told = record {
+  told = λ n. elim (cases_Bool (list_any (bytes_eq n) ((first_names ++ names before.rest) ++ names after.rest))) [
+    | inl t ↦ told.told n ∙ ap (λ b. if b then change_between before after n else None) t
+    | inr f ↦ told.told n ∙ ap (λ b. if b then change_between before after n else None) f ∙ sym (none n f)
+  ];
+  distinct = told.distinct;
+  each = told.each;
+}
+  where
+    none : (n : List ℕ) → list_any (bytes_eq n) ((first_names ++ names before.rest) ++ names after.rest) ≡ false → change_between before after n ≡ None
+    none n f =
+        let last = or_parts (list_any (bytes_eq n) (first_names ++ names before.rest)) (list_any (bytes_eq n) (names after.rest)) (sym (list_any-append (bytes_eq n) (first_names ++ names before.rest) (names after.rest)) ∙ f) in
+        let first = or_parts (list_any (bytes_eq n) first_names) (list_any (bytes_eq n) (names before.rest)) (sym (list_any-append (bytes_eq n) first_names (names before.rest)) ∙ last.0) in
+        let groups = or_parts (bytes_eq n (codes "groupIds")) _ first.0 in
+        let bound = or_parts (bytes_eq n (codes "boundElements")) _ groups.1 in
+        let scalar = scalar_change n (scalar_of before n) (scalar_of after n) in
+        ap (λ b. if b then groups_change before.groups after.groups else (if bytes_eq n (codes "boundElements") then bound_change before.bound after.bound else scalar)) groups.0
+        ∙ ap (λ b. if b then bound_change before.bound after.bound else scalar) bound.0
+        ∙ ap (λ o. scalar_change n o (scalar_of after n)) (gone before (header_named before.kind n) refl first.0 first.1)
+        ∙ ap (λ o. scalar_change n None o) (gone after (header_named after.kind n) refl first.0 last.1)
+      where
+        gone : (e : Drawn) (o : Option Header) → header_named e.kind n ≡ o → list_any (bytes_eq n) first_names ≡ false → list_any (bytes_eq n) (names e.rest) ≡ false → scalar_at e n o ≡ None
+        gone e None is unnamed unrest = not-named n e.rest unrest
+        gone e (Some h) is unnamed unrest =
+            absurd (false≢true (sym unnamed ∙ ap (λ m. list_any (bytes_eq m) first_names) (named e.kind n h is) ∙ header-first h))
+
+pub value-nests : (name : List ℕ) (ms : List Member) → AllByRecursion (λ (m : Member). IsCompact 119 m.value) ms → IfSome (value_named name ms) (IsCompact 119)
+value-nests name [] h = tt
+value-nests name (m ∷ ms) h =
+    elim (bytes_eq name m.name) as (λ b. IfSome (if b then Some m.value else value_named name ms) (IsCompact 119)) [ true ↦ h.0 | false ↦ value-nests name ms h.1 ]
+
+-- ---- names of further members
+pub free-at : (test : List ℕ → Bool) (ms : List Member) (i : ℕ) (m : Member) → list_any test (names ms) ≡ false → i < length ms → m ≡ get_or ms i m → test m.name ≡ false
+free-at test [] i m free l here = absurd (omega arith)
+free-at test (o ∷ os) zero m free l here = ap (λ (x : Member). test x.name) here ∙ (or_parts (test o.name) (list_any test (names os)) free).0
+free-at test (o ∷ os) (suc i) m free l here = free-at test os i m (or_parts (test o.name) (list_any test (names os)) free).1 (omega arith) here
+
+pub names-more : (ms : List Member) (i : ℕ) (m : Member) → i < length ms → m ≡ get_or ms i m → names (take i ms) ++ m.name ∷ [] ≡ names (take (suc i) ms)
+names-more [] i m l here = absurd (omega arith)
+names-more (o ∷ os) zero m l here = ap (λ (x : Member). x.name ∷ []) here
+names-more (o ∷ os) (suc i) m l here = ap (λ ns. o.name ∷ ns) (names-more os i m (omega arith) here)
+
+-- a name that is no header name is that of a scalar
+other-free : (kind : Kind) (n : List ℕ) → is_header kind n ≡ false → list_any (bytes_eq n) other_names ≡ false
+other-free kind n h =
+    let head = or_parts (list_any (bytes_eq n) header_names) (list_any (bytes_eq n) (own_names kind)) h in
+    let h1 = or_parts (bytes_eq n (codes "id")) _ head.0 in
+    let h2 = or_parts (bytes_eq n (codes "type")) _ h1.1 in
+    let h3 = or_parts (bytes_eq n (codes "version")) _ h2.1 in
+    let h4 = or_parts (bytes_eq n (codes "versionNonce")) _ h3.1 in
+    let h5 = or_parts (bytes_eq n (codes "updated")) _ h4.1 in
+    let h6 = or_parts (bytes_eq n (codes "isDeleted")) _ h5.1 in
+    let h7 = or_parts (bytes_eq n (codes "index")) _ h6.1 in
+    let h8 = or_parts (bytes_eq n (codes "groupIds")) _ h7.1 in
+    let h9 = or_parts (bytes_eq n (codes "frameId")) _ h8.1 in
+    let h10 = or_parts (bytes_eq n (codes "boundElements")) _ h9.1 in
+    rw (h1.0, h2.0, h8.0, h10.0, h3.0, h4.0, h5.0) refl
+
+pub rest-free : (kind : Kind) (ms : List Member) → list_any (is_header kind) (names ms) ≡ false → list_any (λ name. list_any (bytes_eq name) other_names) (names ms) ≡ false
+rest-free kind [] free = refl
+rest-free kind (m ∷ ms) free =
+    let parts = or_parts (is_header kind m.name) (list_any (is_header kind) (names ms)) free in
+    ap (λ b. b || list_any (λ name. list_any (bytes_eq name) other_names) (names ms)) (other-free kind m.name parts.0) ∙ rest-free kind ms parts.1

@@ -1,0 +1,7 @@
+-- The items gained so far are those of the first ones, each once.
+use Rattle.std.proofs.Common.{◌≡◌, filter, take}
+use Rattle.delta.specs.Joined.{is_gained, first_occurrences}
+use Rattle.delta.proofs.join.gained.Given as goal
+
+abbrev pub invariant-loop-item : goal.invariant-loop-item
+invariant-loop-item g l = l.items.items ≡ first_occurrences g.T.Item.same (filter (is_gained g.T.Item.same l.before l.now) (take l.item-index l.item-items))

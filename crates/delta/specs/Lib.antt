@@ -1,0 +1,12 @@
+pub mod Applied
+pub mod Delta
+pub mod Entries
+pub mod Facts
+pub mod Headers
+pub mod Joined
+pub mod Kept
+pub mod Pairs
+pub mod Parts
+pub mod Rest
+pub mod Told
+pub mod Undone

@@ -1,0 +1,37 @@
+-- Entries, and the elements before and after that they stand for. This project's own, after Excalidraw's history.
+use Rattle.std.specs.Prelude.{◌≡◌, ◌≢◌, ◌⊎◌, ℕ, List, Option, Contains, map}
+use Rattle.elem.specs.Drawn.{Drawn}
+use Rattle.elem.specs.Order.{unstamped}
+use Rattle.delta.specs.Delta.{Delta}
+use Rattle.delta.specs.Facts.{AreParts}
+use Rattle.delta.specs.Parts.{StandsFor, counted}
+
+-- an element as it was before and as it is after
+pub record Pair : Type 0 where
+  pub before : Drawn
+  pub after : Drawn
+
+-- an element with the one before, if there was one; where there was none, it counts as the element, deleted
+abbrev pub pair_with : Option Drawn → Drawn → Pair
+pair_with before e = record { before = counted before e; after = e }
+
+-- the elements, each with the one of its id before
+abbrev pub pairs_from : (List ℕ → Option Drawn) → List Drawn → List Pair
+pairs_from before elements = map (λ (e : Drawn). pair_with (before e.id) e) elements
+
+-- Both are of one kind and differ outside the stamp.
+pub record IsChanged (pair : Pair) : Type 0 where
+  pub kind : pair.before.kind ≡ pair.after.kind
+  pub differ : unstamped pair.before ≢ unstamped pair.after
+
+-- Both are the same outside the stamp, unless their kinds differ.
+abbrev pub IsUnchanged : Pair → Type 0
+IsUnchanged pair = pair.before.kind ≡ pair.after.kind → unstamped pair.before ≡ unstamped pair.after
+
+-- An entry stands for pairs: it has the part of each pair that is changed, and no other one, in the order of their ids.
+pub record EntryStandsFor (parts : List Delta) (pairs : List Pair) : Type 0 where
+  pub ordered : AreParts parts
+  pub each_part : (part : Delta) → Contains parts part
+      → (pair : Pair) × Contains pairs pair × IsChanged pair × StandsFor part pair.before pair.after
+  pub each_pair : (pair : Pair) → Contains pairs pair
+      → IsUnchanged pair ⊎ ((part : Delta) × Contains parts part × StandsFor part pair.before pair.after)

@@ -1,0 +1,41 @@
+//! Laws on parts, for all of them. They do nothing when they run.
+
+ghost use Rattle.std.specs.Prelude.{◌≡◌};
+ghost use Rattle.elem.specs.Drawn.{Drawn};
+ghost use Rattle.elem.specs.Facts.{IsElement};
+ghost use Rattle.elem.specs.Order.{unstamped};
+ghost use Rattle.delta.specs.Applied.{IsApplied};
+ghost use Rattle.delta.specs.Delta.{Delta};
+ghost use Rattle.delta.specs.Parts.{StandsFor, inverse};
+ghost use Rattle.delta.specs.Undone.{IsUndone};
+
+/// Inverting twice is nothing.
+pub fn inverse_of_inverse()
+    ensures { (part : Delta) → inverse (inverse part) ≡ part }
+{}
+
+/// A part makes one element of another one, but for the stamp.
+pub fn applied_is_unique()
+    ensures { (part : Delta) (now result other : Drawn)
+        → IsElement result → IsElement other → part.kind ≡ now.kind
+        → IsApplied part now result → IsApplied part now other → unstamped result ≡ unstamped other }
+{}
+
+/// The difference of two elements makes the new one of the old one, but for the stamp, and its inverse makes the old one of
+/// the new one.
+pub fn difference_leads_on_and_back()
+    ensures on { (part : Delta) (old new result : Drawn)
+        → IsElement old → IsElement new → IsElement result → old.id ≡ new.id → old.kind ≡ new.kind
+        → StandsFor part old new → IsApplied part old result → unstamped result ≡ unstamped new }
+    ensures back { (part : Delta) (old new result : Drawn)
+        → IsElement old → IsElement new → IsElement result → old.id ≡ new.id → old.kind ≡ new.kind
+        → StandsFor part old new → IsApplied (inverse part) new result → unstamped result ≡ unstamped old }
+{}
+
+/// The inverse of a part makes the undone element of any element: what others changed meanwhile stays, but for the members
+/// in which the part's elements differ.
+pub fn inverse_undoes()
+    ensures { (part : Delta) (before after now result : Drawn)
+        → IsElement before → IsElement after → IsElement now → IsElement result
+        → StandsFor part before after → IsApplied (inverse part) now result → IsUndone before after now result }
+{}

@@ -1,0 +1,188 @@
+-- Steps that grow by a part, and the least id that stops one.
+use Rattle.std.proofs.Common.{◌≡◌, ◌⊎◌, ℕ, zero, suc, ◌+◌, ◌<◌, length, take, drop, get_or, take-append-drop, append_assoc, true, List, [], ◌∷◌, ◌++◌, Some, None, IsSome, Contains, refl, sym, ap, ◌∙◌, subst, subst₂, inl, inr, arith}
+use Rattle.std.proofs.lemmas.Bool.{cases_Bool}
+use Rattle.std.proofs.lemmas.List.{map-append, take_more}
+use Rattle.std.proofs.lemmas.List.Elements.{Contains-append_left, Contains-append_right, Contains-append_cases, Contains-push, Contains-push_cases}
+use Rattle.std.proofs.lemmas.Option.{same_Some}
+use Rattle.board_io.specs.declared.stop.Stop.{Stop}
+use Rattle.board_io.specs.declared.stop.Stop.TheVariants.{Fault, Memory}
+use Rattle.frac_keys.specs.Keys.{bytes_less}
+use Rattle.frac_keys.specs.Rising.{are_rising}
+use Rattle.elem.specs.Drawn.{Drawn}
+use Rattle.elem.specs.Order.{unstamped}
+use Rattle.elem_store.specs.Updates.{is_of, element_of}
+use Rattle.elem_store.proofs.Ids.{same_id}
+use Rattle.elem_store.proofs.Lists.{find-Some}
+use Rattle.elem_store.proofs.Rising.{less-other, less-less}
+use Rattle.delta.specs.Applied.{KeepsStamp}
+use Rattle.delta.specs.Delta.{Delta}
+use Rattle.delta.specs.Facts.{part_ids}
+use Rattle.delta.specs.Pairs.{Pair, EntryStandsFor, pair_with, pairs_from}
+use Rattle.delta.specs.Parts.{StandsFor, inverse}
+use Rattle.delta.specs.declared.stamping.VersionFull.{VersionFull}
+use Rattle.delta.proofs.PairLaws.{entry-more, entry-none}
+use Rattle.delta.proofs.PartLaws.{applied-apart}
+use Rattle.delta.proofs.RisingIds.{Contains-map, rising-push, rising-front, earlier_less, later_greater}
+use Rattle.history.specs.Stacks.{OnFull, HasStepped, HasStoredIds, HaveStoredIds}
+use Rattle.history.specs.Steps.{stamped, Reverts, IsNow, IsFull, IsFullId, IsLeastFull, IsStep, ComesOf}
+
+-- with no part nothing changes
+pub step-none : (store : List Drawn) (time nonce : ℕ) → IsStep [] store time nonce [] []
+step-none store time nonce = record {
+  gives = record {
+    ordered = refl;
+    each = λ e c. absurd (omega (arith, c.1));
+    all = λ q c. absurd (omega (arith, c.1));
+  };
+  undoes = entry-none;
+  none_full = λ id full. absurd (omega (arith, full.2.among.1));
+}
+
+-- the id of an element that comes of a part
+came-id : (store : List Drawn) (time nonce : ℕ) (part : Delta) (now reverted e : Drawn) → element_of store part.id ≡ Some now → KeepsStamp now reverted → e ≡ stamped time nonce reverted → part.id ≡ e.id
+came-id store time nonce part now reverted e stored kept is =
+    same_id part.id now (find-Some (is_of part.id) store now stored).1 ∙ sym kept.id ∙ sym (ap (λ (d : Drawn). d.id) is)
+
+module _ (store : List Drawn) (time nonce : ℕ) (parts : List Delta) (given : List Drawn) (made : List Delta) (part : Delta) (now : Drawn) (step : IsStep parts store time nonce given made) (rising : are_rising (part_ids (parts ++ part ∷ [])) ≡ true) (stored : element_of store part.id ≡ Some now) where
+  longer : (q : Delta) (x : Drawn) → IsNow parts store q x → IsNow (parts ++ part ∷ []) store q x
+  longer q x is = record { among = Contains-append_left parts (part ∷ []) q is.among; stored = is.stored }
+
+  own : IsNow (parts ++ part ∷ []) store part now
+  own = record { among = Contains-push parts part; stored = stored }
+
+  -- no id is full where that of the last part isn't
+  none-more : ¬ (IsFull part now) → (id : List ℕ) → ¬ (IsFullId (parts ++ part ∷ []) store id)
+  none-more not id full = elim (Contains-push_cases parts part full.0 full.2.among) [
+    | inl earlier ↦ step.none_full id (full.0, full.1, record { among = earlier; stored = full.2.stored }, full.3, full.4)
+    | inr same ↦
+        not (subst₂ IsFull (sym same) (same_Some full.1 now (sym full.2.stored ∙ ap (λ (q : Delta). element_of store q.id) (sym same) ∙ stored)) full.3)
+  ]
+
+  -- what a longer step says of each part
+  abbrev Comes : List Drawn → Delta → Type 0
+  Comes es q =
+      (x : Drawn) × (reverted : Drawn) × IsNow (parts ++ part ∷ []) store q x × Reverts q x reverted
+      × ((unstamped x ≡ unstamped reverted) ⊎ Contains es (stamped time nonce reverted))
+
+  -- the last part leaves its element as it is
+  pub step-same : ComesOf part now time nonce None → IsStep (parts ++ part ∷ []) store time nonce given made
+  step-same came = record {
+    gives = record {
+      ordered = step.gives.ordered;
+      each = λ e c. let old = step.gives.each e c in (old.0, old.1, old.2, longer old.0 old.1 old.3, old.4, old.5, old.6);
+      all = λ q c. elim (Contains-push_cases parts part q c) [
+        | inl earlier ↦ let old = step.gives.all q earlier in (old.0, old.1, longer q old.0 old.2, old.3, old.4)
+        | inr same ↦ subst (Comes given) same (now, came.0, own, came.1, inl came.2)
+      ];
+    };
+    undoes = step.undoes;
+    none_full = none-more (λ full. applied-apart (inverse part) now came.0 full.0 came.1.is full.1.is came.1.applied full.1.applied (λ same. full.2 (came.2 ∙ same)));
+  }
+
+  -- the last part changes its element
+  module _ (e : Drawn) (p : Delta) (came : ComesOf part now time nonce (Some e)) (difference : StandsFor p now e) where
+    given-less : (g : Drawn) → Contains given g → bytes_less g.id e.id ≡ true
+    given-less g c =
+        let old = step.gives.each g c in
+        subst₂ (λ a b. bytes_less a b ≡ true)
+        (came-id store time nonce old.0 old.1 old.2 g old.3.stored old.4.kept old.6)
+        (came-id store time nonce part now came.0 e stored came.1.kept came.4)
+        (earlier_less (λ (q : Delta). q.id) parts part [] old.0 rising old.3.among)
+
+    made-more : EntryStandsFor (made ++ p ∷ []) (pairs_from (element_of store) (given ++ e ∷ []))
+    made-more =
+        let pairs = pairs_from (element_of store) given in
+        let pair = λ (x : Drawn). pair_with (element_of store x.id) x in
+        let held : element_of store e.id ≡ Some now = ap (element_of store) (sym (came-id store time nonce part now came.0 e stored came.1.kept came.4)) ∙ stored in
+        let less : (other : Pair) → Contains pairs other → bytes_less other.after.id e.id ≡ true = λ other c.
+        let g = Contains-map pair given other c in subst (λ (o : Pair). bytes_less o.after.id e.id ≡ true) g.2 (given-less g.0 g.1) in
+        subst (EntryStandsFor (made ++ p ∷ [])) (ap (λ o. pairs ++ pair_with o e ∷ []) (sym held) ∙ sym (map-append pair given (e ∷ [])))
+        (entry-more made pairs (pair_with (Some now) e) step.undoes p less
+        (record {
+          kind = sym (ap (λ (d : Drawn). d.kind) came.4 ∙ came.1.kept.kind);
+          differ = λ same. came.2 (same ∙ ap unstamped came.4);
+        })
+        difference)
+
+    pub step-more : IsStep (parts ++ part ∷ []) store time nonce (given ++ e ∷ []) (made ++ p ∷ [])
+    step-more = record {
+      gives = record {
+        ordered = rising-push (λ (d : Drawn). d.id) given e given-less step.gives.ordered;
+        each = λ g c. elim (Contains-push_cases given e g c) [
+          | inl earlier ↦ let old = step.gives.each g earlier in (old.0, old.1, old.2, longer old.0 old.1 old.3, old.4, old.5, old.6)
+          | inr same ↦ (part, now, came.0, own, came.1, came.2, sym same ∙ came.4)
+        ];
+        all = λ q c. elim (Contains-push_cases parts part q c) [
+          | inl earlier ↦ let old = step.gives.all q earlier in (
+            old.0,
+            old.1,
+            longer q old.0 old.2,
+            old.3,
+            elim old.4 [
+              | inl same ↦ inl same
+              | inr among ↦ inr (Contains-append_left given (e ∷ []) (stamped time nonce old.1) among)
+            ],
+          )
+          | inr same ↦ subst (Comes (given ++ e ∷ [])) same (now, came.0, own, came.1, inr (subst (Contains (given ++ e ∷ [])) came.4 (Contains-push given e)))
+        ];
+      };
+      undoes = made-more;
+      none_full = none-more (λ full. came.3 full.3);
+    }
+
+-- where the parts before one stop nothing and it does, its id is the least
+pub least-full : (store : List Drawn) (before after : List Delta) (part : Delta) (now : Drawn) → are_rising (part_ids (before ++ part ∷ after)) ≡ true → ((id : List ℕ) → ¬ (IsFullId before store id)) → element_of store part.id ≡ Some now → IsFull part now → IsLeastFull (before ++ part ∷ after) store part.id
+least-full store before after part now rising none stored full = record {
+  full = (part, now, record { among = Contains-append_right before (part ∷ after) part (0, omega arith, refl); stored = stored }, full, refl);
+  least = λ other is. elim (cases_Bool (bytes_less other part.id)) [
+    | inl less ↦ absurd (refuted other is less)
+    | inr not ↦ not
+  ];
+}
+  where
+    behind : (q : Delta) → Contains (part ∷ after) q → bytes_less q.id part.id ≡ true → ⊥
+    behind q (zero, l, same) less = less-other q.id part.id less (ap (λ (d : Delta). d.id) (sym same))
+    behind q (suc k, l, same) less = less-less q.id part.id less (later_greater (λ (d : Delta). d.id) before part after q rising (k, omega arith, same))
+
+    refuted : (other : List ℕ) → IsFullId (before ++ part ∷ after) store other → bytes_less other part.id ≡ true → ⊥
+    refuted other is less = elim (Contains-append_cases before (part ∷ after) is.0 is.2.among) [
+      | inl earlier ↦ none other (is.0, is.1, record { among = earlier; stored = is.2.stored }, is.3, is.4)
+      | inr later ↦ behind is.0 later (subst (λ id. bytes_less id part.id ≡ true) (sym is.4) less)
+    ]
+
+-- the next part of an entry
+pub next-part : (items : List Delta) (i : ℕ) (part : Delta) → i < length items → part ≡ get_or items i part → are_rising (part_ids items) ≡ true
+    → (take (i + 1) items ≡ take i items ++ part ∷ []) × (are_rising (part_ids (take i items ++ part ∷ [])) ≡ true) × (items ≡ take i items ++ part ∷ drop (i + 1) items)
+next-part items i part within here rising =
+    let more : take (i + 1) items ≡ take i items ++ part ∷ [] = take_more items i part within ∙ ap (λ x. take i items ++ x ∷ []) (sym here) in
+    let whole : take (i + 1) items ++ drop (i + 1) items ≡ items = take-append-drop (i + 1) items in
+    let front : are_rising (part_ids (take (i + 1) items)) ≡ true =
+    rising-front (λ (d : Delta). d.id) (take (i + 1) items) (drop (i + 1) items) (subst (λ xs. are_rising (part_ids xs) ≡ true) (sym whole) rising) in (
+      more,
+      subst (λ xs. are_rising (part_ids xs) ≡ true) more front,
+      sym whole ∙ ap (λ xs. xs ++ drop (i + 1) items) more ∙ append_assoc (take i items) (part ∷ []) (drop (i + 1) items),
+    )
+
+-- a fact about the id of a fault that follows from another one
+pub OnFull-weaker : (stop : Stop VersionFull) (P Q : List ℕ → Type 0) → ((id : List ℕ) → P id → Q id) → OnFull stop P → OnFull stop Q
+OnFull-weaker (Fault full) P Q f h = f full.0 h
+OnFull-weaker Memory P Q f h = tt
+
+-- a step keeps that the ids are stored
+pub ids-stored : (store given : List Drawn) (time nonce : ℕ) (from to left grown : List (List Delta)) → HasStepped store time nonce given from to left grown → HaveStoredIds store from → HaveStoredIds store to → HaveStoredIds store left × HaveStoredIds store grown
+ids-stored store given time nonce from to left grown stepped before others = (
+  λ parts among. before parts (subst (λ stack. Contains stack parts) (sym stepped.popped) (Contains-append_left left (stepped.parts ∷ []) parts among)),
+  λ parts among. elim (Contains-push_cases to stepped.made parts (subst (λ stack. Contains stack parts) stepped.pushed among)) [
+    | inl earlier ↦ others parts earlier
+    | inr same ↦ subst (HasStoredIds store) same made
+  ],
+)
+  where
+    made : HasStoredIds store stepped.made
+    made p c =
+        let of = stepped.step.undoes.each_part p c in
+        let g = Contains-map (λ (x : Drawn). pair_with (element_of store x.id) x) given of.0 of.1 in
+        let own = stepped.step.gives.each g.0 g.1 in
+        let id : own.0.id ≡ p.id =
+        came-id store time nonce own.0 own.1 own.2 g.0 own.3.stored own.4.kept own.6 ∙ ap (λ (o : Pair). o.after.id) g.2 ∙ sym of.3.id in
+        subst (λ i. IsSome (element_of store i)) id (subst IsSome (sym own.3.stored) refl)

@@ -1,0 +1,106 @@
+-- What a step makes of the elements that its entry stands for.
+use Rattle.std.proofs.Common.{◌≡◌, ℕ, zero, suc, List, [], ◌∷◌, map, true, Option, Some, None, Contains, refl, sym, ap, ◌∙◌, subst, inl, inr, arith}
+use Rattle.std.proofs.lemmas.Option.{same_Some}
+use Rattle.elem.specs.Drawn.{Drawn}
+use Rattle.elem.specs.Facts.{IsElement}
+use Rattle.elem.specs.Order.{unstamped}
+use Rattle.elem_store.specs.Updates.{is_of, element_of}
+use Rattle.elem_store.proofs.Ids.{same_id}
+use Rattle.elem_store.proofs.Lists.{find-Some}
+use Rattle.delta.specs.Applied.{IsApplied}
+use Rattle.delta.specs.Delta.{Delta}
+use Rattle.delta.specs.Pairs.{Pair, EntryStandsFor, pair_with, pairs_from}
+use Rattle.delta.specs.Parts.{counted, inverse}
+use Rattle.delta.proofs.PartLaws.{undone-from, applied-back}
+use Rattle.history.specs.Steps.{stamped, AreGiven}
+use Rattle.history.specs.Undone.{AreElements, ArePairsOfElements, AreUndone, ComesBack}
+
+among-map : {X Y : Type 0} (f : X → Y) (xs : List X) (x : X) → Contains xs x → Contains (map f xs) (f x)
+among-map f [] x c = absurd (omega (arith, c.1))
+among-map f (y ∷ ys) x (zero, l, e) = (zero, omega arith, ap f e)
+among-map f (y ∷ ys) x (suc k, l, e) = let later = among-map f ys x (k, omega arith, e) in (suc later.0, omega (arith, later.1), later.2)
+
+-- a stored element is an element
+stored-is : (store : List Drawn) (id : List ℕ) (now : Drawn) → AreElements store → element_of store id ≡ Some now → IsElement now
+stored-is store id now are stored = are now (find-Some (is_of id) store now stored).0
+
+module _ (parts : List Delta) (store given : List Drawn) (time nonce : ℕ) (are : AreElements store) (gives : AreGiven parts store time nonce given) where
+  pub undone-pairs : (pairs : List Pair) → EntryStandsFor parts pairs → ArePairsOfElements pairs → AreUndone pairs store time nonce given
+  undone-pairs pairs stands elements = record {
+    ordered = gives.ordered;
+    each = λ e c.
+        let own = gives.each e c in
+        let of = stands.each_part own.0 own.3.among in
+        let both = elements of.0 of.1 in (
+          of.0,
+          own.1,
+          own.2,
+          record {
+            among = of.1;
+            stored = ap (element_of store) (sym of.3.id) ∙ own.3.stored;
+            undoes = undone-from own.0 of.0.before of.0.after both.0 both.1 of.3 own.1 own.2 (stored-is store own.0.id own.1 are own.3.stored) own.4.is own.4.applied;
+          },
+          own.5,
+          own.6,
+        );
+    all = λ pair c. elim (stands.each_pair pair c) [
+      | inl same ↦ inl same
+      | inr of ↦
+          let own = gives.all of.0 of.1 in
+          let both = elements pair c in
+          inr (
+            own.0,
+            own.1,
+            record {
+              among = c;
+              stored = ap (element_of store) (sym of.2.id) ∙ own.2.stored;
+              undoes = undone-from of.0 pair.before pair.after both.0 both.1 of.2 own.0 own.1 (stored-is store of.0.id own.0 are own.2.stored) own.3.is own.3.applied;
+            },
+            own.4,
+          )
+    ];
+  }
+
+  -- an element that isn't deleted any more is one too, and so is a deleted one
+  deleted-is : (e : Drawn) → IsElement e → IsElement (record e { deleted = true })
+  deleted-is e is = record {
+    named = is.named;
+    version = is.version;
+    nonce = is.nonce;
+    updated = is.updated;
+    kind = is.kind;
+    container = is.container;
+    start_binding = is.start_binding;
+    end_binding = is.end_binding;
+    file = is.file;
+    rise = is.rise;
+    free = is.free;
+    nest = is.nest;
+  }
+
+  counted-is : (o : Option Drawn) (now : Drawn) → IsElement now → ((e : Drawn) → o ≡ Some e → IsElement e) → IsElement (counted o now)
+  counted-is None now is each = deleted-is now is
+  counted-is (Some e) now is each = each e refl
+
+  counted-id : (old : List Drawn) (now : Drawn) (o : Option Drawn) → element_of old now.id ≡ o → (counted o now).id ≡ now.id
+  counted-id old now None h = refl
+  counted-id old now (Some e) h = sym (same_id now.id e (find-Some (is_of now.id) old e h).1)
+
+  pub brought-back : (old : List Drawn) (now : Drawn) → EntryStandsFor parts (pairs_from (element_of old) store) → AreElements old → element_of store now.id ≡ Some now → (counted (element_of old now.id) now).kind ≡ now.kind → ComesBack given now (counted (element_of old now.id) now)
+  brought-back old now stands olds stored kind =
+      let before = counted (element_of old now.id) now in
+      let is = stored-is store now.id now are stored in
+      let is' = counted-is (element_of old now.id) now is (λ e h. stored-is old now.id e olds h) in
+      let pair = λ (x : Drawn). pair_with (element_of old x.id) x in
+      elim (stands.each_pair (pair now) (among-map pair store now (find-Some (is_of now.id) store now stored).0)) [
+        | inl same ↦ inl (sym (same kind))
+        | inr of ↦
+            let own = gives.all of.0 of.1 in
+            let one : own.0 ≡ now = same_Some own.0 now (sym own.2.stored ∙ ap (element_of store) of.2.id ∙ stored) in
+            let back : unstamped own.1 ≡ unstamped before =
+            applied-back of.0 before now is' is of.2 own.1 own.3.is (counted-id old now (element_of old now.id) refl) kind (subst (λ x. IsApplied (inverse of.0) x own.1) one own.3.applied) in
+            elim own.4 [
+              | inl same ↦ inl (ap unstamped (sym one) ∙ same ∙ back)
+              | inr among ↦ inr (stamped time nonce own.1, among, own.3.kept.id ∙ ap (λ (x : Drawn). x.id) one, back)
+            ]
+      ]

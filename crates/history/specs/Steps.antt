@@ -1,0 +1,69 @@
+-- One step: an entry is taken back from the stored elements. This project's own, after Excalidraw's history.
+use Rattle.std.specs.Prelude.{◌≡◌, ◌≢◌, ◌⊎◌, ℕ, ◌+◌, List, true, false, Option, Some, None, Contains}
+use Rattle.frac_keys.specs.Keys.{bytes_less}
+use Rattle.frac_keys.specs.Rising.{are_rising}
+use Rattle.elem.specs.Drawn.{Drawn}
+use Rattle.elem.specs.Facts.{IsElement, greatest_whole}
+use Rattle.elem.specs.Order.{unstamped}
+use Rattle.elem_store.specs.Updates.{element_of, ids_of}
+use Rattle.delta.specs.Applied.{IsApplied, KeepsStamp}
+use Rattle.delta.specs.Delta.{Delta}
+use Rattle.delta.specs.Pairs.{EntryStandsFor, pairs_from}
+use Rattle.delta.specs.Parts.{inverse}
+
+-- an element with its version raised by one, and with this time and nonce
+abbrev pub stamped : ℕ → ℕ → Drawn → Drawn
+stamped time nonce e = record e { version = e.version + 1; nonce = nonce; updated = time }
+
+-- The inverse of a part makes this element of another one.
+pub record Reverts (part : Delta) (now reverted : Drawn) : Type 0 where
+  pub is : IsElement reverted
+  pub kept : KeepsStamp now reverted
+  pub applied : IsApplied (inverse part) now reverted
+
+-- the two differ outside the stamp
+abbrev pub Differ : Drawn → Drawn → Type 0
+Differ now reverted = unstamped now ≢ unstamped reverted
+
+-- This is the stored element of the id of an entry's part.
+pub record IsNow (parts : List Delta) (store : List Drawn) (part : Delta) (now : Drawn) : Type 0 where
+  pub among : Contains parts part
+  pub stored : element_of store part.id ≡ Some now
+
+-- The elements that a step gives: of each part's id what the inverse of the part makes of the stored element, stamped, if it
+-- differs; in the order of their ids.
+pub record AreGiven (parts : List Delta) (store : List Drawn) (time nonce : ℕ) (given : List Drawn) : Type 0 where
+  pub ordered : are_rising (ids_of given) ≡ true
+  pub each : (e : Drawn) → Contains given e
+      → (part : Delta) × (now : Drawn) × (reverted : Drawn)
+      × IsNow parts store part now × Reverts part now reverted × Differ now reverted × (e ≡ stamped time nonce reverted)
+  pub all : (part : Delta) → Contains parts part
+      → (now : Drawn) × (reverted : Drawn)
+      × IsNow parts store part now × Reverts part now reverted
+      × ((unstamped now ≡ unstamped reverted) ⊎ Contains given (stamped time nonce reverted))
+
+-- The stored element would change, and stands at the greatest version.
+abbrev pub IsFull : Delta → Drawn → Type 0
+IsFull part now = (reverted : Drawn) × Reverts part now reverted × Differ now reverted × (now.version ≡ greatest_whole)
+
+-- the stored element of this id would change, and stands at the greatest version
+abbrev pub IsFullId : List Delta → List Drawn → List ℕ → Type 0
+IsFullId parts store id = (part : Delta) × (now : Drawn) × IsNow parts store part now × IsFull part now × (part.id ≡ id)
+
+-- It is the least of such ids.
+pub record IsLeastFull (parts : List Delta) (store : List Drawn) (id : List ℕ) : Type 0 where
+  pub full : IsFullId parts store id
+  pub least : (other : List ℕ) → IsFullId parts store other → bytes_less other id ≡ false
+
+-- The step that takes an entry back gives these elements, and another entry is that of their changes. No version is full.
+pub record IsStep (parts : List Delta) (store : List Drawn) (time nonce : ℕ) (given : List Drawn) (made : List Delta) : Type 0 where
+  pub gives : AreGiven parts store time nonce given
+  pub undoes : EntryStandsFor made (pairs_from (element_of store) given)
+  pub none_full : (id : List ℕ) → ¬ (IsFullId parts store id)
+
+-- What comes of one part: nothing where the stored element stays, and else its new version.
+abbrev pub ComesOf : Delta → Drawn → ℕ → ℕ → Option Drawn → Type 0
+ComesOf part now time nonce None = (reverted : Drawn) × Reverts part now reverted × (unstamped now ≡ unstamped reverted)
+ComesOf part now time nonce (Some e) =
+    (reverted : Drawn) × Reverts part now reverted × Differ now reverted
+    × (now.version ≢ greatest_whole) × (e ≡ stamped time nonce reverted)

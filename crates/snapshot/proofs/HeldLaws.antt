@@ -1,0 +1,135 @@
+-- Elements in the order of their ids: where an id is found among them, and what they are once an element is put.
+use Rattle.std.proofs.Common.{◌≡◌, ℕ, ◌+◌, ◌<◌, ◌≤◌, Bool, true, false, cond, ◌&&◌, List, length, get_or, set, Option, Some, None, Result, Ok, Err, Ordering, Greater, IfOk, IfErr, IfSome, slice_get, insert, is_lt, nat_cmp, bytes_eq, refl, sym, ap, ◌∙◌, subst, inl, inr, length-set, length-take, length-drop, get_or-set_same, arith}
+use Rattle.std.specs.Cmp.Lexicographic.{slice_cmp}
+use Rattle.std.specs.List.Sorted.{IsBinarySearchResult, IsSearchInRange}
+use Rattle.std.specs.Ordering.{ordering_reverse}
+use Rattle.std.proofs.lemmas.Bool.{cases_Bool, cond-true, cond-false, false_from_ne_true}
+use Rattle.std.proofs.lemmas.Cmp.{nat_list_cmp_total}
+use Rattle.std.proofs.lemmas.List.{get_or-take, get_or-drop}
+use Rattle.std.proofs.lemmas.List.Folds.{find_past}
+use Rattle.std.proofs.lemmas.List.Sorted.{searchable_from_sorted}
+use Rattle.std.proofs.lemmas.Map.Lookups.{exact_bytes}
+use Rattle.std.proofs.lemmas.Option.{none-some, same_Some, slice_get_within, get_or_from_slice_get}
+use Rattle.frac_keys.specs.Keys.{bytes_less}
+use Rattle.frac_keys.specs.Rising.{are_rising}
+use Rattle.elem.specs.Drawn.{Drawn}
+use Rattle.elem.specs.Facts.{IsElement}
+use Rattle.delta.specs.Applied.{IsApplied, KeepsStamp}
+use Rattle.delta.specs.Delta.{Delta}
+use Rattle.delta.specs.Parts.{StandsFor}
+use Rattle.elem_store.specs.Places.{IsAt, IsGapFor}
+use Rattle.elem_store.specs.Updates.{is_of, element_of, ids_of}
+use Rattle.elem_store.proofs.Edits.{ids-set, is_taken-gap, HasTaken-insert}
+use Rattle.elem_store.proofs.Ids.{same_id, of_same}
+use Rattle.elem_store.proofs.Lists.{find-Some}
+use Rattle.elem_store.proofs.Placed.{some_within}
+use Rattle.elem_store.proofs.Rising.{member, earlier_less, less-less}
+use Rattle.snapshot.specs.Carried.{IsCarried, HasCarried, HasPut}
+
+-- how the id of an element compares with an id
+abbrev pub order_of : List ℕ → Drawn → Ordering
+order_of id e = slice_cmp nat_cmp e.id id
+
+module _ (elements : List Drawn) (rising : are_rising (ids_of elements) ≡ true) where
+  -- a search by id ends at the id, or at the gap for it
+  pub searched : (id : List ℕ) (r : Result ℕ ℕ) → IsSearchInRange r (length elements) → IsBinarySearchResult (order_of id) elements r → IfOk r (IsAt elements id) × IfErr r (IsGapFor elements id)
+  searched id (Ok i) in_range equal =
+      let x = some_within elements i in_range in
+      (rw x.1 (exact_bytes x.0.id id (ap (order_of id) (sym (get_or_from_slice_get elements i x.0 x.0 x.1)) ∙ equal x.0)), tt)
+  searched id (Err i) in_range parted =
+      let sorted = λ (k : ℕ) (d : Drawn) (low : 0 ≤ k) (m : k + 1 < length elements). false_from_ne_true (bytes_less (get_or elements (k + 1) d).id (get_or elements k d).id)
+      (less-less (get_or elements k d).id (get_or elements (k + 1) d).id (earlier_less None None elements k (k + 1) d rising (omega arith) m)) in
+      let parts = parted (searchable_from_sorted nat_list_cmp_total (λ (e : Drawn). e.id) elements id sorted) in (
+        tt,
+        record {
+          in_range = in_range;
+          less_before = λ k d l.
+              let m : k < i = omega (arith, length-take i elements) in
+              rw (get_or-take i elements k d m) (ap is_lt (parts.0 k d (omega arith) m));
+          greater_after = λ k d l.
+              let m : i + k < length elements = omega (arith, length-drop i elements) in
+              rw (get_or-drop i elements k d) (greater (get_or elements (i + k) d).id id (parts.1 (i + k) d (omega arith) m));
+        },
+      )
+    where
+      greater : (a b : List ℕ) → slice_cmp nat_cmp a b ≡ Greater → bytes_less b a ≡ true
+      greater a b h = ap is_lt (nat_list_cmp_total.antisymm b a ∙ ap ordering_reverse h)
+
+  -- the element in the place of the one of its id
+  pub HasPut-set : (e : Drawn) (i : ℕ) (x : Drawn) → slice_get elements i ≡ Some x → x.id ≡ e.id → HasPut elements e (set elements i e)
+  HasPut-set e i x at same = record { ordered = ordered; each = each }
+    where
+      within : i < length elements
+      within = slice_get_within elements i x at
+
+      ordered : are_rising (ids_of (set elements i e)) ≡ true
+      ordered = ap are_rising (ids-set elements rising e i x at same) ∙ rising
+
+      each : (id : List ℕ) → element_of (set elements i e) id ≡ cond (is_of id e) (Some e) (element_of elements id)
+      each id = elim (cases_Bool (is_of id e)) [
+        | inl t ↦ ap (element_of (set elements i e)) (same_id id e t)
+            ∙ member None None (set elements i e) e ordered (i, rw (length-set elements i e) within, get_or-set_same elements i e e within)
+            ∙ sym (cond-true (is_of id e) (Some e) (element_of elements id) t)
+        | inr f ↦ find_past (is_of id) elements i e e (ap (is_of id) (get_or_from_slice_get elements i x e at) ∙ ap (bytes_eq id) same ∙ f) f
+            ∙ sym (cond-false (is_of id e) (Some e) (element_of elements id) f)
+      ]
+
+  -- a new one in the gap for its id
+  pub HasPut-insert : (e : Drawn) (i : ℕ) → IsGapFor elements e.id i → HasPut elements e (insert elements i e)
+  HasPut-insert e i gap =
+      let taken = HasTaken-insert elements e i rising gap in
+      record {
+        ordered = taken.ordered;
+        each = λ id. taken.each id ∙ ap (λ b. cond (is_of id e && b) (Some e) (element_of elements id)) (is_taken-gap elements e i gap) ∙ own (is_of id e) (element_of elements id);
+      }
+    where
+      own : (b : Bool) (o : Option Drawn) → cond (b && true) (Some e) o ≡ cond b (Some e) o
+      own true o = refl
+      own false o = refl
+
+  -- nothing comes where nothing is held
+  pub HasCarried-absent : (old new : Drawn) → old.kind ≡ new.kind → element_of elements new.id ≡ None → HasCarried elements (Some old) new elements
+  HasCarried-absent old new kind none = record {
+    ordered = rising;
+    own = record {
+      created = λ e. absurd (none-some old (sym e));
+      other_kind = λ stored e other. absurd (other (ap (λ (x : Drawn). x.kind) (sym (same_Some old stored e)) ∙ kind));
+      absent = λ stored e same held. none;
+      changed = λ stored x e same held. absurd (none-some x (sym none ∙ held));
+    };
+    others = λ id f. refl;
+  }
+
+-- an element that was put is carried
+pub HasCarried-put : (before : List Drawn) (old : Option Drawn) (new e : Drawn) (after : List Drawn) → HasPut before e after → e.id ≡ new.id → IsCarried (element_of before new.id) old new (Some e) → HasCarried before old new after
+HasCarried-put before old new e after put id carried = record {
+  ordered = put.ordered;
+  own = subst (IsCarried (element_of before new.id) old new) (sym (put.each new.id ∙ cond-true (is_of new.id e) (Some e) (element_of before new.id) (of_same new.id e (sym id)))) carried;
+  others = λ other f. put.each other ∙ cond-false (is_of other e) (Some e) (element_of before other) (ap (bytes_eq other) id ∙ f);
+}
+
+-- an element that is found has the id
+pub found-id : (elements : List Drawn) (id : List ℕ) (o : Option Drawn) → o ≡ element_of elements id → IfSome o (λ old. old.id ≡ id)
+found-id elements id None h = tt
+found-id elements id (Some e) h = sym (same_id id e (find-Some (is_of id) elements e (sym h)).1)
+
+-- a held element is led as the stored one was
+pub HasCarried-led : (before : List Drawn) (old new held e : Drawn) (after : List Drawn) (part : Delta) → HasPut before e after → old.kind ≡ new.kind → Some held ≡ element_of before new.id → IsElement e → KeepsStamp held e → StandsFor part old new → IsApplied part held e → HasCarried before (Some old) new after
+HasCarried-led before old new held e after part put kind found is kept stands applied =
+    HasCarried-put before (Some old) new e after put (kept.id ∙ found-id before new.id (Some held) found) (record {
+      created = λ none. absurd (none-some old (sym none));
+      other_kind = λ stored same other. absurd (other (ap (λ (x : Drawn). x.kind) (sym (same_Some old stored same)) ∙ kind));
+      absent = λ stored same kinds none. absurd (none-some held (sym (found ∙ none)));
+      changed = λ stored x same kinds some. (
+        e,
+        record {
+          is = is;
+          applied = (
+            part,
+            subst (λ o. StandsFor part o new) (same_Some old stored same) stands,
+            subst (λ h. IsApplied part h e) (same_Some held x (found ∙ some)) applied,
+          );
+        },
+        refl,
+      );
+    })

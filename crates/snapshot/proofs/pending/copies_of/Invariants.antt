@@ -1,0 +1,11 @@
+-- The first elements are copied, and the ids rise if there is one.
+use Rattle.std.proofs.Common.{◌≡◌, ◌<◌, true, take}
+use Rattle.frac_keys.specs.Rising.{are_rising}
+use Rattle.elem_store.specs.Updates.{ids_of}
+use Rattle.snapshot.proofs.pending.copies_of.Given as goal
+
+abbrev pub invariant-loop-i : goal.invariant-loop-i
+invariant-loop-i l = record {
+  made : l.copies.items ≡ take l.i l.store;
+  ordered : 0 < l.i → are_rising (ids_of l.store) ≡ true;
+}

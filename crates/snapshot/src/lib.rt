@@ -1,0 +1,8 @@
+//! What the elements of a board were when they were last captured, and what has changed since.
+#![tactic(auto)]
+
+mod held;
+mod pending;
+mod snapshot;
+
+pub use snapshot::Snapshot;

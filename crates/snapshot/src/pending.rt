@@ -1,0 +1,88 @@
+//! What has changed from some elements to those that are stored.
+
+ghost use Rattle.std.specs.Prelude.{◌≡◌, ◌++◌, [], ◌∷◌, true, false, List as Items, option_copied, Contains, IfOk, IfSome, OnOk, IsTrue, ◌↔◌};
+ghost use Rattle.frac_keys.specs.Keys.{bytes_less};
+ghost use Rattle.frac_keys.specs.Rising.{are_rising};
+ghost use Rattle.delta.specs.Facts.{part_ids};
+ghost use Rattle.delta.specs.Pairs.{Pair, IsChanged, IsUnchanged, EntryStandsFor, pair_with};
+ghost use Rattle.elem_store.specs.Updates as updates;
+ghost use Rattle.snapshot.specs.Pending.{pairs_since};
+
+use crate::held::find;
+use delta::{Part, are_one_kind, difference};
+use elem::{Element, same_but_stamp};
+use elem_store::Store;
+use scene_json::Text;
+use std::alloc::{AllocError, Global};
+
+/// The parts from the elements to the stored ones.
+pub(crate) fn parts_since(
+    alloc: Global,
+    elements: &Vec<Element>,
+    store: &Store,
+) -> Result<Vec<Part>, AllocError>
+    requires { are_rising (updates.ids_of elements.now.items) ≡ true }
+    ensures { IfOk result (λ parts. EntryStandsFor parts.items (pairs_since elements.now.items store.now)) }
+{
+    let mut parts = Vec::new(alloc);
+    for i in 0..store.len() {
+        if let Some(e) = store.at(i) {
+            note(alloc, &mut parts, find(elements, &e.id), e)?;
+        }
+    }
+    Ok(parts)
+}
+
+/// Adds the part from an element, if there was one, to a new one of a greater id, if it has changed.
+fn note(
+    alloc: Global,
+    parts: &mut Vec<Part>,
+    old: Option<&Element>,
+    new: &Element,
+) -> Result<(), AllocError>
+    requires { IfSome (option_copied old) (λ old. old.id ≡ new.now.id) }
+    ensures { (pairs : Items Pair) → EntryStandsFor parts.old.items pairs
+        → ((pair : Pair) → Contains pairs pair → bytes_less pair.after.id new.now.id ≡ true)
+        → OnOk result (EntryStandsFor parts.new.items (pairs ++ pair_with (option_copied old.entry) new.now ∷ [])) }
+{
+    if has_changed(old, new) {
+        parts.push(difference(alloc, old, new)?)?;
+    }
+    Ok(())
+}
+
+/// Whether an element has changed, outside the stamp and without a change of its kind.
+fn has_changed(old: Option<&Element>, new: &Element) -> bool
+    ensures changed { IsTrue result ↔ IsChanged (pair_with (option_copied old.entry) new.now) }
+    ensures unchanged { result ≡ false → IsUnchanged (pair_with (option_copied old.entry) new.now) }
+{
+    match old {
+        Some(old) => are_one_kind(&old.kind, &new.kind) && !same_but_stamp(old, new),
+        None => !new.deleted,
+    }
+}
+
+/// The ids of the parts.
+pub(crate) fn ids_of(alloc: Global, parts: &Vec<Part>) -> Result<Vec<Text>, AllocError>
+    ensures { IfOk result (λ ids. ids.items ≡ part_ids parts.now.items) }
+{
+    let mut ids = Vec::new(alloc);
+    for part in parts.as_slice() {
+        ids.push(part.id.try_clone()?)?;
+    }
+    Ok(ids)
+}
+
+/// The stored elements, copied.
+pub(crate) fn copies_of(alloc: Global, store: &Store) -> Result<Vec<Element>, AllocError>
+    ensures exact { IfOk result (λ copies. copies.items ≡ store.now) }
+    ensures ordered { IfOk result (λ copies. are_rising (updates.ids_of copies.items) ≡ true) }
+{
+    let mut copies = Vec::new(alloc);
+    for i in 0..store.len() {
+        if let Some(e) = store.at(i) {
+            copies.push(e.try_clone()?)?;
+        }
+    }
+    Ok(copies)
+}
