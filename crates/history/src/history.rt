@@ -74,12 +74,12 @@ impl History {
     pub fn undo(&mut self, store: &Store, time: u64, nonce: u64) -> Result<Step, Stop<VersionFull>>
         requires time { time ≤ greatest_whole }
         requires nonce { nonce ≤ greatest_whole }
-        requires stored { HaveStoredIds store.now self.old.undo }
+        requires stored { HaveStoredIds store.now.elements self.old.undo }
 
         ensures done { (given : Items Drawn) → result ≡ Ok (Step.Done given)
-            → HasStepped store.now time nonce given self.old.undo self.old.redo self.new.undo self.new.redo }
+            → HasStepped store.now.elements time nonce given self.old.undo self.old.redo self.new.undo self.new.redo }
         ensures nothing { (result ≡ Ok Step.Nothing) ↔ (self.old.undo ≡ []) }
-        ensures full { IfErr result (λ stop. OnFull stop (StopsAt store.now self.old.undo)) }
+        ensures full { IfErr result (λ stop. OnFull stop (StopsAt store.now.elements self.old.undo)) }
 
         ensures nothing_kept { result ≡ Ok Step.Nothing → self.new ≡ self.old }
         ensures err { OnErr result (self.new ≡ self.old) }
@@ -91,12 +91,12 @@ impl History {
     pub fn redo(&mut self, store: &Store, time: u64, nonce: u64) -> Result<Step, Stop<VersionFull>>
         requires time { time ≤ greatest_whole }
         requires nonce { nonce ≤ greatest_whole }
-        requires stored { HaveStoredIds store.now self.old.redo }
+        requires stored { HaveStoredIds store.now.elements self.old.redo }
 
         ensures done { (given : Items Drawn) → result ≡ Ok (Step.Done given)
-            → HasStepped store.now time nonce given self.old.redo self.old.undo self.new.redo self.new.undo }
+            → HasStepped store.now.elements time nonce given self.old.redo self.old.undo self.new.redo self.new.undo }
         ensures nothing { (result ≡ Ok Step.Nothing) ↔ (self.old.redo ≡ []) }
-        ensures full { IfErr result (λ stop. OnFull stop (StopsAt store.now self.old.redo)) }
+        ensures full { IfErr result (λ stop. OnFull stop (StopsAt store.now.elements self.old.redo)) }
 
         ensures nothing_kept { result ≡ Ok Step.Nothing → self.new ≡ self.old }
         ensures err { OnErr result (self.new ≡ self.old) }

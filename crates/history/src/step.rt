@@ -36,12 +36,12 @@ pub(crate) fn take_back(
 ) -> Result<Step, Stop<VersionFull>>
     requires time { time ≤ greatest_whole }
     requires nonce { nonce ≤ greatest_whole }
-    requires stored { HaveStoredIds store.now from.old.items }
+    requires stored { HaveStoredIds store.now.elements from.old.items }
 
     ensures done { (given : Items Drawn) → result ≡ Ok (Step.Done given)
-        → HasStepped store.now time nonce given from.old.items to.old.items from.new.items to.new.items }
+        → HasStepped store.now.elements time nonce given from.old.items to.old.items from.new.items to.new.items }
     ensures nothing { (result ≡ Ok Step.Nothing) ↔ (from.old.items ≡ []) }
-    ensures full { IfErr result (λ stop. OnFull stop (StopsAt store.now from.old.items)) }
+    ensures full { IfErr result (λ stop. OnFull stop (StopsAt store.now.elements from.old.items)) }
 
     ensures from_kept { result ≡ Ok Step.Nothing → from.new.items ≡ from.old.items }
     ensures to_kept { result ≡ Ok Step.Nothing → to.new.items ≡ to.old.items }
@@ -75,9 +75,9 @@ fn planned(
 ) -> Result<Plan, Stop<VersionFull>>
     requires time { time ≤ greatest_whole }
     requires nonce { nonce ≤ greatest_whole }
-    requires stored { HasStoredIds store.now entry.now }
-    ensures ok { IfOk result (λ plan. IsStep entry.now store.now time nonce plan.given plan.made) }
-    ensures full { IfErr result (λ stop. OnFull stop (λ id. IsLeastFull entry.now store.now id)) }
+    requires stored { HasStoredIds store.now.elements entry.now }
+    ensures ok { IfOk result (λ plan. IsStep entry.now store.now.elements time nonce plan.given plan.made) }
+    ensures full { IfErr result (λ stop. OnFull stop (λ id. IsLeastFull entry.now store.now.elements id)) }
 {
     let mut given = Vec::new(alloc);
     let mut made = Vec::new(alloc);

@@ -22,7 +22,7 @@ pub(crate) fn parts_since(
     store: &Store,
 ) -> Result<Vec<Part>, AllocError>
     requires { are_rising (updates.ids_of elements.now.items) ≡ true }
-    ensures { IfOk result (λ parts. EntryStandsFor parts.items (pairs_since elements.now.items store.now)) }
+    ensures { IfOk result (λ parts. EntryStandsFor parts.items (pairs_since elements.now.items store.now.elements)) }
 {
     let mut parts = Vec::new(alloc);
     for i in 0..store.len() {
@@ -75,7 +75,7 @@ pub(crate) fn ids_of(alloc: Global, parts: &Vec<Part>) -> Result<Vec<Text>, Allo
 
 /// The stored elements, copied.
 pub(crate) fn copies_of(alloc: Global, store: &Store) -> Result<Vec<Element>, AllocError>
-    ensures exact { IfOk result (λ copies. copies.items ≡ store.now) }
+    ensures exact { IfOk result (λ copies. copies.items ≡ store.now.elements) }
     ensures ordered { IfOk result (λ copies. are_rising (updates.ids_of copies.items) ≡ true) }
 {
     let mut copies = Vec::new(alloc);

@@ -49,8 +49,8 @@ impl Snapshot {
     /// The entry of what has changed since the last capture: the parts from the elements of the snapshot to the stored
     /// ones. The snapshot then has the stored elements; for want of memory it is unchanged.
     pub fn capture(&mut self, store: &Store) -> Result<Entry, AllocError>
-        ensures entry { IfOk result (λ entry. EntryStandsFor entry (pairs_since self.old store.now)) }
-        ensures ok { OnOk result (self.new ≡ store.now) }
+        ensures entry { IfOk result (λ entry. EntryStandsFor entry (pairs_since self.old store.now.elements)) }
+        ensures ok { OnOk result (self.new ≡ store.now.elements) }
         ensures err { OnErr result (self.new ≡ self.old) }
     {
         let alloc = *self.elements.allocator();
@@ -102,7 +102,7 @@ impl Snapshot {
     /// The ids of the elements that have changed since the last capture: those of the parts that a capture would give.
     pub fn pending(&self, store: &Store) -> Result<List<Text>, AllocError>
         ensures { IfOk result (λ ids. (parts : Items Delta)
-            × EntryStandsFor parts (pairs_since self.now store.now) × (ids ≡ part_ids parts)) }
+            × EntryStandsFor parts (pairs_since self.now store.now.elements) × (ids ≡ part_ids parts)) }
     {
         let alloc = *self.elements.allocator();
         let parts = parts_since(alloc, &self.elements, store)?;

@@ -11,7 +11,7 @@ use Rattle.snapshot.proofs.pending.copies_of.Goals.{in-Some+in_ok-try_clone+in_o
 
 pub loop-i-preserved : goal.loop-i-preserved
 loop-i-preserved c =
-    let store = c.args.store.now in
+    let store = c.args.store.now.elements in
     let i = c.loop-i.i in
     record {
       made = elim c.match-at.branch [
@@ -27,9 +27,9 @@ loop-i-preserved c =
     }
 
 pub returns-clause-exact : goal.returns-clause-exact
-returns-clause-exact c = c.loop-i.invariant.made ∙ take_all c.loop-i.i c.args.store.now (omega (arith, c.len-i-end.ensures))
+returns-clause-exact c = c.loop-i.invariant.made ∙ take_all c.loop-i.i c.args.store.now.elements (omega (arith, c.len-i-end.ensures))
 
 pub returns-clause-ordered : goal.returns-clause-ordered
 returns-clause-ordered c =
-    ap (λ es. are_rising (ids_of es)) (c.loop-i.invariant.made ∙ take_all c.loop-i.i c.args.store.now (omega (arith, c.len-i-end.ensures)))
-    ∙ rising c.args.store.now (λ some. c.loop-i.invariant.ordered (omega (arith, c.len-i-end.ensures)))
+    ap (λ es. are_rising (ids_of es)) (c.loop-i.invariant.made ∙ take_all c.loop-i.i c.args.store.now.elements (omega (arith, c.len-i-end.ensures)))
+    ∙ rising c.args.store.now.elements (λ some. c.loop-i.invariant.ordered (omega (arith, c.len-i-end.ensures)))

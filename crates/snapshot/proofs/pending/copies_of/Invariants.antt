@@ -6,6 +6,6 @@ use Rattle.snapshot.proofs.pending.copies_of.Given as goal
 
 abbrev pub invariant-loop-i : goal.invariant-loop-i
 invariant-loop-i l = record {
-  made : l.copies.items ≡ take l.i l.store;
-  ordered : 0 < l.i → are_rising (ids_of l.store) ≡ true;
+  made : l.copies.items ≡ take l.i l.store.elements;
+  ordered : 0 < l.i → are_rising (ids_of l.store.elements) ≡ true;
 }

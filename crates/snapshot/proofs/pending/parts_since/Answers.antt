@@ -19,7 +19,7 @@ note-requires c = found-id c.args.elements.now.items c.in-Some.e.now.id (option_
 pub loop-i-preserved : goal.loop-i-preserved
 loop-i-preserved c =
     let elements = c.args.elements.now.items in
-    let store = c.args.store.now in
+    let store = c.args.store.now.elements in
     let i = c.loop-i.i in
     elim c.match-at.branch [
       | in-Some+in_ok-note w ↦
@@ -34,4 +34,4 @@ loop-i-preserved c =
 
 pub returns : goal.returns
 returns c =
-    subst (λ es. EntryStandsFor c.loop-i.parts.items (pairs_since c.args.elements.now.items es)) (take_all c.loop-i.i c.args.store.now (omega (arith, c.len-i-end.ensures))) c.loop-i.invariant
+    subst (λ es. EntryStandsFor c.loop-i.parts.items (pairs_since c.args.elements.now.items es)) (take_all c.loop-i.i c.args.store.now.elements (omega (arith, c.len-i-end.ensures))) c.loop-i.invariant

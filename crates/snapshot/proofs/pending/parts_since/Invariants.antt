@@ -5,4 +5,4 @@ use Rattle.snapshot.specs.Pending.{pairs_since}
 use Rattle.snapshot.proofs.pending.parts_since.Given as goal
 
 abbrev pub invariant-loop-i : goal.invariant-loop-i
-invariant-loop-i l = EntryStandsFor l.parts.items (pairs_since l.elements.items (take l.i l.store))
+invariant-loop-i l = EntryStandsFor l.parts.items (pairs_since l.elements.items (take l.i l.store.elements))
