@@ -196,9 +196,9 @@ high_letter : (b : ℕ) → 192 ≤ b → letter_meaning b ≡ 0
 high_letter b h = grind arith
 
 -- the machine is between two characters of a string
-abbrev pub IsPlain : Mode → Type 0
-IsPlain (Quoted r Plain) = Unit {0}
-IsPlain m = ⊥
+abbrev pub IsBetween : Mode → Type 0
+IsBetween (Quoted r Plain) = Unit {0}
+IsBetween m = ⊥
 
 -- No escape may come, even after zeros.
 abbrev pub IsOutside : Mode → Type 0
@@ -244,7 +244,7 @@ module _ (b : ℕ) (strange : IsStrange b) where
   outside_moved (Word letters) top h = rw (strange_word letters b strange) tt
 
 -- only between two characters does the machine go on with a byte that begins a sequence
-pub high_moved : (b : ℕ) → 192 ≤ b → (m : Mode) (top : Option Bracket) → (IsPlain m → ⊥) → OnMove (λ m. ⊥) (moved m top b)
+pub high_moved : (b : ℕ) → 192 ≤ b → (m : Mode) (top : Option Bracket) → (IsBetween m → ⊥) → OnMove (λ m. ⊥) (moved m top b)
 high_moved b high (Quoted r Plain) top no_plain = absurd (no_plain tt)
 high_moved b high (Quoted r Escape) top no_plain = rw (ne_eqb b 117 (λ e. omega arith), high_letter b high) tt
 high_moved b high (Quoted r (Hex more)) top no_plain = rw (high_hex b high) tt

@@ -7,7 +7,7 @@ use Rattle.scene_json.specs.Characters.{is_space}
 use Rattle.scene_json.specs.Tree.{Piece, IsPiece, piece_spelling, string_spelling, Container, array, object, opening, closing, Label, unnamed, named, IsLabel, label_spelling, Tree, scalar, text, empty, filled, Values, last, next, spelling, values_spelling, IsGood, AreGood, depth, values_depth}
 use Rattle.scene_json.specs.Passes.{behind_string, is_opening, ends_value}
 use Rattle.scene_json.proofs.Behind.{pieces-behind}
-use Rattle.scene_json.proofs.Literals.{is_plain, list_all-each, literal-plain}
+use Rattle.scene_json.proofs.Literals.{is_part_of_literal, list_all-each, literal-plain}
 use Rattle.scene_json.proofs.Reading.{regroup-last, regroup-next}
 
 -- a byte that is no quotation mark, no bracket and no comma
@@ -22,7 +22,7 @@ pub record IsPass (X : Type 0) (f : ℕ → ℕ → List ℕ → X) : Type 0 whe
   pub parts : (level most : ℕ) (bs : List ℕ) → level + 1 ≤ most → f (level + 1) most (44 ∷ bs) ≡ f (level + 1) most bs
   pub others : (b level most : ℕ) (bs : List ℕ) → is_inert b ≡ true → level ≤ most → f level most (b ∷ bs) ≡ f level most bs
 
-plain-inert : (b : ℕ) → is_plain b ≡ true → is_inert b ≡ true
+plain-inert : (b : ℕ) → is_part_of_literal b ≡ true → is_inert b ≡ true
 plain-inert b h = grind (arith, nat_tests)
 
 space-inert : (b : ℕ) → is_space b ≡ true → is_inert b ≡ true
@@ -61,7 +61,7 @@ module _ {X : Type 0} {f : ℕ → ℕ → List ℕ → X} (p : IsPass X f) wher
     pub tree-steps : (t : Tree) (level most more : ℕ) (bs : List ℕ) → IsGood t → level ≤ most → more ≡ max most (level + depth t) → f level most (spelling t ++ bs) ≡ f level more bs
     tree-steps (scalar literal) level most more bs good h e =
         let same : more ≡ most = omega arith in
-        inert-steps literal level most bs (list_all-each is_plain is_inert plain-inert literal (literal-plain literal good)) h ∙ ap (λ m. f level m bs) (sym same)
+        inert-steps literal level most bs (list_all-each is_part_of_literal is_inert plain-inert literal (literal-plain literal good)) h ∙ ap (λ m. f level m bs) (sym same)
     tree-steps (text pieces) level most more bs good h e =
         let same : more ≡ most = omega arith in
         string-steps pieces level most bs good h ∙ ap (λ m. f level m bs) (sym same)

@@ -27,7 +27,7 @@ use Rattle.scene_json.proofs.Sequences.{Completes, IsChar, char_led, led_char}
 use Rattle.scene_json.proofs.Machines.{run, start, run-append}
 use Rattle.scene_json.proofs.Closers.{tail_closed}
 use Rattle.scene_json.proofs.Onward.{lead_char, led_high}
-use Rattle.scene_json.proofs.Moves.{OnState, on_applied, HasCome, Keeps, Kept, kept, run_keeps, IsPlain, IsOutside, high_moved}
+use Rattle.scene_json.proofs.Moves.{OnState, on_applied, HasCome, Keeps, Kept, kept, run_keeps, IsBetween, IsOutside, high_moved}
 use Rattle.scene_json.proofs.Limits.{IsWithin, run_more, run_within, deep_opens, opens_deeper, string_shut}
 use Rattle.scene_json.proofs.StringPlaces.{IsInside, no_escape, some_escape, tail_run}
 use Rattle.scene_json.proofs.ValueRuns.{begins_runs, runs_begins, begins_less, refused_stays, ended_stays}
@@ -83,7 +83,7 @@ module _ (limit : ℕ) (first : ℕ) (more : List ℕ) (is : IsCut first more) (
   high : 192 ≤ first
   high = led_high first is.tail is.led
 
-  no_lead : (m0 : Mode) (st0 : List Bracket) → (IsPlain m0 → ⊥) → run limit (step limit m0 st0 first) more ≡ state m st → IsSequence m
+  no_lead : (m0 : Mode) (st0 : List Bracket) → (IsBetween m0 → ⊥) → run limit (step limit m0 st0 first) more ≡ state m st → IsSequence m
   no_lead m0 st0 no_plain e = by (step limit m0 st0 first) (on_applied (λ m. ⊥) limit st0 first (moved m0 (top st0) first) (high_moved first high m0 (top st0) no_plain)) e
     where
       by : (o : Outcome) → OnState (λ m. ⊥) o → run limit o more ≡ state m st → IsSequence m

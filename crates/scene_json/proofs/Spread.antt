@@ -9,7 +9,7 @@ use Rattle.scene_json.specs.Tree.{Piece, IsPiece, piece_spelling, string_spellin
 use Rattle.scene_json.specs.Layout.{line, label_laid_out, laid_out, values_laid_out}
 use Rattle.scene_json.specs.Passes.{behind_string, behind_token, is_opening, is_closing, spaces_from, put_before, put_behind}
 use Rattle.scene_json.proofs.Behind.{Place, outside, inside, string_front, front-behind, length-behind_string, pieces-front, pieces-behind}
-use Rattle.scene_json.proofs.Literals.{is_plain, literal-plain}
+use Rattle.scene_json.proofs.Literals.{is_part_of_literal, literal-plain}
 use Rattle.scene_json.proofs.Reading.{begins_value, begins-no-space, values-Front, regroup-last, regroup-next}
 
 -- the layout of what a text has from here on
@@ -89,7 +89,7 @@ turn first spaces now b bs rest after was broken copied parted space at left lev
     ∙ regroup was (put_before first spaces b) (token b bs) (put_behind now b) (layout outside (is_opening b) now after)
     ∙ rw (level, left, at) (ap (λ x. was ++ x) (sym (token-step first spaces b bs space)))
 
-plain-step : (spaces b : ℕ) (bs : List ℕ) → is_plain b ≡ true → layout outside false spaces (b ∷ bs) ≡ b ∷ layout outside false spaces bs
+plain-step : (spaces b : ℕ) (bs : List ℕ) → is_part_of_literal b ≡ true → layout outside false spaces (b ∷ bs) ≡ b ∷ layout outside false spaces bs
 plain-step spaces b bs plain =
     let space : is_space b ≡ false = grind (arith, nat_tests) in
     let quote : eqb b 34 ≡ false = grind (arith, nat_tests) in
@@ -99,10 +99,10 @@ plain-step spaces b bs plain =
     let closes : is_closing b ≡ false = grind (arith, nat_tests) in
     rw (space, quote, closes, comma, colon, opens) refl
 
-plain-steps : (xs : List ℕ) (spaces : ℕ) (bs : List ℕ) → list_all is_plain xs ≡ true → layout outside false spaces (xs ++ bs) ≡ xs ++ layout outside false spaces bs
+plain-steps : (xs : List ℕ) (spaces : ℕ) (bs : List ℕ) → list_all is_part_of_literal xs ≡ true → layout outside false spaces (xs ++ bs) ≡ xs ++ layout outside false spaces bs
 plain-steps [] spaces bs h = refl
 plain-steps (x ∷ xs) spaces bs h =
-    let both = and_parts (is_plain x) (list_all is_plain xs) h in
+    let both = and_parts (is_part_of_literal x) (list_all is_part_of_literal xs) h in
     plain-step spaces x (xs ++ bs) both.0 ∙ ap (λ y. x ∷ y) (plain-steps xs spaces bs both.1)
 
 blank-steps : (xs : List ℕ) (first : Bool) (spaces : ℕ) (bs : List ℕ) → list_all is_space xs ≡ true → layout outside first spaces (xs ++ bs) ≡ layout outside first spaces bs
