@@ -60,11 +60,11 @@ deepest-counted outside level most (b ∷ bs) =
     let rest = deepest-counted (if b == 34 then inside false else outside) (level_after b level) (max most (level_after b level)) bs in
     omega (arith, rest, one_more b level, sum_by-cons (λ x. cond (is_opening x) 1 0) b bs)
   where
-  one_more : (b level : ℕ) → level_after b level ≤ level + cond (is_opening b) 1 0
-  one_more b level = elim (cases_Bool (is_opening b)) [
-    | inl e ↦ rw e (omega arith)
-    | inr e ↦ rw e (elim (cases_Bool (is_closing b)) [ inl c ↦ rw c (omega arith) | inr c ↦ rw c (omega arith) ])
-  ]
+    one_more : (b level : ℕ) → level_after b level ≤ level + cond (is_opening b) 1 0
+    one_more b level = elim (cases_Bool (is_opening b)) [
+      | inl e ↦ rw e (omega arith)
+      | inr e ↦ rw e (elim (cases_Bool (is_closing b)) [ inl c ↦ rw c (omega arith) | inr c ↦ rw c (omega arith) ])
+    ]
 deepest-counted (inside escaped) level most (b ∷ bs) =
     let rest = deepest-counted (if b == 34 && not escaped then outside else inside (b == 92 && not escaped)) level most bs in
     omega (arith, rest, sum_by-cons (λ x. cond (is_opening x) 1 0) b bs)

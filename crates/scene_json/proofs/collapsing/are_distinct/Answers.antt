@@ -14,8 +14,7 @@ loop-place-preserved c =
     let bytes = c.args.bytes.now in
     let others = c.in-Some.others.now in
     let rest : c.loop-place.rest.now ≡ c.in-Some.place.now ∷ others = c.in-Some.ensures.cases.0 in
-    let new = none_passes _ (names_of (entries bytes others)) (sym c.comes_again.ensures ∙ c.if-comes_again.false) in
-    (
+    let new = none_passes _ (names_of (entries bytes others)) (sym c.comes_again.ensures ∙ c.if-comes_again.false) in (
       All-rest (λ (p : Place). IsWithin (length bytes) p.name × IsWithin (length bytes) p.value) c.in-Some.place.now others _ rest c.loop-place.invariant.0,
       λ distinct. c.loop-place.invariant.1 (rw (rest, ← c.bytes_at.ensures) (new, distinct)),
     )
