@@ -27,7 +27,7 @@ use Rattle.elem.specs.declared.kind.Kind.{Kind}
 use Rattle.elem.specs.declared.kind.Kind.TheVariants.{Rectangle, Diamond, Ellipse, Arrow, Line, Freedraw, Text, Image, Frame, Magicframe, Iframe, Embeddable, Other}
 use Rattle.elem.specs.Drawn.{Drawn}
 use Rattle.elem.specs.Facts.{greatest_whole, header_names, own_names, known_names, is_header, IsKind, IsElement}
-use Rattle.elem.specs.Forms.{find_in}
+use Rattle.elem.specs.Forms.{find_in, AreOthers}
 use Rattle.elem.specs.Said.{Says, IsWritten}
 use Rattle.elem.specs.Texts.{kind_name, truth_text, text_or_null, header_members, element_members}
 use Rattle.elem.proofs.Distinct.{IsDistinct-element}
