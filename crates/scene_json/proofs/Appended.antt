@@ -1,5 +1,5 @@
 -- Items that are appended between commas to what was there.
-use Rattle.std.proofs.Common.{◌≡◌, ◌<◌, ◌≤◌, ℕ, ◌+◌, List, [], ◌∷◌, ◌++◌, ◌⊎◌, inl, inr, refl, sym, ap, ap₂, ◌∙◌, arith, length, map, take, get_or, take_all, All, append_assoc, append-nil}
+use Rattle.std.proofs.Common.{◌≡◌, ◌<◌, ◌≤◌, ℕ, ◌+◌, List, [], ◌∷◌, ◌++◌, ◌⊎◌, inl, inr, sym, ap, ap₂, ◌∙◌, arith, length, map, take, get_or, take_all, All, append_assoc, append-nil}
 use Rattle.std.proofs.lemmas.List.{take_more, length-take-le, length-map, map-append}
 use Rattle.std.proofs.lemmas.List.Elements.{All-map, All-same, recursion_from_All}
 use Rattle.std.specs.List.{join_with_byte}

@@ -1,12 +1,9 @@
 -- Numbers: how they are spelled, and that printed numbers are numbers.
-use Rattle.std.proofs.Common.{◌≡◌, ◌<◌, ◌≤◌, ℕ, ◌+◌, ◌/◌, ◌%◌, ◌^◌, List, [], ◌∷◌, ◌++◌, true, ◌≢◌, refl, sym, ap, ◌∙◌, subst, map, arith, decimal, append-nil, eq-zero-or-pos, inl, inr, ⊎_elim}
+use Rattle.std.proofs.Common.{◌≡◌, ◌<◌, ◌≤◌, ℕ, ◌+◌, ◌/◌, ◌%◌, ◌^◌, List, [], ◌∷◌, ◌++◌, true, ◌≢◌, refl, ◌∙◌, subst, arith, decimal, append-nil, eq-zero-or-pos, inl, inr, ⊎_elim}
 use Rattle.std.proofs.lemmas.Bool.{and_from}
 use Rattle.std.proofs.lemmas.List.Folds.{list_all-append}
 use Rattle.std.proofs.lemmas.Bool.Decides.{nat_tests}
-use Rattle.std.proofs.lemmas.Fmt.{decimal_by_steps, decimal-digits_of}
-use Rattle.std.proofs.lemmas.Int.Digits.{digits_of_step}
-use Rattle.std.proofs.lemmas.List.{map-append}
-use Rattle.std.specs.Int.Digits.{digits_of}
+use Rattle.std.proofs.lemmas.Fmt.{decimal_by_steps}
 use Rattle.std.specs.List.{list_all}
 use Rattle.scene_json.specs.Characters.{is_digit}
 use Rattle.scene_json.specs.Tree.{IsNumber, IsSign, IsWhole, IsFraction, IsExponent}

@@ -1,5 +1,5 @@
 -- Finding the members that have a name among those that are kept.
-use Rattle.std.proofs.Common.{◌≡◌, ◌<◌, ◌≤◌, ℕ, suc, ◌+◌, ◌-◌, List, [], ◌∷◌, ◌++◌, Option, Some, None, Bool, true, false, if◌then◌else◌, cond, refl, sym, ap, ◌∙◌, arith, length, get_or, take, drop, map, bytes_eq, inl, inr}
+use Rattle.std.proofs.Common.{◌≡◌, ◌<◌, ℕ, suc, ◌+◌, List, [], ◌∷◌, ◌++◌, Option, Some, None, true, false, if◌then◌else◌, cond, refl, sym, ap, ◌∙◌, arith, length, get_or, take, drop, bytes_eq, inl, inr}
 use Rattle.std.proofs.Common.{append_assoc, drop-cons, add-one}
 use Rattle.std.proofs.lemmas.Bool.{cases_Bool}
 use Rattle.std.proofs.lemmas.List.{take_more, map-append, map-set, length-map, get_or-map}
@@ -8,7 +8,7 @@ use Rattle.scene_json.specs.Compact.{Member, collapsed}
 use Rattle.scene_json.specs.Places.{cut, entry, entries, joined}
 use Rattle.scene_json.specs.declared.collapsing.Span.{Span}
 use Rattle.scene_json.specs.declared.collapsing.Place.{Place}
-use Rattle.scene_json.proofs.Collapsed.{bytes_eq-true, bytes_eq-same, bytes_eq-apart, bytes_eq-flip, insert_entry, collapsed-push}
+use Rattle.scene_json.proofs.Collapsed.{bytes_eq-true, bytes_eq-same, bytes_eq-flip, insert_entry, collapsed-push}
 
 -- the place of the first member of this name, counted from a number on
 abbrev pub place_from : ℕ → List ℕ → List Member → Option ℕ

@@ -1,5 +1,5 @@
 -- Members whose names are quoted are kept as those whose names are not.
-use Rattle.std.proofs.Common.{◌≡◌, ℕ, List, [], ◌∷◌, ◌++◌, true, false, refl, sym, ap, ◌∙◌, drop, map, filter, flat_map, append_assoc, append-nil, bytes_eq, inl, inr}
+use Rattle.std.proofs.Common.{◌≡◌, ℕ, List, [], ◌∷◌, ◌++◌, refl, sym, ap, ◌∙◌, drop, map, filter, flat_map, append_assoc, append-nil, bytes_eq, inl, inr}
 use Rattle.std.specs.List.{AllByRecursion}
 use Rattle.std.specs.Str.{IsUtf8}
 use Rattle.std.proofs.lemmas.Bool.{cases_Bool, false≢true}

@@ -1,5 +1,5 @@
 -- The turns of the loops that go over the values of an array and of an object, and the ends of literals.
-use Rattle.std.proofs.Common.{◌≡◌, ◌<◌, ◌≤◌, ℕ, suc, ◌+◌, ◌-◌, List, [], ◌∷◌, ◌++◌, true, false, ◌==◌, if◌then◌else◌, refl, sym, ap, ap₂, ◌∙◌, subst, arith, length, get_or, take, drop, map, append_assoc, drop-drop, add-zero, ◌⊎◌, inl, inr, ⊎_elim, drop_at, take_at, length-drop, length-append, le_trans, bytes_eq}
+use Rattle.std.proofs.Common.{◌≡◌, ◌<◌, ◌≤◌, ℕ, suc, ◌+◌, ◌-◌, List, [], ◌∷◌, ◌++◌, true, false, ◌==◌, if◌then◌else◌, refl, sym, ap, ap₂, ◌∙◌, subst, arith, length, get_or, take, drop, map, append_assoc, drop-drop, add-zero, ◌⊎◌, inl, inr, ⊎_elim, drop_at, take_at, length-drop, length-append, le_trans}
 use Rattle.std.proofs.lemmas.Bool.{both_ways}
 use Rattle.std.specs.List.{prefix_len, join_with_byte}
 use Rattle.scene_json.specs.Characters.{is_space, is_blank, quote}

@@ -1,5 +1,5 @@
 -- The turns of the loop that writes the members of an object.
-use Rattle.std.proofs.Common.{◌≡◌, ◌<◌, ◌≤◌, ℕ, ◌+◌, ◌-◌, List, [], ◌∷◌, ◌++◌, true, All, refl, sym, ap, ap₂, ◌∙◌, subst, arith, length, get_or, take, drop, map, append_assoc, append-nil, ◌⊎◌, inl, inr, ⊎_elim, take_at, drop_at, length-append, length-drop}
+use Rattle.std.proofs.Common.{◌≡◌, ◌<◌, ◌≤◌, ℕ, ◌+◌, ◌-◌, List, [], ◌∷◌, ◌++◌, refl, sym, ap, ap₂, ◌∙◌, subst, arith, length, get_or, take, drop, map, append_assoc, append-nil, ◌⊎◌, inl, inr, ⊎_elim, take_at, drop_at, length-append, length-drop}
 use Rattle.std.specs.List.{prefix_len}
 use Rattle.std.proofs.lemmas.List.{map-append, drop-append-le, take-append-le}
 use Rattle.std.proofs.lemmas.List.Elements.{All-weaker, All-push, All-head, All-tail}
@@ -13,7 +13,7 @@ use Rattle.scene_json.specs.Walk.{Quoted, Filled, AppendsValue}
 use Rattle.scene_json.specs.declared.collapsing.Span.{Span}
 use Rattle.scene_json.specs.declared.collapsing.Place.{Place}
 use Rattle.scene_json.proofs.Contents.{drop-after, inside-after}
-use Rattle.scene_json.proofs.Turns.{Field, field, field-quoted, field-value, value_part, mark-at, byte-at}
+use Rattle.scene_json.proofs.Turns.{field, field-quoted, field-value, value_part, mark-at, byte-at}
 use Rattle.scene_json.proofs.Walks.{skip-to}
 
 -- what stands within the bytes is the same where more bytes follow

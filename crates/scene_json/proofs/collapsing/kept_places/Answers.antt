@@ -1,4 +1,4 @@
-use Rattle.std.proofs.Common.{vec_len, [], ◌∷◌, ◌++◌, ◌≡◌, ◌<◌, ◌+◌, ℕ, List, Option, Some, None, cond, true, false, length, get_or, take, sym, ap, subst, ◌∙◌, arith, All, bytes_eq}
+use Rattle.std.proofs.Common.{vec_len, [], ◌∷◌, ◌++◌, ◌≡◌, ◌<◌, ◌+◌, ℕ, List, Some, None, cond, length, get_or, take, sym, ap, subst, ◌∙◌, arith, All, bytes_eq}
 use Rattle.std.proofs.lemmas.List.{take_more}
 use Rattle.std.proofs.lemmas.List.Elements.{All-set, All-push}
 use Rattle.std.proofs.lemmas.Map.Text.{btree_map_updates_str}

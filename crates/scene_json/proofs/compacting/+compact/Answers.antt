@@ -1,4 +1,4 @@
-use Rattle.std.proofs.Common.{vec_len, map, take, take_at, drop_at, ap₂, length-append, ◌≡◌, ◌<◌, ◌≤◌, ◌+◌, ◌-◌, ◌*◌, [], ◌∷◌, ◌++◌, ℕ, List, length, drop, bytes_eq, refl, sym, ap, ◌∙◌, subst, ⊎_elim, arith, append_assoc, length-drop}
+use Rattle.std.proofs.Common.{vec_len, map, take, take_at, drop_at, ap₂, length-append, ◌≡◌, ◌<◌, ◌≤◌, ◌+◌, ◌-◌, ◌*◌, [], ◌∷◌, ◌++◌, ℕ, List, length, drop, refl, sym, ap, ◌∙◌, subst, ⊎_elim, arith, append_assoc, length-drop}
 use Rattle.std.proofs.lemmas.Bool.{eqb-false}
 use Rattle.std.proofs.lemmas.Result.{IfOk-weaker}
 use Rattle.std.proofs.lemmas.List.Sums.{prefix_len-le-length}

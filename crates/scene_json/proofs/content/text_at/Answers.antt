@@ -1,4 +1,4 @@
-use Rattle.std.proofs.Common.{◌≡◌, ◌+◌, ◌-◌, List, ℕ, take, drop, sym, ap, subst, IsUtf8, ◌∙◌}
+use Rattle.std.proofs.Common.{◌≡◌, ◌+◌, ◌-◌, List, ℕ, take, drop, sym, subst, IsUtf8, ◌∙◌}
 use Rattle.scene_json.specs.Walk.{Quoted}
 use Rattle.scene_json.proofs.Contents.{quoted-utf8}
 use Rattle.scene_json.proofs.content.text_at.Goals as goal

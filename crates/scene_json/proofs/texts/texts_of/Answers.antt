@@ -1,4 +1,4 @@
-use Rattle.std.proofs.Common.{◌≡◌, ℕ, ◌<◌, List, Ok, IsUtf8, length, map, take, take_all, sym, subst, ap, ◌∙◌, arith, add-one, rules}
+use Rattle.std.proofs.Common.{◌≡◌, Ok, map, take_all, sym, ap, ◌∙◌, arith, add-one, rules}
 use Rattle.scene_json.specs.Characters.{quote}
 use Rattle.scene_json.specs.Compact.{array_text}
 use Rattle.scene_json.proofs.Quotes.{IsQuote, AreQuotes, quotes-more, quotes-texts, quotes-only, quotes-compact, quoted-at}
