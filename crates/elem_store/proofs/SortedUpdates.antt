@@ -1,16 +1,15 @@
 -- Updates in the order of their ids have the store of the updates as they came, where those of one id stay in order.
-use Rattle.std.proofs.Common.{◌≡◌, ℕ, Bool, true, false, not, ◌&&◌, List, [], None, filter, bytes_eq, refl, sym, ap, ◌∙◌, subst, inl, inr}
+use Rattle.std.proofs.Common.{◌≡◌, ℕ, Bool, true, false, not, ◌&&◌, List, [], None, filter, refl, sym, ap, ◌∙◌, inl, inr}
 use Rattle.std.specs.Cmp.Lexicographic.{nat_list_eq_equiv}
 use Rattle.std.specs.List.Sorted.{IsStableBy, ties}
-use Rattle.std.proofs.lemmas.Bool.{cases_Bool, both_ways, false_from_ne_true}
+use Rattle.std.proofs.lemmas.Bool.{cases_Bool}
 use Rattle.frac_keys.specs.Keys.{bytes_less}
 use Rattle.elem.specs.declared.kind.Kind.TheVariants.{Rectangle}
 use Rattle.elem.specs.Drawn.{Drawn}
-use Rattle.elem.proofs.Sorting.{bytes_less-same, bytes_less-turned, bytes_less-asym}
+use Rattle.elem.proofs.Sorting.{bytes_less-same, bytes_less-turned}
 use Rattle.elem_store.specs.Updates.{is_of, AreStored}
 use Rattle.elem_store.proofs.Ids.{same_id}
 use Rattle.elem_store.proofs.Leader.{leader, stored-leader}
-use Rattle.elem_store.proofs.Rising.{less-other}
 
 abbrev pub lower : Drawn → Drawn → Bool
 lower e other = bytes_less e.id other.id

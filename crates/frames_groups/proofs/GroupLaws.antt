@@ -1,8 +1,7 @@
 -- Settled groups, alone and beside frames.
-use Rattle.std.proofs.Common.{◌≡◌, ℕ, Bool, true, false, cond, List, All, map, bytes_eq, refl, sym, ap, ◌∙◌, subst}
+use Rattle.std.proofs.Common.{◌≡◌, ℕ, Bool, true, false, cond, List, map, bytes_eq, refl, sym, ap, ◌∙◌, subst}
 use Rattle.std.specs.List.{IsDistinct}
 use Rattle.std.proofs.lemmas.List.Elements.{All-map, All-weaker}
-use Rattle.first_texts.specs.FirstOccurrences.{first_occurrences}
 use Rattle.first_texts.proofs.FirstLaws.{IsDistinct-first_occurrences, first_occurrences-distinct}
 use Rattle.elem.specs.Drawn.{Drawn}
 use Rattle.frames_groups.specs.Frames.{is_frame_of, has_frame, keeps_frame, without_frame, framed, frames_settled, NameFrames}

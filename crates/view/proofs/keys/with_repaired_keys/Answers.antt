@@ -4,7 +4,7 @@ use Rattle.std.proofs.lemmas.Result.{IfOk-weaker}
 use Rattle.frac_keys.specs.Rising.{is_key_or_none}
 use Rattle.index_repair.specs.Repair.{repaired}
 use Rattle.elem.specs.Drawn.{Drawn}
-use Rattle.view.specs.Shown.{index_of, keyed, with_index}
+use Rattle.view.specs.Shown.{keyed, with_index}
 use Rattle.view.proofs.keys.with_repaired_keys.Goals as goal
 
 keyed-zip : (es : List Drawn) (keys : List (List ℕ)) → map (λ (p : Drawn × List ℕ). with_index p.0 p.1) (zip es keys) ≡ keyed es keys

@@ -4,7 +4,6 @@ use Rattle.std.specs.Cmp.Lexicographic.{nat_list_cmp_total}
 use Rattle.std.proofs.lemmas.List.Sorted.{ranks_by, answers_always}
 use Rattle.std.specs.List.Sorted.{IsStableBy}
 use Rattle.elem.specs.Drawn.{Drawn}
-use Rattle.elem_store.specs.Updates.{AreStored}
 use Rattle.elem_store.proofs.SortedUpdates.{lower, AreStored-sorted}
 use Rattle.elem_store.proofs.StoreLaws.{AreStored-itself}
 use Rattle.elem_store.proofs.store.Store.from_updates.Goals as goal
