@@ -1,6 +1,6 @@
 //! Ids, versions and nonces.
 
-ghost use Rattle.std.specs.Prelude.{◌≡◌, None, [], ◌∷◌, ◌++◌, IfOk, OnOk, OnErr, option_copied};
+ghost use Rattle.std.specs.Prelude.{◌≡◌, [], ◌∷◌, ◌++◌, IfOk, OnOk, OnErr};
 ghost use Rattle.clash.specs.Marks.{mark_of, place_of, AreListed};
 
 use elem::Element;

@@ -1,12 +1,10 @@
 //! Reading messages.
 
-ghost use Rattle.std.specs.Prelude.{◌≡◌, ◌⊎◌, ℕ, List as Items, All, Ok, Err, IfOk, MatchOption};
-ghost use Rattle.scene_json.specs.Faults.{IsFirstFault};
+ghost use Rattle.std.specs.Prelude.{◌≡◌, ℕ, List as Items, All, Ok, Err, IfOk, MatchOption};
 ghost use Rattle.scene_json.specs.Members.{pairs};
-ghost use Rattle.scene_json.specs.declared.fault.JsonFault.{JsonFault};
 ghost use Rattle.elem_read.specs.Elements.{AreRead};
 ghost use Rattle.elem_read.specs.Reading.{IsWhole};
-ghost use Rattle.room_msg.specs.Messages.{HasPayload, IsPayloadFault, IsMessageOf, IsFaultOf, StandsAlone, HasMore, IsReadAs, IsWholeMessage};
+ghost use Rattle.room_msg.specs.Messages.{HasPayload, IsPayloadFault, IsMessageOf, IsFaultOf, StandsAlone, IsReadAs, IsWholeMessage};
 ghost use Rattle.room_msg.specs.declared.fault.MsgFault.{MsgFault};
 
 use crate::fault::MsgFault;
