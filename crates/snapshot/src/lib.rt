@@ -4,5 +4,7 @@
 mod held;
 mod pending;
 mod snapshot;
+#[cfg(test)]
+mod tests;
 
 pub use snapshot::Snapshot;
