@@ -28,13 +28,7 @@ impl MsgFault {
         ensures { IfOk result (λ words. string_bytes words ≡ fault_words self) }
     {
         match self {
-            MsgFault::Json(JsonFault::Syntax(place)) => {
-                format!(in alloc; "syntax at byte {place}")
-            }
-            MsgFault::Json(JsonFault::Depth(place)) => {
-                format!(in alloc; "depth at byte {place}")
-            }
-            MsgFault::Json(JsonFault::Utf8(place)) => format!(in alloc; "utf8 at byte {place}"),
+            MsgFault::Json(fault) => fault.words(alloc),
             MsgFault::NotObject => String::from_str(alloc, "not an object"),
             MsgFault::Tag => String::from_str(alloc, "type"),
             MsgFault::Payload => String::from_str(alloc, "payload"),

@@ -32,13 +32,7 @@ impl SceneFault {
         ensures { IfOk result (λ words. string_bytes words ≡ fault_words self) }
     {
         match self {
-            SceneFault::Json(JsonFault::Syntax(place)) => {
-                format!(in alloc; "syntax at byte {place}")
-            }
-            SceneFault::Json(JsonFault::Depth(place)) => {
-                format!(in alloc; "depth at byte {place}")
-            }
-            SceneFault::Json(JsonFault::Utf8(place)) => format!(in alloc; "utf8 at byte {place}"),
+            SceneFault::Json(fault) => fault.words(alloc),
             SceneFault::NotObject => String::from_str(alloc, "not an object"),
             SceneFault::NotScene => String::from_str(alloc, "type"),
             SceneFault::Elements => String::from_str(alloc, "elements"),

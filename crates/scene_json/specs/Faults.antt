@@ -1,5 +1,5 @@
 -- The first fault of a text that begins at an offset.
-use Rattle.std.specs.Prelude.{◌≡◌, ℕ, ◌+◌, List, drop}
+use Rattle.std.specs.Prelude.{◌≡◌, ℕ, ◌+◌, List, ◌++◌, codes, decimal, drop}
 use Rattle.scene_json.specs.Value.{IsFaulty, IsTooDeep, IsBadUtf8, IsBadSyntax}
 use Rattle.scene_json.specs.declared.fault.JsonFault.{JsonFault}
 use Rattle.scene_json.specs.declared.fault.JsonFault.TheVariants.{Syntax, Depth, Utf8}
@@ -15,3 +15,9 @@ IsFaultOf bytes at (Utf8 place) = (n : ℕ) × (place ≡ at + n) × IsBadUtf8 (
 pub record IsFirstFault (bytes : List ℕ) (at : ℕ) (fault : JsonFault) : Type 0 where
   pub faulty : IsFaulty (drop at bytes)
   pub first : IsFaultOf bytes at fault
+
+-- what is told of a fault
+abbrev pub json_words : JsonFault → List ℕ
+json_words (Syntax place) = codes "syntax at byte " ++ decimal place
+json_words (Depth place) = codes "depth at byte " ++ decimal place
+json_words (Utf8 place) = codes "utf8 at byte " ++ decimal place

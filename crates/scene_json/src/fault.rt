@@ -1,5 +1,7 @@
 //! What is wrong with a text or a value.
 
+use std::alloc::{AllocError, Global};
+
 /// The first fault of a JSON text, with the offset of its byte.
 #[derive(Clone, Copy, Debug, PartialEq, Eq, Drop)]
 pub enum JsonFault {
@@ -9,6 +11,22 @@ pub enum JsonFault {
     Depth(usize),
     /// The first byte of a sequence in a string that isn't UTF-8 or is cut off.
     Utf8(usize),
+}
+
+impl JsonFault {
+    ghost use Rattle.std.specs.Prelude.{◌≡◌, IfOk, string_bytes};
+    ghost use Rattle.scene_json.specs.Faults.{json_words};
+
+    /// What is told of this fault.
+    pub fn words(self, alloc: Global) -> Result<String, AllocError>
+        ensures { IfOk result (λ words. string_bytes words ≡ json_words self) }
+    {
+        match self {
+            JsonFault::Syntax(place) => format!(in alloc; "syntax at byte {place}"),
+            JsonFault::Depth(place) => format!(in alloc; "depth at byte {place}"),
+            JsonFault::Utf8(place) => format!(in alloc; "utf8 at byte {place}"),
+        }
+    }
 }
 
 /// The value is of another form.
