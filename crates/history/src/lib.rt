@@ -4,6 +4,8 @@
 mod history;
 pub mod laws;
 mod step;
+#[cfg(test)]
+mod tests;
 
 pub use history::History;
 pub use step::Step;

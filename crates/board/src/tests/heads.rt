@@ -2,6 +2,7 @@
 
 use super::runs::{is_done, is_merged};
 use super::texts::element_with;
+use std::alloc::{AllocError, Global};
 use std::test::Fail;
 
 #[test]
@@ -50,51 +51,73 @@ fn heads_are_joined_in_every_order(rt: HostRuntime) -> Result<(), Fail> {
     Ok(())
 }
 
+/// The text of an element as it is given, in this frame and these groups.
+fn given(
+    alloc: Global,
+    (kind, id): (&str, &str),
+    index: &str,
+    (frame, groups): (&str, &str),
+) -> Result<String, AllocError> {
+    let named = format!(in alloc; "{{\"id\":\"{id}\",\"type\":\"{kind}\",\"index\":\"{index}\",")?;
+    format!(in alloc; "{named}\"frameId\":{frame},\"groupIds\":{groups}}}")
+}
+
+/// The text of an element as it is shown, in this frame and these groups.
+fn shown(
+    alloc: Global,
+    (kind, id): (&str, &str),
+    index: &str,
+    (frame, groups): (&str, &str),
+) -> Result<String, AllocError> {
+    let index = format!(in alloc; "\"index\":\"{index}\"")?;
+    let frame = format!(in alloc; "\"frameId\":{frame},\"groupIds\":{groups}")?;
+    let changes = [
+        ("\"index\":null", index.as_str()),
+        ("\"frameId\":null,\"groupIds\":[]", frame.as_str()),
+    ];
+    element_with(alloc, kind, id, &changes)
+}
+
 #[test]
 fn frames_have_no_frame_and_groups_stand_once(rt: HostRuntime) -> Result<(), Fail> {
     let alloc = rt.alloc();
     let rows = [
-        ("frame", "f1", "a0", r#""f2""#, "[]", "null", "[]"),
-        ("magicframe", "f2", "a1", r#""f1""#, "[]", "null", "[]"),
-        ("frame", "f3", "a2", r#""f3""#, "[]", "null", "[]"),
+        (("frame", "f1"), "a0", (r#""f2""#, "[]"), ("null", "[]")),
         (
-            "rectangle",
-            "r",
-            "a3",
-            r#""f1""#,
-            r#"["g","h","g"]"#,
-            r#""f1""#,
-            r#"["g","h"]"#,
+            ("magicframe", "f2"),
+            "a1",
+            (r#""f1""#, "[]"),
+            ("null", "[]"),
         ),
-        ("line", "s", "a4", r#""f2""#, "[]", r#""f2""#, "[]"),
-        ("ellipse", "t", "a5", r#""r""#, "[]", "null", "[]"),
-        ("text", "u", "a6", r#""x""#, r#"["g"]"#, "null", r#"["g"]"#),
+        (("frame", "f3"), "a2", (r#""f3""#, "[]"), ("null", "[]")),
+        (
+            ("rectangle", "r"),
+            "a3",
+            (r#""f1""#, r#"["g","h","g"]"#),
+            (r#""f1""#, r#"["g","h"]"#),
+        ),
+        (("line", "s"), "a4", (r#""f2""#, "[]"), (r#""f2""#, "[]")),
+        (("ellipse", "t"), "a5", (r#""r""#, "[]"), ("null", "[]")),
+        (
+            ("hexagon", "u"),
+            "a6",
+            (r#""x""#, r#"["g"]"#),
+            ("null", r#"["g"]"#),
+        ),
     ];
-    let mut given = String::new(alloc);
-    let mut wanted = String::new(alloc);
-    for (kind, id, index, frame, groups, frame_after, groups_after) in rows {
-        if !given.is_empty() {
-            given.push_str(",")?;
-            wanted.push_str(",")?;
+    let mut before = String::new(alloc);
+    let mut after = String::new(alloc);
+    for (names, index, settles, settled) in rows {
+        if !before.is_empty() {
+            before.push_str(",")?;
+            after.push_str(",")?;
         }
-        let e = format!(in alloc;
-            "{{\"id\":\"{id}\",\"type\":\"{kind}\",\"index\":\"{index}\",\"frameId\":{frame},\"groupIds\":{groups}}}"
-        )?;
-        given.push_str(e.as_str())?;
-        let index = format!(in alloc; "\"index\":\"{index}\"")?;
-        let frame = format!(in alloc; "\"frameId\":{frame_after},\"groupIds\":{groups_after}")?;
-        let mut changes = vec![in alloc;
-            ("\"index\":null", index.as_str()),
-            ("\"frameId\":null,\"groupIds\":[]", frame.as_str()),
-        ]?;
-        if kind == "text" {
-            changes.push(("\"fillStyle\"", "\"containerId\":null,\"fillStyle\""))?;
-        }
-        wanted.push_str(element_with(alloc, kind, id, changes.as_slice())?.as_str())?;
+        before.push_str(given(alloc, names, index, settles)?.as_str())?;
+        after.push_str(shown(alloc, names, index, settled)?.as_str())?;
     }
-    let input = format!(in alloc; "{{\"type\":\"excalidraw\",\"elements\":[{given}]}}")?;
+    let input = format!(in alloc; "{{\"type\":\"excalidraw\",\"elements\":[{before}]}}")?;
     let output = format!(in alloc;
-        "{{\"type\":\"excalidraw\",\"version\":2,\"source\":null,\"elements\":[{wanted}],\"appState\":{{}},\"files\":{{}}}}"
+        "{{\"type\":\"excalidraw\",\"version\":2,\"source\":null,\"elements\":[{after}],\"appState\":{{}},\"files\":{{}}}}"
     )?;
     is_done(&rt, alloc, &["restore"], input.as_str(), output.as_str())?;
     is_merged(&rt, alloc, output.as_str(), output.as_str())?;
