@@ -62,7 +62,7 @@ impl<T> List<T> {
             .map_err(|failed| (failed.value, AllocError))
     }
 
-    /// An equal list, whose items `clone` copies.
+    /// An equal list, whose items `clone` copies, with no room beside them.
     pub fn try_clone_with<F: Fn(&T) -> Result<T, AllocError>>(
         &self,
         clone: F,
@@ -73,7 +73,7 @@ impl<T> List<T> {
         requires equal { (item copy : T) → FnReturnsAt F.Fn clone item (Ok copy) → copy ≡ item }
         ensures { IfOk result (λ copy. copy ≡ self.now) }
     {
-        let mut items = Vec::new(*self.items.allocator());
+        let mut items = Vec::with_capacity(*self.items.allocator(), self.items.len())?;
         for item in self.as_slice() {
             items.push(clone(item)?)?;
         }

@@ -33,7 +33,7 @@ pub fn element_raw(alloc: Global, e: &Element) -> Result<Raw, AllocError>
 {
     let mut out = Vec::new(alloc);
     push_element(&mut out, e)?;
-    Ok(raw_of(out))
+    raw_of(out)
 }
 
 /// Appends the text of an element. After want of memory a part of it may stand there.

@@ -40,13 +40,13 @@ pub fn raw_whole(alloc: Global, number: u64) -> Result<Raw, AllocError>
     ensures digits { IfOk result (λ raw. raw ≡ decimal number) }
     ensures nests { IfOk result (IsCompact 0) }
 {
-    Ok(Raw::from_compact(number.to_string(alloc)?.into_bytes()))
+    Raw::from_compact(number.to_string(alloc)?.into_bytes())
 }
 
-/// The value whose compact text was written. It takes no memory.
-pub fn raw_of(bytes: Vec<u8>) -> Raw
+/// The value whose compact text was written.
+pub fn raw_of(bytes: Vec<u8>) -> Result<Raw, AllocError>
     requires { IsCompact 128 bytes.items }
-    ensures { result ≡ bytes.items }
+    ensures { IfOk result (λ raw. raw ≡ bytes.items) }
 {
     Raw::from_compact(bytes)
 }
@@ -59,7 +59,7 @@ pub fn raw_text(alloc: Global, text: &Text) -> Result<Raw, AllocError>
 {
     let mut out = Vec::new(alloc);
     push_quote(&mut out, text)?;
-    Ok(Raw::from_compact(out))
+    Raw::from_compact(out)
 }
 
 /// The array of these items, each of which has at most 127 open brackets.
@@ -77,7 +77,7 @@ pub fn raw_array(alloc: Global, items: &List<Raw>) -> Result<Raw, AllocError>
         out.extend_from_slice(item.as_bytes())?;
     }
     out.push(b']')?;
-    Ok(Raw::from_compact(out))
+    Raw::from_compact(out)
 }
 
 /// The object of these members in their order. No name comes twice, and each value has at most 127 open brackets.
@@ -96,7 +96,7 @@ pub fn raw_object(alloc: Global, members: &List<Member>) -> Result<Raw, AllocErr
         push_member(&mut out, &member.name, &member.value)?;
     }
     out.push(b'}')?;
-    Ok(Raw::from_compact(out))
+    Raw::from_compact(out)
 }
 
 /// Appends a member: its quoted name, a colon and its value. After want of memory a part of it may stand there.

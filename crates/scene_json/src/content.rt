@@ -56,7 +56,7 @@ pub(crate) fn content_of(
         let end = run_end(bytes, next);
         text.extend_from_slice(&bytes[next..end])?;
         if bytes[end] == b'"' {
-            return Ok((Text::from_utf8(text), end + 1));
+            return Ok((Text::from_utf8(text)?, end + 1));
         }
         next = end + push_escape(&mut text, &bytes[end..])?;
     }

@@ -9,5 +9,5 @@ use std::alloc::{AllocError, Global};
 pub fn raw(alloc: Global, text: &[u8]) -> Result<Raw, AllocError>
     requires { IsCompact 128 text.now }
 {
-    Ok(Raw::from_compact(Vec::from_slice(alloc, text)?))
+    Raw::from_compact(Vec::from_slice(alloc, text)?)
 }

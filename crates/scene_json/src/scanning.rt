@@ -28,7 +28,7 @@ pub fn scan(alloc: Global, bytes: &[u8], at: usize) -> Result<(Raw, usize), Stop
     };
     let mut text = Vec::new(alloc);
     push_compact(alloc, bytes, at, &mut text)?;
-    Ok((Raw::from_compact(text), end))
+    Ok((Raw::from_compact(text)?, end))
 }
 
 #[cfg(test)]

@@ -1,13 +1,14 @@
 //! Stretches of bytes that are shared or fixed.
 
-ghost use Rattle.std.specs.Prelude.{◌≡◌, ◌-◌, ◌≤◌, take, drop, length, IfOk};
+ghost use Rattle.std.specs.Prelude.{◌≡◌, ◌+◌, ◌-◌, ◌≤◌, take, drop, length, IfOk};
 ghost use Rattle.scene_json.specs.Stretches.{bytes_of};
 
 use std::alloc::AllocError;
 use std::marker::Model;
 use std::rc::Rc;
 
-/// A list of bytes that never changes, so that its copies and its parts share one place in memory.
+/// A list of bytes that never changes, so that its copies and its parts share one place in memory. It is as small as can
+/// be, since an element has some forty of them.
 pub(crate) struct Stretch {
     held: Held,
 }
@@ -35,16 +36,14 @@ enum Held {
     Shared(Part),
     /// They are bytes of the program itself.
     Fixed(&'static [u8]),
-    /// They are held alone, since there was no memory to count who has parts of them.
-    Alone(Vec<u8>),
 }
 
-/// A part of bytes that are counted.
+/// A part of bytes that are counted, by the offsets of its first byte and of the byte after it.
 #[derive(Drop)]
 struct Part {
     source: Rc<Vec<u8>>,
-    start: usize,
-    end: usize,
+    start: u32,
+    end: u32,
 }
 
 impl Model for Part {
@@ -58,21 +57,23 @@ impl Model for Part {
 }
 
 impl Stretch {
-    /// All these bytes.
-    pub(crate) fn from_vec(bytes: Vec<u8>) -> Stretch
-        ensures { result ≡ bytes.items }
+    /// All these bytes. Where they are 4 GiB or more it fails as for want of memory.
+    pub(crate) fn from_vec(bytes: Vec<u8>) -> Result<Stretch, AllocError>
+        ensures { IfOk result (λ stretch. stretch ≡ bytes.items) }
     {
         let alloc = *bytes.allocator();
-        let end = bytes.len();
-        let held = match Rc::new(alloc, bytes) {
-            Ok(source) => Held::Shared(Part {
-                source,
-                start: 0,
-                end,
-            }),
-            Err(failed) => Held::Alone(failed.value),
+        let Ok(end) = u32::try_from(bytes.len()) else {
+            return Err(AllocError);
         };
-        Stretch { held }
+        let source = Rc::new(alloc, bytes)?;
+        let part = Part {
+            source,
+            start: 0,
+            end,
+        };
+        Ok(Stretch {
+            held: Held::Shared(part),
+        })
     }
 
     /// These bytes of the program. It takes no memory.
@@ -91,23 +92,22 @@ impl Stretch {
         match &self.held {
             Held::Shared(part) => part.as_slice(),
             Held::Fixed(bytes) => bytes,
-            Held::Alone(bytes) => bytes.as_slice(),
         }
     }
 
-    /// The same bytes. It takes memory only where they are held alone.
+    /// The same bytes. It takes no memory; it fails only where so many others have a part of them that they can't be
+    /// counted.
     pub(crate) fn try_clone(&self) -> Result<Stretch, AllocError>
         ensures { IfOk result (λ copy. copy ≡ self.now) }
     {
         let held = match &self.held {
             Held::Shared(part) => Held::Shared(part.try_clone()?),
             Held::Fixed(bytes) => Held::Fixed(bytes),
-            Held::Alone(bytes) => Held::Alone(bytes.clone()?),
         };
         Ok(Stretch { held })
     }
 
-    /// The bytes between two offsets. It takes memory only where they are held alone.
+    /// The bytes between two offsets. It takes no memory, and fails only as `try_clone` does.
     pub(crate) fn cut(&self, start: usize, end: usize) -> Result<Stretch, AllocError>
         requires { (start ≤ end) × (end ≤ length self.now) }
         ensures { IfOk result (λ stretch. stretch ≡ take (end - start) (drop start self.now)) }
@@ -115,10 +115,6 @@ impl Stretch {
         let held = match &self.held {
             Held::Shared(part) => Held::Shared(part.cut(start, end)?),
             Held::Fixed(bytes) => Held::Fixed(&bytes[start..end]),
-            Held::Alone(bytes) => {
-                let alloc = *bytes.allocator();
-                Held::Alone(Vec::from_slice(alloc, &bytes.as_slice()[start..end])?)
-            }
         };
         Ok(Stretch { held })
     }
@@ -129,7 +125,7 @@ impl Part {
     fn as_slice(&self) -> &[u8]
         ensures { result.now ≡ self.now }
     {
-        &self.source.as_slice()[self.start..self.end]
+        &self.source.as_slice()[self.start as usize..self.end as usize]
     }
 
     /// The same part.
@@ -150,8 +146,16 @@ impl Part {
     {
         Ok(Part {
             source: self.source.clone()?,
-            start: self.start + start,
-            end: self.start + end,
+            start: offset(self.start, self.end, start),
+            end: offset(self.start, self.end, end),
         })
     }
+}
+
+/// The offset in the source of an offset in the part between two others.
+fn offset(start: u32, end: u32, at: usize) -> u32
+    requires { start + at ≤ end }
+    ensures { result ≡ start + at }
+{
+    start + at as u32
 }

@@ -57,7 +57,7 @@ impl Text {
         if std::str::from_utf8(bytes).is_err() {
             return Ok(None);
         }
-        Ok(Some(Text::from_utf8(Vec::from_slice(alloc, bytes)?)))
+        Ok(Some(Text::from_utf8(Vec::from_slice(alloc, bytes)?)?))
     }
 
     /// The text of these characters.
@@ -94,13 +94,13 @@ impl Text {
     }
 
     /// The text with these bytes.
-    pub(crate) fn from_utf8(bytes: Vec<u8>) -> Text
+    pub(crate) fn from_utf8(bytes: Vec<u8>) -> Result<Text, AllocError>
         requires { IsUtf8 bytes.items }
-        ensures { result ≡ bytes.items }
+        ensures { IfOk result (λ text. text ≡ bytes.items) }
     {
-        Text {
-            bytes: Stretch::from_vec(bytes),
-        }
+        Ok(Text {
+            bytes: Stretch::from_vec(bytes)?,
+        })
     }
 }
 
@@ -155,13 +155,13 @@ impl Raw {
     }
 
     /// The value with this compact text.
-    pub(crate) fn from_compact(bytes: Vec<u8>) -> Raw
+    pub(crate) fn from_compact(bytes: Vec<u8>) -> Result<Raw, AllocError>
         requires { IsCompact 128 bytes.items }
-        ensures { result ≡ bytes.items }
+        ensures { IfOk result (λ raw. raw ≡ bytes.items) }
     {
-        Raw {
-            bytes: Stretch::from_vec(bytes),
-        }
+        Ok(Raw {
+            bytes: Stretch::from_vec(bytes)?,
+        })
     }
 }
 

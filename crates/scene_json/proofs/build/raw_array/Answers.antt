@@ -1,5 +1,6 @@
-use Rattle.std.proofs.Common.{◌≡◌, ◌<◌, ◌≤◌, length, inl, inr, arith, ap, ◌∙◌}
+use Rattle.std.proofs.Common.{◌≡◌, ◌+◌, ◌<◌, ◌≤◌, length, inl, inr, arith, ap, ◌∙◌, sym, subst}
 use Rattle.std.proofs.lemmas.List.Elements.{recursion_from_All}
+use Rattle.std.proofs.lemmas.Result.{IfOk-weaker}
 use Rattle.scene_json.specs.Compact.{array_text}
 use Rattle.scene_json.specs.Value.{IsCompact}
 use Rattle.scene_json.proofs.CompactLaws.{array-compact}
@@ -27,9 +28,12 @@ pub from_compact-requires : goal.from_compact-requires
 from_compact-requires c = rw (written c) (array-compact 127 c.args.items.now (recursion_from_All (IsCompact 127) _ c.requires))
 
 pub returns-clause-text : goal.returns-clause-text
-returns-clause-text c = c.from_compact.ensures ∙ written (goal.at.returns-clause-text c).In_ok-push-3
+returns-clause-text c =
+    let done = (goal.at.returns-clause-text c).In_ok-push-3 in
+    IfOk-weaker c.from_compact.result _ (λ raw. raw ≡ array_text c.args.items.now) (λ raw same. same ∙ written done) c.from_compact.ensures
 
 pub returns-clause-nests : goal.returns-clause-nests
 returns-clause-nests c = λ limit each.
-    rw (c.from_compact.ensures, written (goal.at.returns-clause-nests c).In_ok-push-3)
-    (array-compact limit c.args.items.now (recursion_from_All (IsCompact limit) _ each))
+    let done = (goal.at.returns-clause-nests c).In_ok-push-3 in
+    let compact = array-compact limit c.args.items.now (recursion_from_All (IsCompact limit) _ each) in
+    IfOk-weaker c.from_compact.result _ (IsCompact (limit + 1)) (λ raw same. subst (IsCompact (limit + 1)) (sym (same ∙ written done)) compact) c.from_compact.ensures

@@ -1,5 +1,6 @@
-use Rattle.std.proofs.Common.{◌≡◌, ℕ, ◌+◌, ◌<◌, ◌≤◌, All, length, inl, inr, arith, ap, ◌∙◌, sym}
+use Rattle.std.proofs.Common.{◌≡◌, ℕ, ◌+◌, ◌<◌, ◌≤◌, All, length, inl, inr, arith, ap, ◌∙◌, sym, subst}
 use Rattle.std.proofs.lemmas.List.{length-map, get_or-map}
+use Rattle.std.proofs.lemmas.Result.{IfOk-weaker}
 use Rattle.scene_json.specs.Compact.{object_text}
 use Rattle.scene_json.specs.Members.{pairs, pair_of}
 use Rattle.scene_json.specs.Value.{IsCompact}
@@ -39,9 +40,11 @@ pub from_compact-requires : goal.from_compact-requires
 from_compact-requires c = rw (written c) (compact c 127 c.requires.values)
 
 pub returns-clause-text : goal.returns-clause-text
-returns-clause-text c = c.from_compact.ensures ∙ written (goal.at.returns-clause-text c).In_ok-push-3
+returns-clause-text c =
+    let done = (goal.at.returns-clause-text c).In_ok-push-3 in
+    IfOk-weaker c.from_compact.result _ (λ raw. raw ≡ object_text (pairs c.args.members.now)) (λ raw same. same ∙ written done) c.from_compact.ensures
 
 pub returns-clause-nests : goal.returns-clause-nests
 returns-clause-nests c = λ limit each.
     let done = (goal.at.returns-clause-nests c).In_ok-push-3 in
-    rw (c.from_compact.ensures, written done) (compact done limit each)
+    IfOk-weaker c.from_compact.result _ (IsCompact (limit + 1)) (λ raw same. subst (IsCompact (limit + 1)) (sym (same ∙ written done)) (compact done limit each)) c.from_compact.ensures

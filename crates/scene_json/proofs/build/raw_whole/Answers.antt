@@ -1,4 +1,6 @@
-use Rattle.std.proofs.Common.{◌≡◌, decimal, ap, ◌∙◌, arith}
+use Rattle.std.proofs.Common.{◌≡◌, decimal, ap, ◌∙◌, sym, subst, arith}
+use Rattle.std.proofs.lemmas.Result.{IfOk-weaker}
+use Rattle.scene_json.specs.Value.{IsCompact}
 use Rattle.scene_json.proofs.CompactLaws.{decimal_nests}
 use Rattle.scene_json.proofs.build.raw_whole.Goals as goal
 
@@ -12,4 +14,5 @@ pub returns-clause-nests : goal.returns-clause-nests
 returns-clause-nests c =
     let same : c.into_bytes.result.items ≡ decimal c.args.number =
     ap (λ v. v.items) c.into_bytes.ensures.value ∙ c.in_ok-to_string.ensures.ok in
-    rw (c.from_compact.ensures, same) (decimal_nests 0 c.args.number (omega arith))
+    let compact = decimal_nests 0 c.args.number (omega arith) in
+    IfOk-weaker c.from_compact.result _ (IsCompact 0) (λ raw written. subst (IsCompact 0) (sym (written ∙ same)) compact) c.from_compact.ensures

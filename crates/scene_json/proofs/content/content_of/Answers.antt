@@ -26,7 +26,7 @@ from_utf8-requires c =
 pub returns-then-bytes-end-eq34-clause-found : goal.returns-then-bytes-end-eq34-clause-found
 returns-then-bytes-end-eq34-clause-found c text rest quoted =
     let both = reading-closes (reading (goal.at.returns-then-bytes-end-eq34-clause-found c).In_ok-extend_from_slice) c.if-bytes-end-eq34.true text rest quoted in
-    (c.from_utf8.ensures ∙ both.0, both.1)
+    (c.in_ok-from_utf8.ensures ∙ both.0, both.1)
 
 pub push_escape-requires-clause-unread : goal.push_escape-requires-clause-unread
 push_escape-requires-clause-unread c =

@@ -14,4 +14,4 @@ pub returns-clause-only : goal.returns-clause-only
 returns-clause-only c =
     λ text rest stands.
     let pushed = c.in_ok-push_compact.ensures.ok text rest stands in
-    (sym (c.from_compact.ensures ∙ pushed.0 ∙ ap (λ (x : List ℕ). x ++ text) c.new-text.ensures.items), c.in-Ok.ensures.only text rest stands)
+    (sym (c.in_ok-from_compact.ensures ∙ pushed.0 ∙ ap (λ (x : List ℕ). x ++ text) c.new-text.ensures.items), c.in-Ok.ensures.only text rest stands)

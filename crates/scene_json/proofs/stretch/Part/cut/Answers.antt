@@ -22,4 +22,4 @@ returns c =
     let long : length (take size (drop start bytes)) ≡ size =
     length-take-le size (drop start bytes) (omega (arith, length-drop start bytes, c.self.invariant)) in
     let fits : c.args.end ≤ size = omega (arith, long, ap length c.self.view_is) in
-    rw (← c.self.view_is, c.in_ok-clone.ensures.cases) (part_of start size c.args.start c.args.end bytes c.requires.0 fits)
+    rw (← c.self.view_is, c.in_ok-clone.ensures.cases, c.offset.ensures, c.offset-2.ensures) (part_of start size c.args.start c.args.end bytes c.requires.0 fits)
