@@ -22,7 +22,6 @@ pub(crate) fn answer(alloc: Global, command: Command, bytes: Bytes) -> Result<By
     ensures text { IfOk result (λ text. IsAnswer command bytes (Ok text)) }
     ensures fault { (fault : Fault) → result ≡ Err (Stop.Fault fault) → IsAnswer command bytes (Err fault) }
 {
-    let bytes = bytes.as_slice();
     match command {
         Command::Restore(layout) => {
             let scene = one_scene(alloc, bytes)?;

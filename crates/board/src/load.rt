@@ -7,13 +7,29 @@ ghost use Rattle.board.specs.Input.{HasScenes};
 ghost use Rattle.board.specs.declared.status.Fault.{Fault};
 
 use crate::status::Fault;
-use board_io::{List, Stop};
+use board_io::{Bytes, List, Stop};
 use scene_file::{Scene, read_scene};
 use scene_json::skip_space;
 use std::alloc::Global;
 
-/// The one scene that the input is.
-pub(crate) fn one_scene(alloc: Global, bytes: &[u8]) -> Result<Scene, Stop<Fault>>
+/// The one scene that the input is, which is dropped as soon as it is read.
+pub(crate) fn one_scene(alloc: Global, input: Bytes) -> Result<Scene, Stop<Fault>>
+    ensures scene { IfOk result (λ scene. HasScenes input (scene ∷ [])) }
+    ensures fault { (fault : Fault) → result ≡ Err (Stop.Fault fault) → IsOneRefusal input fault }
+{
+    one_scene_in(alloc, input.as_slice())
+}
+
+/// The scenes that the input is, one at least. The input is dropped as soon as they are read.
+pub(crate) fn scenes(alloc: Global, input: Bytes) -> Result<List<Scene>, Stop<Fault>>
+    ensures scenes { IfOk result (HasScenes input) }
+    ensures fault { (fault : Fault) → result ≡ Err (Stop.Fault fault) → IsRefusal input fault }
+{
+    scenes_in(alloc, input.as_slice())
+}
+
+/// The one scene that the bytes are.
+fn one_scene_in(alloc: Global, bytes: &[u8]) -> Result<Scene, Stop<Fault>>
     ensures scene { IfOk result (λ scene. HasScenes bytes.now (scene ∷ [])) }
     ensures fault { (fault : Fault) → result ≡ Err (Stop.Fault fault) → IsOneRefusal bytes.now fault }
 {
@@ -29,8 +45,8 @@ pub(crate) fn one_scene(alloc: Global, bytes: &[u8]) -> Result<Scene, Stop<Fault
     Ok(scene)
 }
 
-/// The scenes that the input is, one at least.
-pub(crate) fn scenes(alloc: Global, bytes: &[u8]) -> Result<List<Scene>, Stop<Fault>>
+/// The scenes that the bytes are, one at least.
+fn scenes_in(alloc: Global, bytes: &[u8]) -> Result<List<Scene>, Stop<Fault>>
     ensures scenes { IfOk result (HasScenes bytes.now) }
     ensures fault { (fault : Fault) → result ≡ Err (Stop.Fault fault) → IsRefusal bytes.now fault }
 {

@@ -1,9 +1,11 @@
 //! The text of a scene, and that of all that is stored.
 
-ghost use Rattle.std.specs.Prelude.{◌≡◌, ◌++◌, bytes_eq, map, IfOk, OnOk};
+ghost use Rattle.std.specs.Prelude.{◌≡◌, ℕ, List as Items, [], ◌++◌, bytes_eq, map, All, IfOk, OnOk};
 ghost use Rattle.std.specs.List.{IsDistinct, join_with_byte};
 ghost use Rattle.std.specs.Str.{IsUtf8};
 ghost use Rattle.scene_json.specs.Compact.{object_text};
+ghost use Rattle.scene_json.specs.Layout.{IsLaidOut};
+ghost use Rattle.scene_json.specs.Lines.{IsLaidOutSoFar};
 ghost use Rattle.scene_json.specs.Members.{pairs};
 ghost use Rattle.scene_json.specs.Parts.{names_of};
 ghost use Rattle.scene_json.specs.Value.{IsCompact};
@@ -19,7 +21,7 @@ use crate::layout::Layout;
 use board_io::{Bytes, List};
 use elem::{Element, push_element, push_elements};
 use elem_store::Store;
-use scene_json::{Member, Text, push_comma, push_member, push_pretty, push_quote};
+use scene_json::{Lines, Member, Text, push_comma, push_member, push_quote};
 use std::alloc::{AllocError, Global};
 use view::View;
 
@@ -34,14 +36,16 @@ pub fn scene_text(
     ensures text { IfOk result (IsSceneText layout head.now (shown view.now)) }
     ensures rise { IfOk result (λ _. HaveRisingKeys (shown view.now)) }
 {
-    let mut scene = Vec::new(alloc);
-    push_scene(&mut scene, head, view.elements())?;
+    let elements = view.elements();
+    let mut out = Vec::new(alloc);
     match layout {
-        Layout::Compact => Ok(Bytes::from_vec(scene)),
+        Layout::Compact => {
+            push_scene(&mut out, head, elements)?;
+            Ok(Bytes::from_vec(out))
+        }
         Layout::Pretty => {
-            let mut lines = Vec::new(alloc);
-            push_pretty(&mut lines, scene.as_slice(), 0)?;
-            Ok(Bytes::from_vec(lines))
+            push_scene_lines(&mut out, head, elements)?;
+            Ok(Bytes::from_vec(out))
         }
     }
 }
@@ -68,6 +72,47 @@ fn push_scene(out: &mut Vec<u8>, head: &Head, elements: &[Element]) -> Result<()
     push_front(out, &head.source)?;
     push_elements(out, elements)?;
     push_back(out, &head.app_state, &files)?;
+    Ok(())
+}
+
+/// Writes the text of the scene of these elements, each member and item on a line of its own. Beside it stands the text of
+/// one element at a time.
+fn push_scene_lines(
+    out: &mut Vec<u8>,
+    head: &Head,
+    elements: &[Element],
+) -> Result<(), AllocError>
+    requires { out.old.items ≡ [] }
+    ensures { OnOk result (IsLaidOut 0 (scenes.scene_text head.now elements.now) out.new.items) }
+{
+    let referred = head.files.referred(elements)?;
+    let mut lines = Lines::new();
+    let mut piece = Vec::new(*out.allocator());
+    push_front(&mut piece, &head.source)?;
+    lines.push(out, piece.as_slice())?;
+    push_element_lines(&mut lines, out, &mut piece, elements)?;
+    piece.clear();
+    push_back(&mut piece, &head.app_state, &referred)?;
+    lines.push(out, piece.as_slice())
+}
+
+/// Appends the layout of the texts of elements, with commas between them. Each text stands in the piece for a time.
+fn push_element_lines(
+    lines: &mut Lines,
+    out: &mut Vec<u8>,
+    piece: &mut Vec<u8>,
+    elements: &[Element],
+) -> Result<(), AllocError>
+    ensures laid_out { OnOk result ((text : Items ℕ) → IsLaidOutSoFar lines.old text out.old.items
+        → IsLaidOutSoFar lines.new (text ++ join_with_byte 44 (map element_text elements.now)) out.new.items) }
+    ensures nest { OnOk result (All (λ e. IsCompact 120 (element_text e)) elements.now) }
+{
+    for (i, e) in elements.iter().enumerate() {
+        piece.clear();
+        push_comma(piece, i)?;
+        push_element(piece, e)?;
+        lines.push(out, piece.as_slice())?;
+    }
     Ok(())
 }
 

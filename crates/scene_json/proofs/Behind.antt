@@ -11,11 +11,6 @@ use Rattle.scene_json.specs.Passes.{behind_string}
 use Rattle.scene_json.proofs.Literals.{list_all-each}
 use Rattle.scene_json.proofs.Strings.{plain-bare}
 
--- outside strings, or in one and perhaps behind a backslash
-pub data Place : Type 0 where
-  outside : Place
-  inside : Bool → Place
-
 -- a string up to its end, of which these bytes are the rest
 abbrev pub string_front : Bool → List ℕ → List ℕ
 string_front escaped [] = []
@@ -35,10 +30,10 @@ length-behind_string escaped (b ∷ bs) =
     cond_both (b == 34 && not escaped) _ _ (λ (x : List ℕ). length x ≤ suc (length bs)) (λ _. omega arith)
     (λ _. omega (arith, length-behind_string (b == 92 && not escaped) bs))
 
-plain-quote : (b : ℕ) → is_plain b ≡ true → eqb b 34 ≡ false
+pub plain-quote : (b : ℕ) → is_plain b ≡ true → eqb b 34 ≡ false
 plain-quote b h = grind (arith, nat_tests)
 
-plain-slash : (b : ℕ) → is_plain b ≡ true → eqb b 92 ≡ false
+pub plain-slash : (b : ℕ) → is_plain b ≡ true → eqb b 92 ≡ false
 plain-slash b h = grind (arith, nat_tests)
 
 hex-plain : (b : ℕ) → is_hex b ≡ true → is_plain b ≡ true

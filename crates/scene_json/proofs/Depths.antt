@@ -7,7 +7,7 @@ use Rattle.std.proofs.lemmas.List.Sums.{sum_by-cons}
 use Rattle.scene_json.specs.Tree.{Container, array, object, opening, closing, Tree, spelling, IsGood, depth}
 use Rattle.scene_json.specs.Value.{IsCompact}
 use Rattle.scene_json.specs.Passes.{behind_string, is_opening, is_closing}
-use Rattle.scene_json.proofs.Behind.{Place, outside, inside}
+use Rattle.scene_json.specs.Lines.{Place, outside, inside}
 use Rattle.scene_json.proofs.Passing.{is_inert, IsPass, tree-steps}
 
 abbrev pub level_after : ℕ → ℕ → ℕ

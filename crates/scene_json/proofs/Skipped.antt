@@ -5,7 +5,7 @@ use Rattle.std.proofs.lemmas.Bool.Decides.{nat_tests}
 use Rattle.scene_json.specs.Tree.{Container, array, object, opening, closing, depth}
 use Rattle.scene_json.specs.Passes.{behind_string, is_opening, is_closing, ends_value}
 use Rattle.scene_json.specs.Walk.{Compacted, IsEnd}
-use Rattle.scene_json.proofs.Behind.{Place, outside, inside}
+use Rattle.scene_json.specs.Lines.{Place, outside, inside}
 use Rattle.scene_json.proofs.Depths.{level_after}
 use Rattle.scene_json.proofs.Passing.{is_inert, IsPass, tree-steps}
 

@@ -1,25 +1,17 @@
 -- How a pass over a text lays it out.
-use Rattle.std.proofs.Common.{◌≡◌, ℕ, ◌+◌, ◌-◌, ◌≤◌, List, [], ◌∷◌, ◌++◌, Bool, true, false, not, ◌&&◌, ◌==◌, eqb, if◌then◌else◌, length, take, flat_map, refl, sym, ap, ◌∙◌, append-nil, append_assoc, arith, inl, inr}
+use Rattle.std.proofs.Common.{◌≡◌, ℕ, zero, suc, ◌+◌, ◌-◌, ◌<◌, List, [], ◌∷◌, ◌++◌, Bool, true, false, not, ◌&&◌, ◌==◌, eqb, take, drop, flat_map, refl, sym, ap, subst, ◌∙◌, append-nil, append_assoc, arith, inl, inr}
 use Rattle.std.specs.List.{list_all, AllByRecursion}
-use Rattle.std.proofs.lemmas.List.{length-append, take_at}
-use Rattle.std.proofs.lemmas.Bool.{and_parts, cond_both, cases_Bool, eqb-true}
+use Rattle.std.proofs.lemmas.List.{take-append-drop}
+use Rattle.std.proofs.lemmas.Bool.{and_parts, cases_Bool}
 use Rattle.std.proofs.lemmas.Bool.Decides.{nat_tests}
-use Rattle.scene_json.specs.Characters.{is_space}
+use Rattle.scene_json.specs.Characters.{is_space, is_plain}
 use Rattle.scene_json.specs.Tree.{Piece, IsPiece, piece_spelling, string_spelling, Container, array, object, opening, closing, Label, unnamed, named, IsLabel, label_spelling, Tree, scalar, text, empty, filled, Values, last, next, spelling, values_spelling, IsGood, AreGood}
 use Rattle.scene_json.specs.Layout.{line, label_laid_out, laid_out, values_laid_out}
-use Rattle.scene_json.specs.Passes.{behind_string, behind_token, is_opening, is_closing, spaces_from, put_before, put_behind}
-use Rattle.scene_json.proofs.Behind.{Place, outside, inside, string_front, front-behind, length-behind_string, pieces-front, pieces-behind}
+use Rattle.scene_json.specs.Lines.{Place, outside, inside, Standing, layout, layout_from}
+use Rattle.scene_json.specs.Passes.{behind_string, is_opening, is_closing, spaces_from, put_before, put_behind}
+use Rattle.scene_json.proofs.Behind.{string_front, pieces-front, pieces-behind, plain-quote, plain-slash}
 use Rattle.scene_json.proofs.Literals.{is_part_of_literal, literal-plain}
 use Rattle.scene_json.proofs.Reading.{begins_value, begins-no-space, values-Front, regroup-last, regroup-next}
-
--- the layout of what a text has from here on
-abbrev pub layout : Place → Bool → ℕ → List ℕ → List ℕ
-layout place first spaces [] = []
-layout outside first spaces (b ∷ bs) =
-    (if is_space b then [] else put_before first spaces b ++ b ∷ put_behind (spaces_from first spaces b) b)
-    ++ layout (if b == 34 then inside false else outside) (if is_space b then first else is_opening b) (if is_space b then spaces else spaces_from first spaces b) bs
-layout (inside escaped) first spaces (b ∷ bs) =
-    b ∷ layout (if b == 34 && not escaped then outside else inside (b == 92 && not escaped)) first spaces bs
 
 -- a string is kept
 inside-string : (escaped first : Bool) (spaces : ℕ) (bs : List ℕ) → layout (inside escaped) first spaces bs ≡ string_front escaped bs ++ layout outside first spaces (behind_string escaped bs)
@@ -45,49 +37,23 @@ quote-step first spaces bs =
     append_assoc (put_before first spaces 34) (34 ∷ []) (layout (inside false) false (spaces_from first spaces 34) bs)
     ∙ ap (λ x. put_before first spaces 34 ++ (34 ∷ x)) (inside-string false false (spaces_from first spaces 34) bs)
 
--- what the pass copies at once, a string or a byte
-abbrev pub token : ℕ → List ℕ → List ℕ
-token b bs = b ∷ (if b == 34 then string_front false bs else [])
+-- plain characters of a string are copied
+pub run-steps : (xs : List ℕ) (first : Bool) (spaces : ℕ) (bs : List ℕ) → AllByRecursion (λ b. is_plain b ≡ true) xs → layout (inside false) first spaces (xs ++ bs) ≡ xs ++ layout (inside false) first spaces bs
+run-steps [] first spaces bs h = refl
+run-steps (x ∷ xs) first spaces bs h =
+    rw (plain-quote x h.0, plain-slash x h.0) (ap (λ y. x ∷ y) (run-steps xs first spaces bs h.1))
 
-token-behind : (b : ℕ) (bs : List ℕ) → token b bs ++ behind_token b bs ≡ b ∷ bs
-token-behind b bs = elim (cases_Bool (eqb b 34)) [
-  | inl e ↦ rw e (ap (λ x. b ∷ x) (front-behind false bs))
-  | inr e ↦ rw e refl
-]
-
-pub length-behind_token : (b : ℕ) (bs : List ℕ) → length (behind_token b bs) ≤ length bs
-length-behind_token b bs = elim (cases_Bool (eqb b 34)) [
-  | inl e ↦ rw e (length-behind_string false bs)
-  | inr e ↦ rw e (omega arith)
-]
-
-token-step : (first : Bool) (spaces b : ℕ) (bs : List ℕ) → is_space b ≡ false → layout outside first spaces (b ∷ bs) ≡ put_before first spaces b ++ (token b bs ++ (put_behind (spaces_from first spaces b) b ++ layout outside (is_opening b) (spaces_from first spaces b) (behind_token b bs)))
-token-step first spaces b bs space = elim (cases_Bool (eqb b 34)) [
-  | inl e ↦ let same : b ≡ 34 = eqb-true b 34 e in rw same (quote-step first spaces bs)
-  | inr e ↦ byte-step first spaces b bs space e ∙ rw e refl
-]
-
-pub spaces_from-le : (first : Bool) (spaces b : ℕ) → spaces_from first spaces b ≤ spaces + 2
-spaces_from-le first spaces b =
-    cond_both (is_closing b) _ _ (λ (n : ℕ). n ≤ spaces + 2)
-    (λ _. cond_both first _ _ (λ (n : ℕ). n ≤ spaces + 2) (λ _. omega arith) (λ _. omega arith))
-    (λ _. cond_both first _ _ (λ (n : ℕ). n ≤ spaces + 2) (λ _. omega arith) (λ _. omega arith))
-
-regroup : (a b c d e : List ℕ) → (((a ++ b) ++ c) ++ d) ++ e ≡ a ++ (b ++ (c ++ (d ++ e)))
-regroup a b c d e = simp append_assoc
-
--- one turn of the loop that lays a text out, where a token stands
-pub turn : (first : Bool) (spaces now b : ℕ) (bs rest after was broken copied parted : List ℕ) → is_space b ≡ false → rest ≡ b ∷ bs → after ≡ behind_token b bs
-    → now ≡ spaces_from first spaces b → broken ≡ was ++ put_before first spaces b → copied ≡ broken ++ take (length rest - length after) rest → parted ≡ copied ++ put_behind now b
-    → parted ++ layout outside (is_opening b) now after ≡ was ++ layout outside first spaces rest
-turn first spaces now b bs rest after was broken copied parted space at left level breaks copies parts =
-    let whole : rest ≡ token b bs ++ after = at ∙ sym (token-behind b bs) ∙ ap (λ x. token b bs ++ x) (sym left) in
-    let long : length rest - length after ≡ length (token b bs) = omega (arith, ap length whole, length-append (token b bs) after) in
-    let cut : take (length rest - length after) rest ≡ token b bs = ap (λ n. take n rest) long ∙ ap (take (length (token b bs))) whole ∙ take_at (token b bs) after _ refl in
-    let written : parted ≡ ((was ++ put_before first spaces b) ++ token b bs) ++ put_behind now b = rw (parts, copies, breaks, cut) refl in
-    ap (λ x. x ++ layout outside (is_opening b) now after) written
-    ∙ regroup was (put_before first spaces b) (token b bs) (put_behind now b) (layout outside (is_opening b) now after)
-    ∙ rw (level, left, at) (ap (λ x. was ++ x) (sym (token-step first spaces b bs space)))
+-- a part of a text of plain characters is copied, and the layout goes on behind it
+pub run-from : (s : Standing) (n : ℕ) (bytes behind more was copied : List ℕ) → AllByRecursion (λ b. is_plain b ≡ true) (take n bytes) → (0 < n → s.place ≡ inside false)
+    → behind ≡ drop n bytes → copied ≡ was ++ take n bytes → copied ++ layout_from s (behind ++ more) ≡ was ++ layout_from s (bytes ++ more)
+run-from s zero bytes behind more was copied plain quoted left copies = rw (left, copies, append-nil was) refl
+run-from s (suc n) bytes behind more was copied plain quoted left copies =
+    let run = take (suc n) bytes in
+    let whole : run ++ (behind ++ more) ≡ bytes ++ more = sym (append_assoc run behind more) ∙ ap (λ x. x ++ more) (ap (λ x. run ++ x) left ∙ take-append-drop (suc n) bytes) in
+    let P : Place → Type 0 = λ place. run ++ layout place s.first s.spaces (behind ++ more) ≡ layout place s.first s.spaces (run ++ (behind ++ more)) in
+    let here : run ++ layout_from s (behind ++ more) ≡ layout_from s (run ++ (behind ++ more)) =
+    subst P (sym (quoted (omega arith))) (sym (run-steps run s.first s.spaces (behind ++ more) plain)) in
+    ap (λ x. x ++ layout_from s (behind ++ more)) copies ∙ append_assoc was run (layout_from s (behind ++ more)) ∙ ap (λ x. was ++ x) (here ∙ ap (layout_from s) whole)
 
 plain-step : (spaces b : ℕ) (bs : List ℕ) → is_part_of_literal b ≡ true → layout outside false spaces (b ∷ bs) ≡ b ∷ layout outside false spaces bs
 plain-step spaces b bs plain =

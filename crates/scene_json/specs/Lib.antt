@@ -3,6 +3,7 @@ pub mod Characters
 pub mod Compact
 pub mod Faults
 pub mod Layout
+pub mod Lines
 pub mod Machine
 pub mod Members
 pub mod Named

@@ -1,5 +1,5 @@
 -- What a pass over the bytes of a text meets. Only contracts of private functions cite this.
-use Rattle.std.specs.Prelude.{ℕ, ◌+◌, ◌-◌, List, [], ◌∷◌, Bool, false, not, ◌&&◌, ◌||◌, ◌==◌, if◌then◌else◌}
+use Rattle.std.specs.Prelude.{ℕ, ◌+◌, ◌-◌, List, [], ◌∷◌, Bool, not, ◌&&◌, ◌||◌, ◌==◌, if◌then◌else◌}
 use Rattle.scene_json.specs.Characters.{quotation_mark, comma, colon, backslash}
 use Rattle.scene_json.specs.Layout.{line}
 
@@ -9,10 +9,6 @@ abbrev pub behind_string : Bool → List ℕ → List ℕ
 behind_string escaped [] = []
 behind_string escaped (b ∷ bs) =
     if b == quotation_mark && not escaped then bs else behind_string (b == backslash && not escaped) bs
-
--- what stands behind the token that begins with this byte, a string or the byte alone
-abbrev pub behind_token : ℕ → List ℕ → List ℕ
-behind_token b bs = if b == quotation_mark then behind_string false bs else bs
 
 -- a bracket that opens an array or an object. RFC 8259, section 2.
 abbrev pub is_opening : ℕ → Bool

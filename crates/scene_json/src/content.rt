@@ -63,7 +63,7 @@ pub(crate) fn content_of(
 }
 
 /// Where the first `"` or `\` stands from an offset on.
-fn run_end(bytes: &[u8], at: usize) -> usize
+pub(crate) fn run_end(bytes: &[u8], at: usize) -> usize
     requires { at ≤ length bytes.now }
     ensures value { result ≡ at + prefix_len is_plain (drop at bytes.now) }
     ensures within { (at ≤ result) × (result ≤ length bytes.now) }

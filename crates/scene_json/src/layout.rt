@@ -1,16 +1,21 @@
 //! The layout of a value for readers.
 
-ghost use Rattle.std.specs.Prelude.{◌≡◌, ◌+◌, ◌++◌, ◌*◌, ◌<◌, ◌^◌, IfOk, OnOk};
+ghost use Rattle.std.specs.Prelude.{◌≡◌, ◌-◌, ◌*◌, ◌<◌, ◌≤◌, ℕ, List as Items, [], ◌∷◌, ◌++◌, true, false, take, length, IfOk, OnOk};
+ghost use Rattle.std.specs.List.{AllByRecursion};
+ghost use Rattle.scene_json.specs.Characters.{is_plain};
 ghost use Rattle.scene_json.specs.Layout.{line, laid_out};
-ghost use Rattle.scene_json.specs.Passes.{behind_token, is_closing, spaces_from, put_before, put_behind};
+ghost use Rattle.scene_json.specs.Lines.{IsLaidOutSoFar, inside, layout_from};
+ghost use Rattle.scene_json.specs.Passes.{is_closing, spaces_from, put_before, put_behind};
 ghost use Rattle.scene_json.specs.Tree.{Tree, IsGood, spelling};
 ghost use Rattle.scene_json.specs.Value.{Value};
 
+use crate::content::run_end;
 use crate::machine::is_space;
-use crate::nesting::{after_string, opens};
+use crate::nesting::opens;
 use crate::text::Raw;
 use board_io::Bytes;
 use std::alloc::{AllocError, Global};
+use std::marker::Model;
 
 /// The value with each member and item on a line of its own, two spaces deeper than its container, and a space behind
 /// the colon of a member. Empty containers are `{}` and `[]`, and no line feed ends it. It fails for want of memory alone.
@@ -20,46 +25,110 @@ pub fn pretty(alloc: Global, value: &Raw) -> Result<Bytes, AllocError>
     ensures value { IfOk result (λ bytes. Value 128 bytes value.now) }
 {
     let mut out = Vec::new(alloc);
-    push_pretty(&mut out, value.as_bytes(), 0)?;
+    Lines::new().push(&mut out, value.as_bytes())?;
     Ok(Bytes::from_vec(out))
 }
 
-/// Appends the layout of a value that stands so many levels deep, from its text, whose own white space is left out. Its
-/// first line isn't begun. After want of memory a part of it may stand there.
-pub fn push_pretty(out: &mut Vec<u8>, text: &[u8], level: u32) -> Result<(), AllocError>
-    ensures { OnOk result ((tree : Tree) → IsGood tree → spelling tree ≡ text.now
-        → out.new.items ≡ out.old.items ++ spelling (laid_out (2 * level) tree)) }
-{
-    let mut current = u64::from(level);
-    let mut first = false;
-    let mut rest = text;
-    while let Some((byte, others)) = rest.split_first() {
-        let after = behind_token(*byte, others);
-        if !is_space(*byte) {
-            current = break_line(out, current, first, *byte)?;
-            out.extend_from_slice(&rest[..rest.len() - after.len()])?;
-            part(out, current, *byte)?;
-            first = opens(*byte);
-        }
-        rest = after;
-    }
-    Ok(())
+/// The layout of a value whose text comes piece by piece: where it stands behind the pieces so far.
+#[derive(Drop)]
+pub struct Lines {
+    /// How many containers are open.
+    level: u64,
+    /// The last byte opened one.
+    first: bool,
+    /// The last byte stands in a string that goes on.
+    quoted: bool,
+    /// In that string, the next byte stands behind a `\` that escapes it.
+    escaped: bool,
 }
 
-/// What stands behind the token that begins with this byte, a string or the byte alone.
-fn behind_token(byte: u8, others: &[u8]) -> &[u8]
-    ensures { result.now ≡ behind_token byte others.now }
-{
-    if byte == b'"' {
-        after_string(others)
-    } else {
-        others
+impl Model for Lines {
+    ghost use Rattle.std.specs.Prelude.{◌*◌};
+    ghost use Rattle.scene_json.specs.Lines.{Standing, place_of};
+
+    ghost Value = { Standing };
+
+    ghost view = { λ l. record { place = place_of l.quoted l.escaped; first = l.first; spaces = 2 * l.level } };
+}
+
+impl Lines {
+    /// Behind no piece.
+    pub fn new() -> Lines
+        ensures { IsLaidOutSoFar result [] [] }
+    {
+        Lines {
+            level: 0,
+            first: false,
+            quoted: false,
+            escaped: false,
+        }
+    }
+
+    /// Appends the layout of the next piece, which may end anywhere in the text. White space between values is left out.
+    /// After want of memory a part of the piece may stand there.
+    pub fn push(&mut self, out: &mut Vec<u8>, piece: &[u8]) -> Result<(), AllocError>
+        ensures { OnOk result ((text : Items ℕ) → IsLaidOutSoFar self.old text out.old.items
+            → IsLaidOutSoFar self.new (text ++ piece.now) out.new.items) }
+    {
+        let mut rest = piece;
+        while !rest.is_empty() {
+            rest = self.push_next(out, rest)?;
+        }
+        Ok(())
+    }
+
+    /// Appends the layout of the plain characters of a string that stand at the front, and of the byte behind them, and
+    /// gives what follows.
+    fn push_next<'a>(&mut self, out: &mut Vec<u8>, bytes: &'a [u8]) -> Result<&'a [u8], AllocError>
+        ensures appended { IfOk result (λ rest. (more : Items ℕ) → out.new.items ++ layout_from self.new (rest.now ++ more)
+            ≡ out.old.items ++ layout_from self.old (bytes.now ++ more)) }
+        ensures shorter { IfOk result (λ rest. length rest.now ≤ length bytes.now - 1) }
+    {
+        let (run, behind) = bytes.split_at(self.run_length(bytes));
+        out.extend_from_slice(run)?;
+        let Some((byte, others)) = behind.split_first() else {
+            return Ok(behind);
+        };
+        self.push_byte(out, *byte)?;
+        Ok(others)
+    }
+
+    /// How many bytes at the front are plain characters of a string.
+    fn run_length(&self, bytes: &[u8]) -> usize
+        ensures plain { AllByRecursion (λ b. is_plain b ≡ true) (take result bytes.now) }
+        ensures within { result ≤ length bytes.now }
+        ensures quoted { 0 < result → self.now.place ≡ inside false }
+    {
+        if self.quoted && !self.escaped {
+            run_end(bytes, 0)
+        } else {
+            0
+        }
+    }
+
+    /// Appends the layout of a byte.
+    fn push_byte(&mut self, out: &mut Vec<u8>, byte: u8) -> Result<(), AllocError>
+        ensures { OnOk result ((more : Items ℕ) → out.new.items ++ layout_from self.new more
+            ≡ out.old.items ++ layout_from self.old (byte ∷ more)) }
+    {
+        if self.quoted {
+            out.push(byte)?;
+            self.quoted = byte != b'"' || self.escaped;
+            self.escaped = byte == b'\\' && !self.escaped;
+        } else if !is_space(byte) {
+            self.level = break_line(out, self.level, self.first, byte)?;
+            out.push(byte)?;
+            part(out, self.level, byte)?;
+            self.first = opens(byte);
+            self.quoted = byte == b'"';
+            self.escaped = false;
+        }
+        Ok(())
     }
 }
 
 /// Begins the line of this byte, if it is the first in a container or closes one that isn't empty, and gives its level.
 fn break_line(out: &mut Vec<u8>, level: u64, first: bool, byte: u8) -> Result<u64, AllocError>
-    requires { level + 1 < 2 ^ 64 }
     ensures level { IfOk result (λ now. 2 * now ≡ spaces_from first (2 * level) byte) }
     ensures written { OnOk result (out.new.items ≡ out.old.items ++ put_before first (2 * level) byte) }
 {
@@ -70,7 +139,8 @@ fn break_line(out: &mut Vec<u8>, level: u64, first: bool, byte: u8) -> Result<u6
     let level = if closing {
         level.saturating_sub(1)
     } else {
-        level + 1
+        // A line of so many spaces would find no memory.
+        level.checked_add(1).ok_or(AllocError)?
     };
     push_line(out, level)?;
     Ok(level)
@@ -87,8 +157,8 @@ fn part(out: &mut Vec<u8>, level: u64, byte: u8) -> Result<(), AllocError>
     }
 }
 
-/// Begins a line with two spaces for each level. After want of memory a part of it may stand there.
-pub fn push_line(out: &mut Vec<u8>, level: u64) -> Result<(), AllocError>
+/// Begins a line with two spaces for each level.
+fn push_line(out: &mut Vec<u8>, level: u64) -> Result<(), AllocError>
     ensures { OnOk result (out.new.items ≡ out.old.items ++ line (2 * level)) }
 {
     out.extend_from_slice(b"\n")?;

@@ -32,7 +32,7 @@ pub use build::{
 };
 pub use end::skip_space;
 pub use fault::{JsonFault, Shape};
-pub use layout::{pretty, push_line, push_pretty};
+pub use layout::{Lines, pretty};
 pub use named::{has_value, is_one_of, shaped, text_named, truth_named, value_named, whole_named};
 pub use nesting::{depth_of, nests_at_most};
 pub use parts::{items, members, text_of};

@@ -1,7 +1,9 @@
 -- The text stands in bytes of its own.
-use Rattle.std.proofs.Common.{◌≡◌, ap, ◌∙◌, ◌++◌, arith}
+use Rattle.std.proofs.Common.{◌≡◌, ap, ◌∙◌, ◌++◌, sym, subst, arith}
+use Rattle.std.proofs.lemmas.Result.{IfOk-weaker}
 use Rattle.scene_json.proofs.CompactLaws.{Value-deeper}
 use Rattle.scene_json.specs.Members.{pairs}
+use Rattle.scene_json.specs.Value.{IsCompact}
 use Rattle.elem.specs.Texts.{header_members, element_members, element_text}
 use Rattle.elem.proofs.Sorting.{IsPermutation-sorted}
 use Rattle.elem.proofs.raw.element_raw.Goals as goal
@@ -14,18 +16,20 @@ pub raw_of-requires : goal.raw_of-requires
 raw_of-requires c = rw (written c) (Value-deeper (omega arith) c.in_ok-push_element.ensures.nests)
 
 pub returns-clause-text : goal.returns-clause-text
-returns-clause-text c = c.raw_of.ensures ∙ written (goal.at.returns-clause-text c).In_ok-push_element
+returns-clause-text c =
+    let text = written (goal.at.returns-clause-text c).In_ok-push_element in
+    IfOk-weaker c.raw_of.result _ (λ raw. raw ≡ element_text c.args.e.now) (λ raw same. same ∙ text) c.raw_of.ensures
 
 pub returns-clause-sorted : goal.returns-clause-sorted
 unfolding element_members
 returns-clause-sorted c =
-    let e = c.args.e.now in (
-      element_members e,
-      c.raw_of.ensures ∙ written (goal.at.returns-clause-sorted c).In_ok-push_element,
-      IsPermutation-sorted (header_members e ++ pairs e.rest),
-      c.in_ok-push_element.ensures.rise,
-    )
+    let e = c.args.e.now in
+    let text = written (goal.at.returns-clause-sorted c).In_ok-push_element in
+    IfOk-weaker c.raw_of.result _ _
+    (λ raw same. (element_members e, same ∙ text, IsPermutation-sorted (header_members e ++ pairs e.rest), c.in_ok-push_element.ensures.rise))
+    c.raw_of.ensures
 
 pub returns-clause-nests : goal.returns-clause-nests
 returns-clause-nests c =
-    rw (c.raw_of.ensures ∙ written (goal.at.returns-clause-nests c).In_ok-push_element) c.in_ok-push_element.ensures.nests
+    let text = written (goal.at.returns-clause-nests c).In_ok-push_element in
+    IfOk-weaker c.raw_of.result _ (IsCompact 120) (λ raw same. subst (IsCompact 120) (sym (same ∙ text)) c.in_ok-push_element.ensures.nests) c.raw_of.ensures

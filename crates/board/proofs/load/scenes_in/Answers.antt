@@ -5,7 +5,7 @@ use Rattle.board.specs.declared.status.Fault.{Fault}
 use Rattle.board.specs.declared.status.Fault.TheVariants as fault
 use Rattle.board.proofs.Blanks.{blank-at_end, blank-before_end}
 use Rattle.board.proofs.Scenes.{ScenesLead-more, one-more}
-use Rattle.board.proofs.load.scenes.Goals as goal
+use Rattle.board.proofs.load.scenes_in.Goals as goal
 
 pub loop-found-init : goal.loop-found-init
 loop-found-init c = record {

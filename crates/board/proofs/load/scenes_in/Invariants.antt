@@ -1,7 +1,7 @@
 use Rattle.std.proofs.Common.{◌≡◌, ◌≤◌, ◌-◌, ◌⊎◌, [], false, length, drop}
 use Rattle.scene_json.specs.Characters.{is_blank}
 use Rattle.board.specs.Input.{ScenesLead}
-use Rattle.board.proofs.load.scenes.Given as goal
+use Rattle.board.proofs.load.scenes_in.Given as goal
 
 -- the scenes so far lead up to the offset, and behind the first one more than white space is left
 abbrev pub invariant-loop-found : goal.invariant-loop-found

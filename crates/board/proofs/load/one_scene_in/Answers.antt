@@ -1,6 +1,6 @@
 use Rattle.std.proofs.Common.{drop, refl, arith}
 use Rattle.board.proofs.Blanks.{blank-not_before}
-use Rattle.board.proofs.load.one_scene.Goals as goal
+use Rattle.board.proofs.load.one_scene_in.Goals as goal
 
 pub returns-clause-scene : goal.returns-clause-scene
 returns-clause-scene c = record {
