@@ -50,13 +50,13 @@ next-text bytes at scenes within lead onward = by (ended-or-not (drop at bytes) 
         → ((scene : Scene) × (end : ℕ) × StandsAt bytes at scene end) ⊎ ((found : SceneFault) × IsFaultAt bytes at found) → Held bytes
     by (inl (some, blank)) next = inl (scenes, record { some = some; rest = drop at bytes; lead = lead; space = blank })
     by (inr begun) (inr (found, is)) =
-        inr (length scenes + 1, found, record { scenes = scenes; at = at; within = within; lead = lead; counted = refl; begun = begun; faulty = is })
+        inr (length scenes + 1, found, record { scenes = scenes; start = at; within = within; lead = lead; counted = refl; begun = begun; faulty = is })
     by (inr begun) (inl (scene, end, s)) = onward scene end s
 
 held-from : (bytes : List ℕ) (left at : ℕ) (scenes : List Scene) → at ≤ length bytes → length bytes ≤ at + left → ScenesLead bytes scenes (drop at bytes) → Held bytes
 held-from bytes zero at scenes within near lead = next-text bytes at scenes within lead (λ scene end s. absurd (omega (arith, s.behind, s.within)))
 held-from bytes (suc left) at scenes within near lead = next-text bytes at scenes within lead (λ scene end s.
-    held-from bytes left end (scenes ++ scene ∷ []) s.within (omega (arith, s.behind)) (ScenesLead-more bytes (drop at bytes) (drop end bytes) scenes scene lead s.is))
+    held-from bytes left end (scenes ++ scene ∷ []) s.within (omega (arith, s.behind)) (ScenesLead-more bytes (drop at bytes) (drop end bytes) scenes scene lead s.stands))
 
 held : (bytes : List ℕ) → Held bytes
 held bytes = held-from bytes (length bytes) 0 [] (omega arith) (omega arith) refl
@@ -64,7 +64,7 @@ held bytes = held-from bytes (length bytes) 0 [] (omega arith) (omega arith) ref
 -- ---- the scenes of an input have their texts
 led-texts : (bytes rest : List ℕ) (scenes : List Scene) → ScenesLead bytes scenes rest → AllByRecursion HasText scenes
 led-texts bytes rest [] lead = tt
-led-texts bytes rest (scene ∷ scenes) (next, at, lead) = ((at.text, at.is), led-texts next rest scenes lead)
+led-texts bytes rest (scene ∷ scenes) (next, at, lead) = ((at.text, at.says), led-texts next rest scenes lead)
 
 held-texts : (bytes : List ℕ) (scenes : List Scene) → HasScenes bytes scenes → AllByRecursion HasText scenes
 held-texts bytes scenes has = led-texts bytes has.rest scenes has.lead
@@ -74,12 +74,12 @@ board-exists : (scenes : List Scene) → (head : Heading) × (stored : List Draw
 board-exists scenes =
     let head = joined-exists (heads_of scenes) in
     let stored = stored-exist (updates_of scenes) in
-    (head.0, stored.0, record { joined = head.1; are = stored.1 })
+    (head.0, stored.0, record { joined = head.1; stores = stored.1 })
 
 shown-exists : (layout : Layout) (scenes : List Scene) → AllByRecursion HasText scenes → (text : List ℕ) × IsShownAs scenes layout text
 shown-exists layout scenes read =
     let (head, stored, board) = board-exists scenes in
-    let written = written-exists layout (scene_text head (shown_of stored)) (shown-compact scenes head stored read board.joined board.are) in (
+    let written = written-exists layout (scene_text head (shown_of stored)) (shown-compact scenes head stored read board.joined board.stores) in (
       written.0 ++ newline,
       record {
         head = head;
@@ -88,8 +88,8 @@ shown-exists layout scenes read =
         written = written.0;
         scene = written.1;
         ended = refl;
-        rise = shown-rise scenes head stored read board.joined board.are;
-        settled = shown-agree scenes head stored read board.joined board.are;
+        rise = shown-rise scenes head stored read board.joined board.stores;
+        settled = shown-agree scenes head stored read board.joined board.stores;
       },
     )
 
@@ -115,7 +115,7 @@ lines-exist (file ∷ files) nest =
 pictures-exist : (scenes : List Scene) → AllByRecursion HasText scenes → (text : List ℕ) × HasPictures scenes text
 pictures-exist scenes read =
     let (head, stored, board) = board-exists scenes in
-    let lines = lines-exist (referred_files head.files (shown_of stored)) (shown-files scenes head stored read board.joined board.are) in
+    let lines = lines-exist (referred_files head.files (shown_of stored)) (shown-files scenes head stored read board.joined board.stores) in
     (lines.0, record { head = head; stored = stored; board = board; lines = lines.1 })
 
 -- ---- answers
@@ -132,7 +132,7 @@ made-or-refused IsOf bytes make = elim (held bytes) [
 restored : (layout : Layout) (bytes : List ℕ) (scene : Scene) (end : ℕ) → StandsAt bytes 0 scene end → IsAnswered (Restore layout) bytes
 restored layout bytes scene end s = elim (Runs-either is_space (drop end bytes)) [
   | inl blank ↦
-      let has : HasScenes bytes (scene ∷ []) = record { some = λ e. cc; rest = drop end bytes; lead = (drop end bytes, s.is, refl); space = blank.0 } in
+      let has : HasScenes bytes (scene ∷ []) = record { some = λ e. cc; rest = drop end bytes; lead = (drop end bytes, s.stands, refl); space = blank.0 } in
       let made = shown-exists layout (scene ∷ []) (held-texts bytes (scene ∷ []) has) in
       (Ok made.0, (scene, has, made.1))
   | inr more ↦ (
@@ -140,7 +140,7 @@ restored layout bytes scene end s = elim (Runs-either is_space (drop end bytes))
     record {
       scene = scene;
       after = end;
-      lead = s.is;
+      lead = s.stands;
       behind = refl;
       more = omega (arith, more.1, length-drop end bytes, s.within);
     },

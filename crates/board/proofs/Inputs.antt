@@ -43,9 +43,9 @@ drop-once bytes at next within also same = omega (arith, ap length same, length-
 pub faulty-once : (bytes : List ℕ) (number other : ℕ) (fault why : SceneFault) → HasFaultyText bytes number fault → HasFaultyText bytes other why
     → (number ≡ other) × (fault ≡ why)
 faulty-once bytes number other fault why r q =
-    let both = scenes-once bytes (drop r.at bytes) (drop q.at bytes) r.scenes q.scenes r.lead q.lead (faulty-none bytes r.at fault r.faulty) (faulty-none bytes q.at why q.faulty) in
-    let at = drop-once bytes r.at q.at r.within q.within both.1 in
-    (omega (arith, ap length both.0, r.counted, q.counted), fault-once bytes q.at fault why (subst (λ n. IsFaultAt bytes n fault) at r.faulty) q.faulty)
+    let both = scenes-once bytes (drop r.start bytes) (drop q.start bytes) r.scenes q.scenes r.lead q.lead (faulty-none bytes r.start fault r.faulty) (faulty-none bytes q.start why q.faulty) in
+    let at = drop-once bytes r.start q.start r.within q.within both.1 in
+    (omega (arith, ap length both.0, r.counted, q.counted), fault-once bytes q.start fault why (subst (λ n. IsFaultAt bytes n fault) at r.faulty) q.faulty)
 
 all-read : (scenes others : List Scene) (rest : List ℕ) → others ≢ [] → scenes ≡ others → (scenes ≡ []) ⊎ (is_blank rest ≡ false) → is_blank rest ≡ true → ⊥
 all-read scenes others rest some same (inl none) blank = some (sym same ∙ none)
@@ -54,8 +54,8 @@ all-read scenes others rest some same (inr more) blank = both_ways (is_blank res
 -- An input with a faulty text doesn't hold scenes alone.
 pub faulty-scenes : (bytes : List ℕ) (number : ℕ) (fault : SceneFault) (scenes : List Scene) → HasFaultyText bytes number fault → HasScenes bytes scenes → ⊥
 faulty-scenes bytes number fault scenes r has =
-    let both = scenes-once bytes (drop r.at bytes) has.rest r.scenes scenes r.lead has.lead (faulty-none bytes r.at fault r.faulty) (blank-none has.rest has.space) in
-    all-read r.scenes scenes (drop r.at bytes) has.some both.0 r.begun (ap is_blank both.1 ∙ has.space)
+    let both = scenes-once bytes (drop r.start bytes) has.rest r.scenes scenes r.lead has.lead (faulty-none bytes r.start fault r.faulty) (blank-none has.rest has.space) in
+    all-read r.scenes scenes (drop r.start bytes) has.some both.0 r.begun (ap is_blank both.1 ∙ has.space)
 
 -- ---- one scene and a further text
 blank-whole : (bytes : List ℕ) (at : ℕ) → is_blank (drop at bytes) ≡ true → at ≤ length bytes → at + prefix_len is_space (drop at bytes) ≡ length bytes

@@ -69,9 +69,9 @@ board-whole bytes scenes head stored has board =
     let whole = scenes-whole bytes scenes has in
     record {
       head_whole = joined-whole (heads_of scenes) head (heads-whole scenes whole) board.joined;
-      whole = stored-whole (updates_of scenes) stored (updates-all IsWhole scenes (λ scene is. is.elements) whole) board.are;
+      whole = stored-whole (updates_of scenes) stored (updates-all IsWhole scenes (λ scene is. is.elements) whole) board.stores;
       keys = list_all-from_AllPass has_key stored
-          (stored-all HasKey (updates_of scenes) stored board.are (updates-all HasKey scenes (λ scene is. AllPass-from_list_all has_key scene.elements is.keys) whole));
+          (stored-all HasKey (updates_of scenes) stored board.stores (updates-all HasKey scenes (λ scene is. AllPass-from_list_all has_key scene.elements is.keys) whole));
     }
 
 -- ---- what is shown is read as one scene
@@ -125,7 +125,7 @@ module _ (stored : List Drawn) (rise : HaveDistinctIds (live_elements stored)) (
       shown-again (live_elements stored) news rise live-keys (live_elements-live stored) (subst (IsPermutation (shown_of stored)) (sym same) (by_id-moved (shown_of stored)))
 
 live-distinct : (scenes : List Scene) (head : Heading) (stored : List Drawn) → IsBoardOf scenes head stored → HaveDistinctIds (live_elements stored)
-live-distinct scenes head stored board = HaveDistinctIds-rising (live_elements stored) (live_elements-rise stored board.are.ordered)
+live-distinct scenes head stored board = HaveDistinctIds-rising (live_elements stored) (live_elements-rise stored board.stores.ordered)
 
 module _ (bytes : List ℕ) (scenes : List Scene) (head : Heading) (stored : List Drawn) (has : HasScenes bytes scenes) (board : IsBoardOf scenes head stored) where
   -- the same text, of the board and of the board of what it shows
@@ -140,12 +140,12 @@ module _ (bytes : List ℕ) (scenes : List Scene) (head : Heading) (stored : Lis
       let are = shown-stored stored distinct whole.whole in
       let same = shown-shows stored distinct whole.whole news are in
       let head_same = head-once is.board.joined board.joined in
-      let kept = store-unique (updates_of scenes) is.stored stored is.board.are board.are in
+      let kept = store-unique (updates_of scenes) is.stored stored is.board.stores board.stores in
       let shows = ap shown_of kept ∙ sym same in
       record {
         head = with_named_files head (shown_of stored);
         stored = news;
-        board = record { joined = joined-own head whole.head_whole (shown_of stored); are = are };
+        board = record { joined = joined-own head whole.head_whole (shown_of stored); stores = are };
         written = is.written;
         scene = subst (λ t. IsWritten layout t is.written) ((λ i. scene_text (head_same i) (shown_of (kept i))) ∙ sym (same-text news same)) is.scene;
         ended = is.ended;
@@ -157,7 +157,7 @@ module _ (bytes : List ℕ) (scenes : List Scene) (head : Heading) (stored : Lis
   shown-as_before layout text is rise settled =
       let whole = board-whole bytes scenes head stored has board in
       let distinct = live-distinct scenes head stored board in
-      let same = shown-shows stored distinct whole.whole is.stored is.board.are in
+      let same = shown-shows stored distinct whole.whole is.stored is.board.stores in
       let head_same = head-once is.board.joined (joined-own head whole.head_whole (shown_of stored)) in
       record {
         head = head;

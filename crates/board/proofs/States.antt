@@ -82,7 +82,7 @@ same-board scenes others head stored same board = record {
     app_state = record { ordered = board.joined.app_state.ordered; each = λ name. board.joined.app_state.each name ∙ same.settings name };
     files = record { ordered = board.joined.files.ordered; each = λ id. board.joined.files.each id ∙ same.files id };
   };
-  are = record { ordered = board.are.ordered; each = λ id. board.are.each id ∙ same.stored id };
+  stores = record { ordered = board.stores.ordered; each = λ id. board.stores.each id ∙ same.stored id };
 }
 
 -- ---- lists of scenes one behind the other
@@ -131,7 +131,7 @@ state-parts scenes head stored board = record {
   settings = λ name. own (pairs head.app_state) (settings_in scenes) name board.joined.app_state;
   files = λ id. own head.files (files_in scenes) id board.joined.files;
   stored = λ id.
-      ap (λ updates. stored_of updates id) (append-nil stored) ∙ (sym ((AreStored-itself stored board.are.ordered).each id) ∙ board.are.each id);
+      ap (λ updates. stored_of updates id) (append-nil stored) ∙ (sym ((AreStored-itself stored board.stores.ordered).each id) ∙ board.stores.each id);
 }
   where
     own : (files given : List Pair) (id : List ℕ) → AreFilesOf given files → least_entry (files ++ []) id ≡ least_entry given id
@@ -141,8 +141,8 @@ state-parts scenes head stored board = record {
 record Stand (input state : List ℕ) : Type 0 where
   pub scenes : List Scene
   pub others : List Scene
-  pub has : HasScenes input scenes
-  pub also : HasScenes state others
+  pub input_holds : HasScenes input scenes
+  pub state_holds : HasScenes state others
   pub same : HaveSameParts others scenes
 
 state-stands : (input state : List ℕ) → IsAnswer State input (Ok state) → Stand input state
@@ -151,8 +151,8 @@ state-stands input state (scenes, has, is) =
     record {
       scenes = scenes;
       others = state_scene is.head is.stored ∷ [];
-      has = has;
-      also = record {
+      input_holds = has;
+      state_holds = record {
         some = λ e. cc;
         rest = newline;
         lead = (newline, subst (λ b. IsSceneAt b (state_scene is.head is.stored) newline) (sym is.is_state) (state-back is.head is.stored newline whole.head_whole whole.whole whole.keys), refl);
@@ -165,8 +165,8 @@ stand-append : (input state more others : List ℕ) → Stand input state → St
 stand-append input state more others first second = record {
   scenes = first.scenes ++ second.scenes;
   others = first.others ++ second.others;
-  has = has-append input more first.scenes second.scenes first.has second.has;
-  also = has-append state others first.others second.others first.also second.also;
+  input_holds = has-append input more first.scenes second.scenes first.input_holds second.input_holds;
+  state_holds = has-append state others first.others second.others first.state_holds second.state_holds;
   same = parts-append first.others first.scenes second.others second.scenes first.same second.same;
 }
 
@@ -210,6 +210,6 @@ states-stand_for command [] (state ∷ states) text takes are = absurd are
 states-stand_for command (input ∷ inputs) [] text takes are = absurd are
 states-stand_for command (input ∷ inputs) (state ∷ states) text takes are =
     let stand = states-stand input state inputs states are.0 are.1 in (
-      λ is. answer-same command (concat (state ∷ states)) text (concat (input ∷ inputs)) stand.others stand.scenes takes stand.also stand.has stand.same is,
-      λ is. answer-same command (concat (input ∷ inputs)) text (concat (state ∷ states)) stand.scenes stand.others takes stand.has stand.also (parts-flip stand.others stand.scenes stand.same) is,
+      λ is. answer-same command (concat (state ∷ states)) text (concat (input ∷ inputs)) stand.others stand.scenes takes stand.state_holds stand.input_holds stand.same is,
+      λ is. answer-same command (concat (input ∷ inputs)) text (concat (state ∷ states)) stand.scenes stand.others takes stand.input_holds stand.state_holds (parts-flip stand.others stand.scenes stand.same) is,
     )

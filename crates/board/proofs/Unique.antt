@@ -36,7 +36,7 @@ use Rattle.board.proofs.Inputs.{input-once, faulty-once, faulty-scenes, extra-sc
 -- ---- the board of scenes
 stored-once : {scenes : List Scene} {head other : Heading} {stored news : List Drawn} → IsBoardOf scenes head stored → IsBoardOf scenes other news
     → (head ≡ other) × (stored ≡ news)
-stored-once a b = (head-once a.joined b.joined, store-unique _ _ _ a.are b.are)
+stored-once a b = (head-once a.joined b.joined, store-unique _ _ _ a.stores b.stores)
 
 scene-same : (layout : Layout) (head other : Heading) (stored news : List Drawn) (a b : List ℕ) → head ≡ other → stored ≡ news
     → IsSceneText layout head (shown_of stored) a → IsSceneText layout other (shown_of news) b → a ≡ b
@@ -56,17 +56,17 @@ state-once a b =
 -- ---- lines on pictures
 url-once : (entry url other : List ℕ) → HasUrl entry url → HasUrl entry other → url ≡ other
 url-once entry url other a b =
-    let members = object-once a.members b.members a.are b.are (sym a.object ∙ b.object) in
+    let members = object-once a.members b.members a.are_members b.are_members (sym a.object ∙ b.object) in
     let both : Some (quote url) ≡ Some (quote other) = sym a.named ∙ (ap (value_at (codes "dataURL")) members ∙ b.named) in
     quote-once url other a.text b.text (cc)
 
 data-once : (entry content other : List ℕ) → HasData entry content → HasData entry other → content ≡ other
 data-once entry content other a b =
-    content-unique b.url content other (subst (λ u. IsDataUrl u content) (url-once entry a.url b.url a.has b.has) a.is) b.is
+    content-unique b.url content other (subst (λ u. IsDataUrl u content) (url-once entry a.url b.url a.has_url b.has_url) a.is_data_url) b.is_data_url
 
 size-once : (entry : List ℕ) (n m : ℕ) → IsPictureSize entry n → IsPictureSize entry m → n ≡ m
 size-once entry n m p q =
-    let text = data-once entry p.text q.text p.has q.has in
+    let text = data-once entry p.text q.text p.has_data q.has_data in
     let both : Ok p.bytes ≡ Ok q.bytes = sym p.decoded ∙ (ap (decode_of standard) text ∙ q.decoded) in
     let bytes : p.bytes ≡ q.bytes = cc in
     p.size_is ∙ (ap length bytes ∙ sym q.size_is)
@@ -74,11 +74,11 @@ size-once entry n m p q =
 told-once : (entry a b : List ℕ) → IsTold entry a → IsTold entry b → a ≡ b
 told-once entry a b (size n p) (size m q) = ap decimal (size-once entry n m p q)
 told-once entry a b (size n p) (not_base64 content data' fails) = absurd (fails n p)
-told-once entry a b (size n p) (no_data_url none) = absurd (none p.text p.has)
+told-once entry a b (size n p) (no_data_url none) = absurd (none p.text p.has_data)
 told-once entry a b (not_base64 content data' fails) (size m q) = absurd (fails m q)
 told-once entry a b (not_base64 content data' fails) (not_base64 other also fails_too) = refl
 told-once entry a b (not_base64 content data' fails) (no_data_url none) = absurd (none content data')
-told-once entry a b (no_data_url none) (size m q) = absurd (none q.text q.has)
+told-once entry a b (no_data_url none) (size m q) = absurd (none q.text q.has_data)
 told-once entry a b (no_data_url none) (not_base64 other also fails_too) = absurd (none other also)
 told-once entry a b (no_data_url none) (no_data_url also) = refl
 
@@ -175,10 +175,10 @@ answer-once Pictures bytes (Err f) (Err g) is also = ap Err (refusal-once bytes 
 pub merges-converge : (layout : Layout) (bytes others text other_text : List ℕ) → HaveSameUpdatesFreeOfClashes bytes others
     → IsAnswer (Merge layout) bytes (Ok text) → IsAnswer (Merge layout) others (Ok other_text) → other_text ≡ text
 merges-converge layout bytes others text other_text h (scenes, has, a) (news, also, b) =
-    let mine = subst (λ s. IsShownAs s layout text) (input-once bytes scenes h.scenes has h.has) a in
-    let theirs = subst (λ s. IsShownAs s layout other_text) (input-once others news h.other_scenes also h.other_has) b in
+    let mine = subst (λ s. IsShownAs s layout text) (input-once bytes scenes h.scenes has h.bytes_hold) a in
+    let theirs = subst (λ s. IsShownAs s layout other_text) (input-once others news h.other_scenes also h.others_hold) b in
     let head = head-once theirs.board.joined h.other_joined ∙ head-once h.joined mine.board.joined in
-    let kept = sym (stores-converge (updates_of h.scenes) (updates_of h.other_scenes) mine.stored theirs.stored h.same h.free mine.board.are theirs.board.are) in
+    let kept = sym (stores-converge (updates_of h.scenes) (updates_of h.other_scenes) mine.stored theirs.stored h.same h.free mine.board.stores theirs.board.stores) in
     theirs.ended ∙ (ap (λ t. t ++ newline) (scene-same layout theirs.head mine.head theirs.stored mine.stored theirs.written mine.written head kept theirs.scene mine.scene) ∙ sym mine.ended)
 
 pub merge-of-best : (layout : Layout) (bytes text : List ℕ) (scenes : List Scene) (head : Heading) (chosen : List Drawn)
@@ -186,6 +186,6 @@ pub merge-of-best : (layout : Layout) (bytes text : List ℕ) (scenes : List Sce
     → IsAnswer (Merge layout) bytes (Ok text) → (written : List ℕ) × IsSceneText layout head (shown_of chosen) written × (text ≡ written ++ newline)
 merge-of-best layout bytes text scenes head chosen has free joined best (others, also, a) =
     let mine = subst (λ s. IsShownAs s layout text) (input-once bytes others scenes also has) a in
-    let kept = store-unique _ mine.stored chosen mine.board.are (AreStored-from_best (updates_of scenes) chosen free best) in
+    let kept = store-unique _ mine.stored chosen mine.board.stores (AreStored-from_best (updates_of scenes) chosen free best) in
     let same = head-once mine.board.joined joined in
     (mine.written, subst (λ h. IsSceneText layout h (shown_of chosen) mine.written) same (subst (λ s. IsSceneText layout mine.head (shown_of s) mine.written) kept mine.scene), mine.ended)

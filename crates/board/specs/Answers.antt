@@ -1,4 +1,5 @@
--- What an input is answered with, command by command. This project's own.
+-- What an input is answered with, command by command. This project's own; what is stored is Excalidraw's reconcile, and the
+-- texts are after its JSON schema.
 use Rattle.std.specs.Prelude.{◌≡◌, ℕ, List, [], ◌∷◌, ◌++◌, Result, Ok, Err, flat_map, map}
 use Rattle.elem.specs.Drawn.{Drawn}
 use Rattle.elem_store.specs.Updates.{AreStored, HaveSameUpdates, IsFreeOfClashes}
@@ -30,7 +31,7 @@ heads_of scenes = map (λ (scene : Scene). scene.head) scenes
 -- The board of these scenes has their joined head, and stores of all their updates these elements.
 pub record IsBoardOf (scenes : List Scene) (head : Heading) (stored : List Drawn) : Type 0 where
   pub joined : IsJoinedHead (heads_of scenes) head
-  pub are : AreStored (updates_of scenes) stored
+  pub stores : AreStored (updates_of scenes) stored
 
 -- what a board shows of its stored elements: the live ones in scene order, settled
 abbrev pub shown_of : List Drawn → List Drawn
@@ -93,8 +94,8 @@ IsAnswer Pictures bytes (Err found) = IsRefusal bytes found
 pub record HaveSameUpdatesFreeOfClashes (bytes others : List ℕ) : Type 0 where
   pub scenes : List Scene
   pub other_scenes : List Scene
-  pub has : HasScenes bytes scenes
-  pub other_has : HasScenes others other_scenes
+  pub bytes_hold : HasScenes bytes scenes
+  pub others_hold : HasScenes others other_scenes
   pub same : HaveSameUpdates (updates_of scenes) (updates_of other_scenes)
   pub free : IsFreeOfClashes (updates_of scenes)
   pub head : Heading

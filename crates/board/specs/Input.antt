@@ -22,12 +22,12 @@ pub record HasScenes (bytes : List ℕ) (scenes : List Scene) : Type 0 where
 -- scene white space alone is no text, and at least one text is needed.
 pub record HasFaultyText (bytes : List ℕ) (number : ℕ) (fault : SceneFault) : Type 0 where
   pub scenes : List Scene
-  pub at : ℕ
-  pub within : at ≤ length bytes
-  pub lead : ScenesLead bytes scenes (drop at bytes)
+  pub start : ℕ
+  pub within : start ≤ length bytes
+  pub lead : ScenesLead bytes scenes (drop start bytes)
   pub counted : number ≡ length scenes + 1
-  pub begun : (scenes ≡ []) ⊎ (is_blank (drop at bytes) ≡ false)
-  pub faulty : IsFaultAt bytes at fault
+  pub begun : (scenes ≡ []) ⊎ (is_blank (drop start bytes) ≡ false)
+  pub faulty : IsFaultAt bytes start fault
 
 -- A scene stands at the front, and behind it and white space a further byte, at this offset.
 pub record HasExtraText (bytes : List ℕ) (at : ℕ) : Type 0 where

@@ -40,7 +40,7 @@ pub fn read_all<S: Source>(
         → (some : List ℕ) × (length some ≤ limit) × Gave (S.seen source.old) (S.seen source.new) some }
     ensures too_long { result ≡ Err (Stop.Fault ReadError.TooLong)
         → (some : List ℕ) × (length some ≡ limit + 1) × Gave (S.seen source.old) (S.seen source.new) some }
-    ensures memory { OnErr result ((some : List ℕ) × (length some ≤ limit + 1) × Gave (S.seen source.old) (S.seen source.new) some) }
+    ensures stopped { OnErr result ((some : List ℕ) × (length some ≤ limit + 1) × Gave (S.seen source.old) (S.seen source.new) some) }
     ensures counted { (S.seen source.old).faults ≤ (S.seen source.new).faults }
 {
     let mut all = Vec::new(alloc);

@@ -266,7 +266,7 @@ truth-same false true e = absurd (heads-differ 102 116 _ _ refl e)
 -- the members of a binding's text are those of the binding
 pub record IsFound (value : List ℕ) (found : List Member) : Type 0 where
   pub binding : Binding
-  pub is : IsBinding binding
+  pub is_binding : IsBinding binding
   pub text : value ≡ binding_text (Some binding)
   pub members : found ≡ binding_members binding
 
@@ -274,7 +274,7 @@ pub binding-found : (value : List ℕ) (binding : Option Binding) → IfSome bin
 binding-found value None is e not-null found spelled compact = absurd (not-null e)
 binding-found value (Some b) is e not-null found spelled compact = record {
   binding = b;
-  is = is;
+  is_binding = is;
   text = e;
   members = pairs-same _ _ (object-same _ _ (AllByRecursion-weaker (λ (m : Pair). IsCompact 127 m.1) (λ m. EndsItself m.1) (pairs found) (λ m v. inl v) compact) (binding-ends b is) (sym spelled ∙ e ∙ binding-object b is));
 }
@@ -282,14 +282,14 @@ binding-found value (Some b) is e not-null found spelled compact = record {
 pub binding-rise : {value : List ℕ} {found : List Member} → IsFound value found → are_rising (names found) ≡ true
 binding-rise f =
     ap (λ ms. are_rising (names ms)) f.members
-    ∙ rises (binding_members f.binding) (rising-with_value (codes "elementId") (Some (quote f.binding.target)) f.binding.rest (risen f.binding.rest f.is.rise))
+    ∙ rises (binding_members f.binding) (rising-with_value (codes "elementId") (Some (quote f.binding.target)) f.binding.rest (risen f.binding.rest f.is_binding.rise))
 
 pub binding-string : {value : List ℕ} {found : List Member} (f : IsFound value found) → value_named (codes "elementId") found ≡ Some (quote f.binding.target)
-binding-string f = ap (value_named (codes "elementId")) f.members ∙ binding-target f.binding f.is
+binding-string f = ap (value_named (codes "elementId")) f.members ∙ binding-target f.binding f.is_binding
 
 -- the binding that is made of them
 pub binding-made : {value : List ℕ} {found : List Member} (f : IsFound value found) (target : List ℕ) (rest : List Member) → value_named (codes "elementId") found ≡ Some (quote target) → rest ≡ with_value (codes "elementId") None found → f.binding ≡ record { target = target; rest = rest }
 binding-made f target rest named is =
     let same = quote-same f.binding.target target (some-same _ _ (sym (binding-string f) ∙ named)) in
-    let others = sym (binding-rest f.binding f.is) ∙ ap (with_value (codes "elementId") None) (sym f.members) ∙ sym is in
+    let others = sym (binding-rest f.binding f.is_binding) ∙ ap (with_value (codes "elementId") None) (sym f.members) ∙ sym is in
     λ i. record { target = same i; rest = others i }

@@ -38,7 +38,7 @@ pub(crate) fn binding_raw(alloc: Global, binding: &Option<Binding>) -> Result<Ra
 pub(crate) fn binding_of(alloc: Global, value: &Raw) -> Result<Option<Binding>, AllocError>
     requires { (binding : Option Binding) × IfSome binding IsBinding × (value.now ≡ binding_text binding) }
     ensures text { IfOk result (λ found. binding_text found ≡ value.now) }
-    ensures is { IfOk result (λ found. IfSome found IsBinding) }
+    ensures is_binding { IfOk result (λ found. IfSome found IsBinding) }
 {
     if is_null(value) {
         return Ok(None);
@@ -57,7 +57,7 @@ pub(crate) fn binding_of(alloc: Global, value: &Raw) -> Result<Option<Binding>, 
 fn object_members(alloc: Global, value: &Raw) -> Result<Vec<Member>, AllocError>
     requires { (all : Items Pair) × (value.now ≡ object_text all) }
     ensures spelled { IfOk result (λ found. value.now ≡ object_text (pairs found.items)) }
-    ensures are { IfOk result (λ found. AreMembers 127 (pairs found.items)) }
+    ensures are_members { IfOk result (λ found. AreMembers 127 (pairs found.items)) }
 {
     match members(alloc, value) {
         Ok(found) => Ok(found.into_vec()),

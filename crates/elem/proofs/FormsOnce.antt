@@ -139,7 +139,7 @@ role_of_name-once roles.Text roles.Arrow e = absurd (heads-differ 116 97 _ _ ref
 
 -- ---- listings
 pub members-once : (value : List ℕ) (ms ns : List Pair) → IsObject value ms → IsObject value ns → ms ≡ ns
-members-once value ms ns one two = object-once ms ns one.are two.are (sym one.spelled ∙ two.spelled)
+members-once value ms ns one two = object-once ms ns one.are_members two.are_members (sym one.spelled ∙ two.spelled)
 
 entry-once : (item : List ℕ) (a b : BoundRef) → IsEntry item a → IsEntry item b → a ≡ b
 entry-once item a b one two =
@@ -207,8 +207,8 @@ others-once test find xs ys one two =
 -- ---- bindings
 bound-once : (found : Option (List ℕ)) (a b : Binding) → IsBindingObject found a → IsBindingObject found b → a ≡ b
 bound-once found a b one two =
-    let e = one.there in
-    let f = two.there in
+    let e = one.found_is in
+    let f = two.found_is in
     let value : one.value ≡ two.value = cc in
     let same = members-once one.value one.members two.members one.object (subst (λ v. IsObject v two.members) (sym value) two.object) in
     let target : IsText (value_at (codes "elementId") one.members) b.target = subst (λ ms. IsText (value_at (codes "elementId") ms) b.target) (sym same) two.target in
@@ -218,10 +218,10 @@ bound-once found a b one two =
     λ i. record { target = targets i; rest = rests i }
 
 bound-apart : (found : Option (List ℕ)) (b : Binding) → IsBindingOrNull found None → IsBindingObject found b → ⊥
-bound-apart found b (inl null) two = null-no-object found two.value two.members null two.there two.object
+bound-apart found b (inl null) two = null-no-object found two.value two.members null two.found_is two.object
 bound-apart found b (inr one) two =
-    let e = one.there in
-    let f = two.there in
+    let e = one.found_is in
+    let f = two.found_is in
     let value : two.value ≡ one.value = cc in
     let same = members-once one.value two.members one.members (subst (λ v. IsObject v two.members) value two.object) one.object in
     one.free b.target (subst (λ ms. IsText (value_at (codes "elementId") ms) b.target) same two.target)

@@ -327,7 +327,7 @@ entries-said (entry ∷ entries) is = inl (
   refl,
   record {
     members = (codes "id", quote entry.id) ∷ (codes "type", quote (role_name entry.role)) ∷ [];
-    object = record { are = entry-are 127 entry is.0; spelled = refl };
+    object = record { are_members = entry-are 127 entry is.0; spelled = refl };
     id = (is.0, refl);
     role = (role-utf8 entry.role, refl);
   },
@@ -342,8 +342,8 @@ binding-said kind (Some binding) found is text e =
     let are = binding-are binding is.1 text in record {
       value = binding_text (Some binding);
       members = sorted_members ms;
-      there = e;
-      object = record { are = AreMembers-deeper 118 127 (sorted_members ms) (lit≤ tt) (sorted-AreMembers 118 ms are); spelled = refl };
+      found_is = e;
+      object = record { are_members = AreMembers-deeper 118 127 (sorted_members ms) (lit≤ tt) (sorted-AreMembers 118 ms are); spelled = refl };
       target = (text.target, found-sorted ms are.distinct (codes "elementId") (quote binding.target) refl);
       rest = others-said (bytes_eq (codes "elementId")) ((codes "elementId", quote binding.target) ∷ []) binding.rest is.1.rise is.1.free
           (λ name other. or_from _ _ (nat_list_eq_equiv.symm name (codes "elementId") ∙ other) refl) are.distinct;

@@ -67,7 +67,7 @@ AreTexts found texts = AllByRecursion IsUtf8 texts × (found ≡ Some (array_tex
 
 -- The value is the object of these members.
 pub record IsObject (value : List ℕ) (members : List Pair) : Type 0 where
-  pub are : AreMembers 127 members
+  pub are_members : AreMembers 127 members
   pub spelled : value ≡ object_text members
 
 -- An object with a text `id` and a `type` of `arrow` or `text`; its further members play no part.
@@ -99,7 +99,7 @@ pub record AreOthers (is_header : List ℕ → Bool) (find : Find) (others : Lis
 pub record IsBindingObject (found : Option (List ℕ)) (binding : Binding) : Type 0 where
   pub value : List ℕ
   pub members : List Pair
-  pub there : found ≡ Some value
+  pub found_is : found ≡ Some value
   pub object : IsObject value members
   pub target : IsText (value_at (codes "elementId") members) binding.target
   pub rest : AreOthers (bytes_eq (codes "elementId")) (find_in members) binding.rest
@@ -108,7 +108,7 @@ pub record IsBindingObject (found : Option (List ℕ)) (binding : Binding) : Typ
 pub record IsUnbound (found : Option (List ℕ)) : Type 0 where
   pub value : List ℕ
   pub members : List Pair
-  pub there : found ≡ Some value
+  pub found_is : found ≡ Some value
   pub object : IsObject value members
   pub free : (text : List ℕ) → IsText (value_at (codes "elementId") members) text → ⊥
 

@@ -230,7 +230,7 @@ entry-or-not item is = by (object-or-not item (Value-deeper (lit≤ tt) is))
     by : ((ms : List Pair) × AreMembers 127 ms × (item ≡ object_text ms)) ⊎ ((ms : List Pair) → item ≢ object_text ms) → Decided (IsEntry item)
     by (inr none) = inr (λ entry one. none one.members one.object.spelled)
     by (inl (ms, are, e)) =
-        let object : IsObject item ms = record { are = are; spelled = e } in
+        let object : IsObject item ms = record { are_members = are; spelled = e } in
         elim (text-or-not (value_at (codes "id") ms) (fits-in 127 ms (lit≤ tt) are (codes "id"))) [
           | inr none ↦ inr (λ entry one. none entry.id (subst (λ os. IsText (value_at (codes "id") os) entry.id) (members-once item one.members ms one.object object) one.id))
           | inl (id, named) ↦ elim (role-or-not (value_at (codes "type") ms) (fits-in 127 ms (lit≤ tt) are (codes "type"))) [
@@ -289,12 +289,12 @@ binding-or-not (Some v) fits = by (cases_Bool (bytes_eq v null_word)) (object-or
     by (inr other) (inr none) =
         inr (no-binding (Some v) v refl (λ e. both_ways (bytes_eq v null_word) other (ap (λ x. bytes_eq x null_word) e ∙ bytes_eq-same null_word)) none)
     by (inr other) (inl (ms, are, e)) =
-        let object : IsObject v ms = record { are = are; spelled = e } in
+        let object : IsObject v ms = record { are_members = are; spelled = e } in
         elim (text-or-not (value_at (codes "elementId") ms) (fits-in 127 ms (lit≤ tt) are (codes "elementId"))) [
           | inl (target, is) ↦
               let rest = others-exist (bytes_eq (codes "elementId")) ms in
-              inl (Some (record { target = target; rest = rest.0 }), record { value = v; members = ms; there = refl; object = object; target = is; rest = rest.1 })
-          | inr none ↦ inl (None, inr (record { value = v; members = ms; there = refl; object = object; free = none }))
+              inl (Some (record { target = target; rest = rest.0 }), record { value = v; members = ms; found_is = refl; object = object; target = is; rest = rest.1 })
+          | inr none ↦ inl (None, inr (record { value = v; members = ms; found_is = refl; object = object; free = none }))
         ]
 
 -- ---- parts of one kind alone

@@ -24,7 +24,7 @@ use Rattle.elem_read.specs.declared.fault.ElemFault.TheVariants.{NotObject, Dept
 use Rattle.elem_read.proofs.Keeping.{AllFound, found-has, object-nests}
 
 pub is-object : (value : List ℕ) (ms : List Pair) → value ≡ object_text ms → AreMembers 127 ms → IsObject value ms
-is-object value ms spelled are = record { are = are; spelled = spelled }
+is-object value ms spelled are = record { are_members = are; spelled = spelled }
 
 pub no-object : (value : List ℕ) → ((members : List Pair) → value ≢ object_text members) → IsFaultIn value NotObject
 no-object value none = λ members object. none members object.spelled

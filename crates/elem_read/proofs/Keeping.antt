@@ -74,7 +74,7 @@ pub object-nests : (limit : ℕ) (value : List ℕ) (members : List Pair) → li
 object-nests limit value members small smaller is object =
     let starts = object-starts members in
     let form = form-membered limit value (Value-Form is) (starts.0, object.spelled ∙ starts.1) in
-    let same = members-once value form.0 members (record { are = AreMembers-deeper (limit - 1) 127 form.0 smaller form.1; spelled = form.2 }) object in
+    let same = members-once value form.0 members (record { are_members = AreMembers-deeper (limit - 1) 127 form.0 smaller form.1; spelled = form.2 }) object in
     subst (AreMembers (limit - 1)) same form.1
 
 abbrev IsCompactAt : ℕ → List ℕ → List ℕ → Type 0
@@ -85,7 +85,7 @@ IsNamed name value = IsUtf8 name
 
 binding-kept : (found : Option (List ℕ)) (binding : Binding) → ((value : List ℕ) → found ≡ Some value → IsCompact 119 value) → IsBindingObject found binding → IsBinding binding
 binding-kept found binding nests is =
-    let are : AreMembers 118 is.members = object-nests 119 is.value is.members (lit≤ tt) (lit≤ tt) (nests is.value is.there) is.object in
+    let are : AreMembers 118 is.members = object-nests 119 is.value is.members (lit≤ tt) (lit≤ tt) (nests is.value is.found_is) is.object in
     record {
       rise = is.rest.rise;
       free = is.rest.free;
@@ -95,7 +95,7 @@ binding-kept found binding nests is =
 binding-written : (found : Option (List ℕ)) (binding : Binding) → IsBindingObject found binding → IsBindingText binding
 binding-written found binding is = record {
   target = is.target.0;
-  rest = named-each binding.rest (others-hold IsNamed (bytes_eq (codes "elementId")) (find_in is.members) binding.rest (found-has IsNamed is.members is.object.are.named) is.rest);
+  rest = named-each binding.rest (others-hold IsNamed (bytes_eq (codes "elementId")) (find_in is.members) binding.rest (found-has IsNamed is.members is.object.are_members.named) is.rest);
 }
 
 -- ---- parts of one kind alone

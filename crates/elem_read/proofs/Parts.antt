@@ -64,8 +64,8 @@ entries-more items i item old new within here are (inr (lacks, e)) =
 pub no-binding : (found : Option (List ℕ)) (value : List ℕ) → found ≡ Some value → value ≢ null_word → ((members : List Pair) → value ≢ object_text members) → Lacks (IsBindingOrNull found)
 no-binding found value is other none None (inl (inl missing)) = cc
 no-binding found value is other none None (inl (inr null)) = let same : value ≡ null_word = cc in other same
-no-binding found value is other none None (inr one) = let e = one.there in let same : value ≡ one.value = cc in none one.members (same ∙ one.object.spelled)
-no-binding found value is other none (Some binding) one = let e = one.there in let same : value ≡ one.value = cc in none one.members (same ∙ one.object.spelled)
+no-binding found value is other none None (inr one) = let e = one.found_is in let same : value ≡ one.value = cc in none one.members (same ∙ one.object.spelled)
+no-binding found value is other none (Some binding) one = let e = one.found_is in let same : value ≡ one.value = cc in none one.members (same ∙ one.object.spelled)
 
 -- ---- the element of all parts
 pub own-at : {A : Type 0} (own named : Bool) (IsForm : Option (List ℕ) → Option A → Type 0) (found : Option (List ℕ)) (part : Option A) → own ≡ named → IsOwn own IsForm found part → IsOwn named IsForm found part

@@ -34,8 +34,8 @@ use Rattle.elem_read.proofs.Whole.{restored-nest}
 -- ---- restored members
 old-ids : (ms : List Pair) → AreMembers 127 ms → (ids : Option (List (List ℕ))) × IsTheOne (HasOldListing ms) ids
 old-ids ms are = elim (texts-or-not (value_at old_name ms) (fits-in 127 ms (lit≤ tt) are old_name)) [
-  | inl (ids, is) ↦ (Some ids, (record { texts = is.0; is = is.1 }, λ other one. texts-once (value_at old_name ms) other ids (one.texts, one.is) is))
-  | inr none ↦ (None, λ ids one. none ids (one.texts, one.is))
+  | inl (ids, is) ↦ (Some ids, (record { texts = is.0; named = is.1 }, λ other one. texts-once (value_at old_name ms) other ids (one.texts, one.named) is))
+  | inr none ↦ (None, λ ids one. none ids (one.texts, one.named))
 ]
 
 -- what the restored members have at a name
@@ -175,7 +175,7 @@ IsRead value = IsSelection value ⊎ (((e : Drawn) × IsElementIn value e) ⊎ (
 shallow-read : (value : List ℕ) (ms : List Pair) → IsDrawing value ms → IsCompact 120 value → IsRead value
 shallow-read value ms drawing shallow =
     let inner : AreMembers 119 ms = object-nests 120 value ms (lit≤ tt) (lit≤ tt) shallow drawing.object in
-    let (rs, restores) = restored-exist ms drawing.object.are in
+    let (rs, restores) = restored-exist ms drawing.object.are_members in
     let fits : (name : List ℕ) → Fits (find_in rs name) = λ name. fits-found (find_in rs name) (λ v e. restored-nest ms rs inner restores name v e) in
     elim (told (find_in rs) fits (kind-stays ms rs restores drawing.kind) (λ test. others-exist test rs)) [
       | inl (e, says) ↦ inr (inl (e, record { members = ms; restored = rs; drawing = drawing; shallow = shallow; restores = restores; says = says }))
@@ -191,7 +191,7 @@ read-exists value is = by (object-or-not value is)
     by : ((ms : List Pair) × AreMembers 127 ms × (value ≡ object_text ms)) ⊎ ((ms : List Pair) → value ≢ object_text ms) → IsRead value
     by (inr none) = inr (inr (NotObject, no-object value none))
     by (inl (ms, are, e)) =
-        let object : IsObject value ms = record { are = are; spelled = e } in
+        let object : IsObject value ms = record { are_members = are; spelled = e } in
         elim (same-or-not (value_at (codes "type") ms) selection_text) [
           | inl kind ↦ inl (record { members = ms; object = object; kind = kind })
           | inr other ↦

@@ -105,9 +105,9 @@ shallow-moved : (value other : List ℕ) (ms os : List Pair) → IsObject value 
 shallow-moved value other ms os one two same shallow =
     let are = object-nests 120 value ms (lit≤ tt) (lit≤ tt) shallow one in
     let moved : AreMembers 119 os = record {
-      named = two.are.named;
-      valued = valued-moved (IsCompact 119) ms os os are.valued same (found-self os two.are.distinct);
-      distinct = two.are.distinct;
+      named = two.are_members.named;
+      valued = valued-moved (IsCompact 119) ms os os are.valued same (found-self os two.are_members.distinct);
+      distinct = two.are_members.distinct;
     } in
     subst (IsCompact 120) (sym two.spelled) (object-compact 119 os moved)
 

@@ -123,13 +123,13 @@ full-stays default found (value, is, full) =
 
 lack-stays : (ms : List Pair) (name : List ℕ) (row : Option (List ℕ)) → LackNothing ms → value_at name defaults ≡ row → value_at name ms ≡ filled row (value_at name ms)
 lack-stays ms name None lack e = refl
-lack-stays ms name (Some default) lack e = sym (full-stays default (value_at name ms) (lack.there name default e))
+lack-stays ms name (Some default) lack e = sym (full-stays default (value_at name ms) (lack.each_filled name default e))
 
 pub restored-itself : (ms : List Pair) → HaveRisingNames ms → LackNothing ms → AreRestored ms ms
 restored-itself ms rise lack = record {
   rise = rise;
   ids = None;
-  old = λ ids has. none-some (array_text (map quote ids)) (sym lack.gone ∙ has.is);
+  old = λ ids has. none-some (array_text (map quote ids)) (sym lack.gone ∙ has.named);
   gone = lack.gone;
   listing = lack-stays ms listing_name (value_at listing_name defaults) lack refl;
   others = λ name not_old not_listing. lack-stays ms name (value_at name defaults) lack refl;
@@ -197,7 +197,7 @@ module _ (e : Drawn) (rs : List Pair) (is : IsElement e) (w : IsWritten e) (rest
 
   beside : (name default : List ℕ) → list_any (bytes_eq name) header_names ≡ false → list_any (bytes_eq name) all_own ≡ false → value_at name defaults ≡ Some default → IsFull (element_members e) (name, default)
   beside name default header own row =
-      let there = lack.there name default row in
+      let there = lack.each_filled name default row in
       (there.0, same-beside name header own ∙ there.1, there.2)
 
   all-full : AllByRecursion (IsFull (element_members e)) defaults
@@ -284,7 +284,7 @@ module _ (e : Drawn) (rs : List Pair) (is : IsElement e) (w : IsWritten e) (rest
   lacks-nothing : LackNothing (element_members e)
   lacks-nothing = record {
     gone = same-beside old_name refl refl ∙ lack.gone;
-    there = λ name default row. row-full name default row;
+    each_filled = λ name default row. row-full name default row;
   }
     where
       row-full : (name default : List ℕ) → value_at name defaults ≡ Some default → (value : List ℕ) × (value_at name (element_members e) ≡ Some value) × (value ≡ null_word → default ≡ null_word)
@@ -316,7 +316,7 @@ no-selection (Other name) is e = false≢true (sym is ∙ ap (λ n. list_any (by
 -- An element that a value says has the facts of elements, and its further members are those of members that lack nothing.
 pub record IsSound (e : Drawn) : Type 0 where
   pub restored : List Pair
-  pub is : IsElement e
+  pub is_element : IsElement e
   pub written : IsWritten e
   pub rest : AreOthers (is_header e.kind) (find_in restored) e.rest
   pub lack : LackNothing restored
@@ -326,7 +326,7 @@ IsSound-read value e in_ =
     let given : AreMembers 119 in_.members = object-nests 120 value in_.members (lit≤ tt) (lit≤ tt) in_.shallow in_.drawing.object in
     record {
       restored = in_.restored;
-      is = says-element (find_in in_.restored) e (restored-nest in_.members in_.restored given in_.restores) in_.says;
+      is_element = says-element (find_in in_.restored) e (restored-nest in_.members in_.restored given in_.restores) in_.says;
       written = says-written (find_in in_.restored) e (restored-named 119 in_.members in_.restored given in_.restores) in_.says;
       rest = in_.says.rest;
       lack = restored-lack in_.members in_.restored in_.restores;
@@ -335,17 +335,17 @@ IsSound-read value e in_ =
 -- and each such element is whole
 pub IsSound-whole : (e : Drawn) → IsSound e → IsWhole e
 IsSound-whole e sound =
-    let are = element-are e sound.is sound.written in
-    let says = element-says e sound.is sound.written in
+    let are = element-are e sound.is_element sound.written in
+    let says = element-says e sound.is_element sound.written in
     record {
       members = element_members e;
       restored = element_members e;
       drawing = record {
-        object = record { are = AreMembers-deeper 119 127 (element_members e) (lit≤ tt) are; spelled = refl };
-        kind = λ selection. no-selection e.kind sound.is.kind (text-once _ (kind_name e.kind) (codes "selection") says.kind.0 (literal (codes "selection") refl, selection));
+        object = record { are_members = AreMembers-deeper 119 127 (element_members e) (lit≤ tt) are; spelled = refl };
+        kind = λ selection. no-selection e.kind sound.is_element.kind (text-once _ (kind_name e.kind) (codes "selection") says.kind.0 (literal (codes "selection") refl, selection));
       };
       shallow = object-compact 119 (element_members e) are;
-      restores = restored-itself (element_members e) (element-rise e sound.is) (lacks-nothing e sound.restored sound.is sound.written sound.rest sound.lack);
+      restores = restored-itself (element_members e) (element-rise e sound.is_element) (lacks-nothing e sound.restored sound.is_element sound.written sound.rest sound.lack);
       says = says;
     }
 

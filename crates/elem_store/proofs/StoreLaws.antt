@@ -85,17 +85,17 @@ AreStored-from_best updates chosen free h = record { ordered = h.ordered; each =
 -- a best update is one in each list of the same updates
 same-best : (updates others : List Drawn) (id : List ℕ) (e : Drawn) → HaveSameUpdates updates others → IsBestOf others id e → IsBestOf updates id e
 same-best updates others id e same best = record {
-  taken = same.back e best.taken;
+  taken = same.in_updates e best.taken;
   named = best.named;
-  unbeaten = λ other c of. best.unbeaten other (same.to other c) of;
+  unbeaten = λ other c of. best.unbeaten other (same.in_others other c) of;
 }
 
 same-stored : (updates others : List Drawn) (id : List ℕ) (o o' : Option Drawn) → HaveSameUpdates updates others → IsFreeOfClashes updates → stored_of updates id ≡ o → stored_of others id ≡ o' → o ≡ o'
 same-stored updates others id None None same free h k = refl
 same-stored updates others id (Some e) None same free h k =
-    let best = IsBestOf-stored updates id e h in absurd (stored-None others id e k (same.to e best.taken) best.named)
+    let best = IsBestOf-stored updates id e h in absurd (stored-None others id e k (same.in_others e best.taken) best.named)
 same-stored updates others id None (Some e) same free h k =
-    let best = IsBestOf-stored others id e k in absurd (stored-None updates id e h (same.back e best.taken) best.named)
+    let best = IsBestOf-stored others id e k in absurd (stored-None updates id e h (same.in_updates e best.taken) best.named)
 same-stored updates others id (Some e) (Some f) same free h k =
     ap Some (best-same updates id e f free (IsBestOf-stored updates id e h) (same-best updates others id f same (IsBestOf-stored others id f k)))
 

@@ -61,8 +61,8 @@ IsFreeOfClashes updates =
 
 -- Each update of the one list is in the other one: order and repeats don't count.
 pub record HaveSameUpdates (updates others : List Drawn) : Type 0 where
-  pub to : (e : Drawn) → Contains updates e → Contains others e
-  pub back : (e : Drawn) → Contains others e → Contains updates e
+  pub in_others : (e : Drawn) → Contains updates e → Contains others e
+  pub in_updates : (e : Drawn) → Contains others e → Contains updates e
 
 -- These elements are one of the best updates of each id, in the order of the ids.
 pub record AreBest (updates chosen : List Drawn) : Type 0 where

@@ -15,13 +15,13 @@ HasSize content size = (bytes : List ℕ) × (decode_of standard content ≡ Ok 
 
 module _ (entry url content : List ℕ) (one : (other : List ℕ) → HasUrl entry other → other ≡ url) (is : IsDataUrl url content) where
   same_content : (other : List ℕ) → HasData entry other → other ≡ content
-  same_content other h = content-unique url other content (subst (λ u. IsDataUrl u other) (one h.url h.has) h.is) is
+  same_content other h = content-unique url other content (subst (λ u. IsDataUrl u other) (one h.url h.has_url) h.is_data_url) is
 
   pub size-only : (size : ℕ) → HasSize content size → (other : ℕ) → IsPictureSize entry other → other ≡ size
   size-only size (bytes, decoded, counted) other h =
-      let both : Ok h.bytes ≡ Ok bytes = sym h.decoded ∙ ap (decode_of standard) (same_content h.text h.has) ∙ decoded in
+      let both : Ok h.bytes ≡ Ok bytes = sym h.decoded ∙ ap (decode_of standard) (same_content h.text h.has_data) ∙ decoded in
       let same : h.bytes ≡ bytes = cc in
       h.size_is ∙ ap length same ∙ sym counted
 
   pub size-none : ((bytes : List ℕ) → decode_of standard content ≢ Ok bytes) → (size : ℕ) → IsPictureSize entry size → ⊥
-  size-none fails size h = fails h.bytes (ap (decode_of standard) (sym (same_content h.text h.has)) ∙ h.decoded)
+  size-none fails size h = fails h.bytes (ap (decode_of standard) (sym (same_content h.text h.has_data)) ∙ h.decoded)

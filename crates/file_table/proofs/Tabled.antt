@@ -102,7 +102,7 @@ data-url-or-not url = by (begins (codes "data:") url)
 
 -- ---- the picture of an entry
 url-once : (entry : List ℕ) (ms : List Pair) (url : List ℕ) → AreMembers 127 ms → entry ≡ object_text ms → HasUrl entry url → value_at (codes "dataURL") ms ≡ Some (quote url)
-url-once entry ms url are e has = ap (value_at (codes "dataURL")) (object-once ms has.members are has.are (sym e ∙ has.object)) ∙ has.named
+url-once entry ms url are e has = ap (value_at (codes "dataURL")) (object-once ms has.members are has.are_members (sym e ∙ has.object)) ∙ has.named
 
 found-nests : (name : List ℕ) (ms : List Pair) (value : List ℕ) → AreMembers 127 ms → value_at name ms ≡ Some value → IsCompact 127 value
 found-nests name ms value are e =
@@ -121,7 +121,7 @@ url-or-not entry is = elim (object-or-not entry is) [
     by ms are e (Some value) here = elim (string-or-not value (Value-deeper (lit≤ tt) (found-nests (codes "dataURL") ms value are here))) [
       | inl (url, utf8, quoted) ↦ inl (
         url,
-        record { members = ms; are = are; object = e; text = utf8; named = here ∙ ap Some quoted },
+        record { members = ms; are_members = are; object = e; text = utf8; named = here ∙ ap Some quoted },
         λ other has.
             let both : Some (quote other) ≡ Some (quote url) = sym (url-once entry ms other are e has) ∙ (here ∙ ap Some quoted) in
             quote-once other url has.text utf8 (cc),
@@ -137,15 +137,15 @@ HasPicture entry =
 
 sized : (entry url content : List ℕ) → HasUrl entry url → ((other : List ℕ) → HasUrl entry other → other ≡ url) → IsDataUrl url content → (decoded : Result (List ℕ) DecodeError)
     → decode_of standard content ≡ decoded → HasPicture entry
-sized entry url content has one is (Ok bytes) e = inl (length bytes, record { text = content; bytes = bytes; has = record { url = url; has = has; is = is }; decoded = e; size_is = refl })
+sized entry url content has one is (Ok bytes) e = inl (length bytes, record { text = content; bytes = bytes; has_data = record { url = url; has_url = has; is_data_url = is }; decoded = e; size_is = refl })
 sized entry url content has one is (Err error) e =
-    inr (inl (content, record { url = url; has = has; is = is }, size-none entry url content one is (λ bytes f. let both = sym e ∙ f in cc)))
+    inr (inl (content, record { url = url; has_url = has; is_data_url = is }, size-none entry url content one is (λ bytes f. let both = sym e ∙ f in cc)))
 
 pub picture-exists : (entry : List ℕ) → IsCompact 128 entry → HasPicture entry
 picture-exists entry is = elim (url-or-not entry is) [
-  | inr none ↦ inr (inr (λ content d. none d.url d.has))
+  | inr none ↦ inr (inr (λ content d. none d.url d.has_url))
   | inl (url, has, one) ↦ elim (data-url-or-not url) [
     | inl (content, parts) ↦ sized entry url content has one parts (decode_of standard content) refl
-    | inr none ↦ inr (inr (λ content d. none content (subst (λ u. IsDataUrl u content) (one d.url d.has) d.is)))
+    | inr none ↦ inr (inr (λ content d. none content (subst (λ u. IsDataUrl u content) (one d.url d.has_url) d.is_data_url)))
   ]
 ]

@@ -18,7 +18,7 @@ pub record IsDataUrl (url content : List ℕ) : Type 0 where
 -- The entry is an object whose member `dataURL` is a string of this text.
 pub record HasUrl (entry url : List ℕ) : Type 0 where
   pub members : List Pair
-  pub are : AreMembers 127 members
+  pub are_members : AreMembers 127 members
   pub object : entry ≡ object_text members
   pub text : IsUtf8 url
   pub named : value_at (codes "dataURL") members ≡ Some (quote url)
@@ -26,13 +26,13 @@ pub record HasUrl (entry url : List ℕ) : Type 0 where
 -- The entry has a data URL in base64 with this data.
 pub record HasData (entry content : List ℕ) : Type 0 where
   pub url : List ℕ
-  pub has : HasUrl entry url
-  pub is : IsDataUrl url content
+  pub has_url : HasUrl entry url
+  pub is_data_url : IsDataUrl url content
 
 -- The data of the entry's URL is the base64 text of so many bytes.
 pub record IsPictureSize (entry : List ℕ) (size : ℕ) : Type 0 where
   pub text : List ℕ
   pub bytes : List ℕ
-  pub has : HasData entry text
+  pub has_data : HasData entry text
   pub decoded : decode_of standard text ≡ Ok bytes
   pub size_is : size ≡ length bytes

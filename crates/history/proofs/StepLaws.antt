@@ -76,7 +76,7 @@ module _ (store : List Drawn) (time nonce : ℕ) (parts : List Delta) (given : L
       ];
     };
     undoes = step.undoes;
-    none_full = none-more (λ full. applied-apart (inverse part) now came.0 full.0 came.1.is full.1.is came.1.applied full.1.applied (λ same. full.2 (came.2 ∙ same)));
+    none_full = none-more (λ full. applied-apart (inverse part) now came.0 full.0 came.1.is_element full.1.is_element came.1.applied full.1.applied (λ same. full.2 (came.2 ∙ same)));
   }
 
   -- the last part changes its element

@@ -38,7 +38,7 @@ module _ (parts : List Delta) (store given : List Drawn) (time nonce : ℕ) (are
           record {
             among = of.1;
             stored = ap (element_of store) (sym of.3.id) ∙ own.3.stored;
-            undoes = undone-from own.0 of.0.before of.0.after both.0 both.1 of.3 own.1 own.2 (stored-is store own.0.id own.1 are own.3.stored) own.4.is own.4.applied;
+            undoes = undone-from own.0 of.0.before of.0.after both.0 both.1 of.3 own.1 own.2 (stored-is store own.0.id own.1 are own.3.stored) own.4.is_element own.4.applied;
           },
           own.5,
           own.6,
@@ -54,7 +54,7 @@ module _ (parts : List Delta) (store given : List Drawn) (time nonce : ℕ) (are
             record {
               among = c;
               stored = ap (element_of store) (sym of.2.id) ∙ own.2.stored;
-              undoes = undone-from of.0 pair.before pair.after both.0 both.1 of.2 own.0 own.1 (stored-is store of.0.id own.0 are own.2.stored) own.3.is own.3.applied;
+              undoes = undone-from of.0 pair.before pair.after both.0 both.1 of.2 own.0 own.1 (stored-is store of.0.id own.0 are own.2.stored) own.3.is_element own.3.applied;
             },
             own.4,
           )
@@ -98,7 +98,7 @@ module _ (parts : List Delta) (store given : List Drawn) (time nonce : ℕ) (are
             let own = gives.all of.0 of.1 in
             let one : own.0 ≡ now = same_Some own.0 now (sym own.2.stored ∙ ap (element_of store) of.2.id ∙ stored) in
             let back : unstamped own.1 ≡ unstamped before =
-            applied-back of.0 before now is' is of.2 own.1 own.3.is (counted-id old now (element_of old now.id) refl) kind (subst (λ x. IsApplied (inverse of.0) x own.1) one own.3.applied) in
+            applied-back of.0 before now is' is of.2 own.1 own.3.is_element (counted-id old now (element_of old now.id) refl) kind (subst (λ x. IsApplied (inverse of.0) x own.1) one own.3.applied) in
             elim own.4 [
               | inl same ↦ inl (ap unstamped (sym one) ∙ same ∙ back)
               | inr among ↦ inr (stamped time nonce own.1, among, own.3.kept.id ∙ ap (λ (x : Drawn). x.id) one, back)

@@ -17,7 +17,7 @@ stamped time nonce e = record e { version = e.version + 1; nonce = nonce; update
 
 -- The inverse of a part makes this element of another one.
 pub record Reverts (part : Delta) (now reverted : Drawn) : Type 0 where
-  pub is : IsElement reverted
+  pub is_element : IsElement reverted
   pub kept : KeepsStamp now reverted
   pub applied : IsApplied (inverse part) now reverted
 

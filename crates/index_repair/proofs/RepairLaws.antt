@@ -105,7 +105,7 @@ length-kept_after low (Some key ∷ keys) =
 
 -- a position that is kept has a key that is above the end and above all kept before
 record IsKeptAt (low : Option (List ℕ)) (keys kept : List (Option (List ℕ))) (i : ℕ) (key : List ℕ) : Type 0 where
-  there : slice_get keys i ≡ Some (Some key)
+  has_key : slice_get keys i ≡ Some (Some key)
   above_end : ends_rise low (Some key) ≡ true
   above : IsAboveKept kept i key
 
@@ -125,12 +125,12 @@ above-rest first kept i key h j other l e = h (suc j) other (omega arith) e
 
 -- the positions behind one that isn't kept, and behind one that is
 behind_none : {low : Option (List ℕ)} (first : Option (List ℕ)) {keys kept : List (Option (List ℕ))} {i : ℕ} {key : List ℕ} → IsKeptAt low keys kept i key → IsKeptAt low (first ∷ keys) (None ∷ kept) (suc i) key
-behind_none first {keys} {kept} {i} {key} k = record { there = k.there; above_end = k.above_end; above = above-none kept i key k.above }
+behind_none first {keys} {kept} {i} {key} k = record { has_key = k.has_key; above_end = k.above_end; above = above-none kept i key k.above }
 
 behind_some : {low : Option (List ℕ)} {first : List ℕ} {keys kept : List (Option (List ℕ))} {i : ℕ} {key : List ℕ} → ends_rise low (Some first) ≡ true
     → IsKeptAt (Some first) keys kept i key → IsKeptAt low (Some first ∷ keys) (Some first ∷ kept) (suc i) key
 behind_some {low} {first} {keys} {kept} {i} {key} rise k = record {
-  there = k.there;
+  has_key = k.has_key;
   above_end = rise_between-ends low (Some key) (first ∷ []) (and_from (ends_rise low (Some first)) (ends_rise (Some first) (Some key)) rise k.above_end);
   above = above-some first kept i key k.above_end k.above;
 }
@@ -142,7 +142,7 @@ kept_at low (None ∷ keys) (suc i) key h = behind_none None (kept_at low keys i
 kept_at low (Some first ∷ keys) zero key h =
     cond_both (ends_rise low (Some first)) (Some first ∷ kept_after (Some first) keys) (None ∷ kept_after low keys)
     (λ kept. slice_get kept 0 ≡ Some (Some key) → IsKeptAt low (Some first ∷ keys) kept 0 key)
-    (λ rise h. record { there = h; above_end = (let same : first ≡ key = cc in subst (λ k. ends_rise low (Some k) ≡ true) same rise); above = nothing_before (Some first ∷ kept_after (Some first) keys) key })
+    (λ rise h. record { has_key = h; above_end = (let same : first ≡ key = cc in subst (λ k. ends_rise low (Some k) ≡ true) same rise); above = nothing_before (Some first ∷ kept_after (Some first) keys) key })
     (λ _ h. cc) h
 kept_at low (Some first ∷ keys) (suc i) key h =
     cond_both (ends_rise low (Some first)) (Some first ∷ kept_after (Some first) keys) (None ∷ kept_after low keys)
@@ -171,7 +171,7 @@ pub kept-law : (keys : List (Option (List ℕ))) → AreKept keys (kept keys)
 kept-law keys = record {
   count = length-kept_after None keys;
   each = λ i key. (
-    (λ h. let k = kept_at None keys i key h in (k.there, k.above)),
+    (λ h. let k = kept_at None keys i key h in (k.has_key, k.above)),
     (λ h. at_kept None keys i key h.0 refl h.1),
   );
 }

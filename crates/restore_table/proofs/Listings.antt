@@ -64,7 +64,7 @@ differ e = absurd (apart_codes (ap (λ x. bytes_eq x old_name) e))
 pub updated-none : (ms us : List Pair) → IsDistinct bytes_eq (names_of ms) → value_at old_name ms ≡ None → us ≡ ms → AreUpdated ms us
 updated-none ms us apart none same = subst (AreUpdated ms) (sym same) (record {
   ids = None;
-  old = λ ids has. none-some (array_text (map quote ids)) (sym none ∙ has.is);
+  old = λ ids has. none-some (array_text (map quote ids)) (sym none ∙ has.named);
   distinct = apart;
   gone = none;
   listing = refl;
@@ -75,10 +75,10 @@ value-same : (v w : List ℕ) → Some v ≡ Some w → v ≡ w
 value-same v w e = cc
 
 ids-of : (ms : List Pair) (value : List ℕ) (ids : List (List ℕ)) → value_at old_name ms ≡ Some value → HasOldListing ms ids → AreOldIds value ids
-ids-of ms value ids is has = (has.texts, value-same value (array_text (map quote ids)) (sym is ∙ has.is))
+ids-of ms value ids is has = (has.texts, value-same value (array_text (map quote ids)) (sym is ∙ has.named))
 
 has-old : (ms : List Pair) (value : List ℕ) (ids : List (List ℕ)) → value_at old_name ms ≡ Some value → AreOldIds value ids → HasOldListing ms ids
-has-old ms value ids is old = record { texts = old.0; is = is ∙ ap Some old.1 }
+has-old ms value ids is old = record { texts = old.0; named = is ∙ ap Some old.1 }
 
 pub updated-wrong : (ms us : List Pair) (value : List ℕ) → IsDistinct bytes_eq (names_of ms) → value_at old_name ms ≡ Some value → IsTheOne (AreOldIds value) None →
     us ≡ filter (is_other old_name) ms → AreUpdated ms us

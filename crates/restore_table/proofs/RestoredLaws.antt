@@ -28,16 +28,16 @@ filled-null default value null =
 -- a value that is null only if its default is
 record IsFull (default : List ℕ) (found : Option (List ℕ)) : Type 0 where
   value : List ℕ
-  is : found ≡ Some value
+  found_is : found ≡ Some value
   full : value ≡ null_word → default ≡ null_word
 
 filled-IsFull : (default : List ℕ) (given : Option (List ℕ)) → IsFull default (filled (Some default) given)
-filled-IsFull default None = record { value = default; is = refl; full = λ e. e }
+filled-IsFull default None = record { value = default; found_is = refl; full = λ e. e }
 filled-IsFull default (Some value) = elim (cases_Bool (bytes_eq value null_word)) [
-  | inl e ↦ record { value = default; is = cond-true (bytes_eq value null_word) (Some default) (Some value) e; full = λ e. e }
+  | inl e ↦ record { value = default; found_is = cond-true (bytes_eq value null_word) (Some default) (Some value) e; full = λ e. e }
   | inr e ↦ record {
     value = value;
-    is = cond-false (bytes_eq value null_word) (Some default) (Some value) e;
+    found_is = cond-false (bytes_eq value null_word) (Some default) (Some value) e;
     full = λ null. absurd (both_ways (bytes_eq value null_word) e (ap (λ v. bytes_eq v null_word) null ∙ bytes_eq-same null_word));
   }
 ]
@@ -46,10 +46,10 @@ full-filled : (default : List ℕ) (given : Option (List ℕ)) → IsFull defaul
 full-filled default given full = elim (cases_Bool (bytes_eq full.value null_word)) [
   | inl e ↦
       let null = bytes_eq-true full.value null_word e in
-      ap (filled (Some default)) full.is ∙ (filled-null default full.value null ∙ (ap Some (full.full null ∙ sym null) ∙ sym full.is))
+      ap (filled (Some default)) full.found_is ∙ (filled-null default full.value null ∙ (ap Some (full.full null ∙ sym null) ∙ sym full.found_is))
   | inr e ↦
       let given' : full.value ≢ null_word = λ null. both_ways (bytes_eq full.value null_word) e (ap (λ v. bytes_eq v null_word) null ∙ bytes_eq-same null_word) in
-      ap (filled (Some default)) full.is ∙ (filled-given (Some default) full.value given' ∙ sym full.is)
+      ap (filled (Some default)) full.found_is ∙ (filled-given (Some default) full.value given' ∙ sym full.found_is)
 ]
 
 listing-given : (ids : List (List ℕ)) → listing_text ids ≢ null_word
@@ -58,7 +58,7 @@ listing-given ids e = both_ways (bytes_eq (listing_text ids) null_word) refl (ap
 
 -- the listing is filled in already
 filled-listing : (ids : Option (List (List ℕ))) (members : List Pair) → IsFull (91 ∷ 93 ∷ []) (listing_at ids members)
-filled-listing (Some ids) members = record { value = listing_text ids; is = refl; full = λ null. absurd (listing-given ids null) }
+filled-listing (Some ids) members = record { value = listing_text ids; found_is = refl; full = λ null. absurd (listing-given ids null) }
 filled-listing None members = filled-IsFull (91 ∷ 93 ∷ []) (value_at listing_name members)
 
 -- ---- look-ups name by name
@@ -110,7 +110,7 @@ restored-unique ms rs ss one two =
     (λ name not_old not_listing. one.others name not_old not_listing ∙ sym (two.others name not_old not_listing)))
 
 old-same : (ms ns : List Pair) (ids : List (List ℕ)) → AreSameMembers ms ns → HasOldListing ms ids → HasOldListing ns ids
-old-same ms ns ids same has = record { texts = has.texts; is = sym (same old_name) ∙ has.is }
+old-same ms ns ids same has = record { texts = has.texts; named = sym (same old_name) ∙ has.named }
 
 one-moved : (ms ns : List Pair) (ids : Option (List (List ℕ))) → AreSameMembers ms ns → IsTheOne (HasOldListing ms) ids → IsTheOne (HasOldListing ns) ids
 one-moved ms ns None same none = λ ids has. none ids (old-same ns ms ids (λ name. sym (same name)) has)
@@ -132,15 +132,15 @@ restored-order ms ns rs same are = record {
 }
 
 full-there : (default : List ℕ) (found : Option (List ℕ)) → IsFull default found → (value : List ℕ) × (found ≡ Some value) × (value ≡ null_word → default ≡ null_word)
-full-there default found full = (full.value, full.is, full.full)
+full-there default found full = (full.value, full.found_is, full.full)
 
 there-full : (default : List ℕ) (found : Option (List ℕ)) → (value : List ℕ) × (found ≡ Some value) × (value ≡ null_word → default ≡ null_word) → IsFull default found
-there-full default found there = record { value = there.0; is = there.1; full = there.2 }
+there-full default found there = record { value = there.0; found_is = there.1; full = there.2 }
 
 pub restored-lack : (ms rs : List Pair) → AreRestored ms rs → LackNothing rs
 restored-lack ms rs are = record {
   gone = are.gone;
-  there = λ name default row. elim (cases_Bool (bytes_eq name old_name)) [
+  each_filled = λ name default row. elim (cases_Bool (bytes_eq name old_name)) [
     | inl e ↦ absurd (none-some default (sym defaults-old ∙ (ap (λ n. value_at n defaults) (sym (bytes_eq-true name old_name e)) ∙ row)))
     | inr e ↦ elim (cases_Bool (bytes_eq name listing_name)) [
       | inl f ↦
@@ -161,10 +161,10 @@ restored-lack ms rs are = record {
 -- what lacks nothing has nothing filled in
 lack-filled : (ms : List Pair) (name : List ℕ) (d : Option (List ℕ)) → LackNothing ms → value_at name defaults ≡ d → filled d (value_at name ms) ≡ value_at name ms
 lack-filled ms name None lack row = refl
-lack-filled ms name (Some default) lack row = full-filled default (value_at name ms) (there-full default (value_at name ms) (lack.there name default row))
+lack-filled ms name (Some default) lack row = full-filled default (value_at name ms) (there-full default (value_at name ms) (lack.each_filled name default row))
 
 lack-listing : (ms : List Pair) (ids : Option (List (List ℕ))) → LackNothing ms → IsTheOne (HasOldListing ms) ids → listing_at ids ms ≡ value_at listing_name ms
-lack-listing ms (Some ids) lack one = absurd (none-some (array_text (map quote ids)) (sym lack.gone ∙ one.0.is))
+lack-listing ms (Some ids) lack one = absurd (none-some (array_text (map quote ids)) (sym lack.gone ∙ one.0.named))
 lack-listing ms None lack none = lack-filled ms listing_name (Some (91 ∷ 93 ∷ [])) lack refl
 
 pub lack-same : (ms rs : List Pair) → LackNothing ms → AreRestored ms rs → AreSameMembers ms rs

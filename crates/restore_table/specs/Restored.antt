@@ -31,7 +31,7 @@ filled_at name members = filled (value_at name defaults) (value_at name members)
 -- The members have an old listing of these ids: an array of texts.
 pub record HasOldListing (members : List Pair) (ids : List (List ℕ)) : Type 0 where
   pub texts : AllByRecursion IsUtf8 ids
-  pub is : value_at old_name members ≡ Some (array_text (map quote ids))
+  pub named : value_at old_name members ≡ Some (array_text (map quote ids))
 
 -- the entry that lists an arrow by its id, and the listing of arrows
 abbrev pub arrow_text : List ℕ → List ℕ
@@ -58,5 +58,5 @@ pub record AreRestored (members restored : List Pair) : Type 0 where
 -- Each member of the table is there, and is null only if that is its default; and there is no old listing.
 pub record LackNothing (members : List Pair) : Type 0 where
   pub gone : value_at old_name members ≡ None
-  pub there : (name default : List ℕ) → value_at name defaults ≡ Some default →
+  pub each_filled : (name default : List ℕ) → value_at name defaults ≡ Some default →
       (value : List ℕ) × (value_at name members ≡ Some value) × (value ≡ null_word → default ≡ null_word)

@@ -56,14 +56,14 @@ has-elements : (tag : List ℕ) (elements : List Drawn) → IsUtf8 tag → All I
 unfolding inner
 has-elements tag elements utf8 whole = record {
   members = tagged_members tag elements;
-  object = record { are = tagged-are tag elements utf8 whole; spelled = refl };
+  object = record { are_members = tagged-are tag elements utf8 whole; spelled = refl };
   tagged = (utf8, refl);
   values = map element_text elements;
   payload = record {
     payload = object_text (inner elements);
     others = inner elements;
-    there = refl;
-    object = record { are = inner-are 127 elements (lit≤ tt) whole; spelled = refl };
+    named = refl;
+    object = record { are_members = inner-are 127 elements (lit≤ tt) whole; spelled = refl };
     compact = elements-compact 127 elements (lit≤ tt) whole;
     array = refl;
   };
@@ -83,4 +83,4 @@ read-back (Update elements) whole =
     let utf8 = literal update_tag refl in
     (object_text (tagged_members update_tag elements), tagged-alone update_tag elements utf8 whole, has-elements update_tag elements utf8 whole)
 read-back (Presence value) is =
-    (value, alone value (subst (IsCompact 128) (sym is.object.spelled) (object-compact 127 is.members is.object.are)), (refl, is))
+    (value, alone value (subst (IsCompact 128) (sym is.object.spelled) (object-compact 127 is.members is.object.are_members)), (refl, is))

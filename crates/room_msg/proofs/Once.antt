@@ -37,7 +37,7 @@ given message = Ok message
 -- ---- elements
 payload-once : (members : List Pair) (vs ws : List (List ℕ)) → HasPayload members vs → HasPayload members ws → vs ≡ ws
 payload-once members vs ws one two =
-    let text = same_Some one.payload two.payload (sym one.there ∙ two.there) in
+    let text = same_Some one.payload two.payload (sym one.named ∙ two.named) in
     let inner = members-once two.payload one.others two.others (subst (λ t. IsObject t one.others) text one.object) two.object in
     array-once vs ws one.compact two.compact
     (same_Some (array_text vs) (array_text ws) (sym one.array ∙ ap (value_at (codes "elements")) inner ∙ two.array))

@@ -32,7 +32,7 @@ HasTag members tag = IsText (value_at (codes "type") members) tag
 pub record HasPayload (members : List Pair) (values : List (List ℕ)) : Type 0 where
   pub payload : List ℕ
   pub others : List Pair
-  pub there : value_at (codes "payload") members ≡ Some payload
+  pub named : value_at (codes "payload") members ≡ Some payload
   pub object : IsObject payload others
   pub compact : AllByRecursion (IsCompact 127) values
   pub array : value_at (codes "elements") others ≡ Some (array_text values)

@@ -70,7 +70,7 @@ items-or-not (Some value) fits = elim (array-or-not value fits) [
 members-or-not : (found : Option (List ℕ)) → Fits found → Decided (HasMembers found)
 members-or-not None fits = inl ([], refl)
 members-or-not (Some value) fits = elim (object-or-not value fits) [
-  | inl (members, are, e) ↦ inl (members, record { are = are; spelled = e })
+  | inl (members, are, e) ↦ inl (members, record { are_members = are; spelled = e })
   | inr none ↦ inr (λ members has. none members has.spelled)
 ]
 
@@ -133,7 +133,7 @@ scene-or-faulty text is = by (object-or-not text is)
     parts members object kind (inl (values, items)) (inl (settings, state)) (inl (entries, table)) =
         elim (read-or-faulty values (items-compact (given (codes "elements") members) values items)) [
           | inl (elements, read) ↦
-              let head = head-of members settings entries object.are state table in
+              let head = head-of members settings entries object.are_members state table in
               inl (
                 record { head = head.0; elements = loaded elements },
                 record {
@@ -154,7 +154,7 @@ scene-or-faulty text is = by (object-or-not text is)
     by : ((members : List Pair) × AreMembers 127 members × (text ≡ object_text members)) ⊎ ((members : List Pair) → text ≢ object_text members) → Told text
     by (inr none) = inr (NotObject, λ members object. none members object.spelled)
     by (inl (members, are, e)) =
-        let object : IsObject text members = record { are = are; spelled = e } in
+        let object : IsObject text members = record { are_members = are; spelled = e } in
         elim (is-text (value_at (codes "type") members) (codes "excalidraw") (fits-in 127 members (lit≤ tt) are (codes "type"))) [
           | inr none ↦ inr (NotScene, (members, object, none))
           | inl kind ↦ parts members object kind (items-or-not (given (codes "elements") members) (fits-given (codes "elements") members are))
@@ -175,14 +175,14 @@ fault-at bytes at text rest (Element place why) stands is = (text, rest, stands,
 pub record StandsAt (bytes : List ℕ) (at : ℕ) (scene : Scene) (end : ℕ) : Type 0 where
   pub behind : at < end
   pub within : end ≤ length bytes
-  pub is : IsSceneAt (drop at bytes) scene (drop end bytes)
+  pub stands : IsSceneAt (drop at bytes) scene (drop end bytes)
 
 pub scene-or-fault : (bytes : List ℕ) (at : ℕ) → at ≤ length bytes
     → ((scene : Scene) × (end : ℕ) × StandsAt bytes at scene end) ⊎ ((fault : SceneFault) × IsFaultAt bytes at fault)
 scene-or-fault bytes at within = elim (value-or-fault bytes at within) [
   | inr (fault, is) ↦ inr (Json fault, is)
   | inl (text, end, small, stands) ↦ elim (scene-or-faulty text (Value-compact stands.reads)) [
-    | inl (scene, is) ↦ inl (scene, end, record { behind = Stands-behind bytes text at end small stands; within = small; is = record { text = text; stands = stands; is = is } })
+    | inl (scene, is) ↦ inl (scene, end, record { behind = Stands-behind bytes text at end small stands; within = small; stands = record { text = text; stands = stands; says = is } })
     | inr (fault, is) ↦ inr (fault, fault-at bytes at text (drop end bytes) fault stands is)
   ]
 ]
@@ -191,6 +191,6 @@ pub scene-law : (bytes : List ℕ) (at : ℕ) → at ≤ length bytes
     → ((scene : Scene) × (end : ℕ) × (at < end) × (end ≤ length bytes) × IsSceneAt (drop at bytes) scene (drop end bytes))
     ⊎ ((fault : SceneFault) × IsFaultAt bytes at fault)
 scene-law bytes at within = elim (scene-or-fault bytes at within) [
-  | inl (scene, end, s) ↦ inl (scene, end, s.behind, s.within, s.is)
+  | inl (scene, end, s) ↦ inl (scene, end, s.behind, s.within, s.stands)
   | inr fault ↦ inr fault
 ]

@@ -129,7 +129,7 @@ pub record IsSound (scene : Scene) : Type 0 where
 
 pub scene-sound : (text : List ℕ) (scene : Scene) → IsSceneOf text scene → IsSound scene
 scene-sound text scene is = record {
-  head = head-fits is.members scene.head is.object.are is.head;
+  head = head-fits is.members scene.head is.object.are_members is.head;
   elements = subst AreKept (sym is.are_loaded) (loaded-kept is.elements (read-kept is.values is.elements is.read));
 }
 

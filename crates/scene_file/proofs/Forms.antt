@@ -9,7 +9,7 @@ use Rattle.elem.proofs.Saying.{literal}
 use Rattle.scene_file.specs.Reading.{IsScene}
 
 pub is-object : (value : List ℕ) (members : List Pair) → value ≡ object_text members → AreMembers 127 members → IsObject value members
-is-object value members spelled are = record { are = are; spelled = spelled }
+is-object value members spelled are = record { are_members = are; spelled = spelled }
 
 pub is-scene : (members : List Pair) → value_at (codes "type") members ≡ Some (quote (codes "excalidraw")) → IsScene members
 is-scene members kind = (literal (codes "excalidraw") refl, kind)

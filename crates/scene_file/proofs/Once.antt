@@ -76,7 +76,7 @@ scene_of-once text scene other one two =
 pub scene-once : {bytes : List ℕ} {scene other : Scene} {rest next : List ℕ} → IsSceneAt bytes scene rest → IsSceneAt bytes other next → (scene ≡ other) × (rest ≡ next)
 scene-once {scene = scene} {other = other} one two =
     let same = Stands-once two.stands one.stands in
-    (scene_of-once one.text scene other one.is (subst (λ t. IsSceneOf t other) same.0 two.is), sym same.1)
+    (scene_of-once one.text scene other one.says (subst (λ t. IsSceneOf t other) same.0 two.says), sym same.1)
 
 -- No scene stands in white space.
 pub scene-some : {bytes : List ℕ} {scene : Scene} {rest : List ℕ} → IsSceneAt bytes scene rest → is_blank bytes ≡ true → ⊥
@@ -188,7 +188,7 @@ fault-once bytes at fault other one two = told-once bytes at fault other (told b
 told-none : (bytes : List ℕ) (at : ℕ) (fault : SceneFault) (scene : Scene) (rest : List ℕ) → Told bytes at fault → IsSceneAt (drop at bytes) scene rest → ⊥
 told-none bytes at fault scene rest (form found e one) is = one.faulty is.text rest is.stands
 told-none bytes at fault scene rest (value text next stands faulty) is =
-    scene_fault-none text scene fault (subst (λ t. IsSceneOf t scene) (Stands-once is.stands stands).0 is.is) faulty
+    scene_fault-none text scene fault (subst (λ t. IsSceneOf t scene) (Stands-once is.stands stands).0 is.says) faulty
 
 -- No scene stands where a fault is.
 pub fault-none : (bytes : List ℕ) (at : ℕ) (fault : SceneFault) {scene : Scene} {rest : List ℕ} → IsFaultAt bytes at fault → IsSceneAt (drop at bytes) scene rest → ⊥

@@ -49,7 +49,7 @@ there : (value : List ℕ) → bytes_eq value null_word ≡ false → Some value
 there value other = sym (cond-false (bytes_eq value null_word) None (Some value) other)
 
 object-of : (ms : List Pair) → AreMembers 126 ms → IsObject (object_text ms) ms
-object-of ms are = record { are = AreMembers-deeper 126 127 ms (lit≤ tt) are; spelled = refl }
+object-of ms are = record { are_members = AreMembers-deeper 126 127 ms (lit≤ tt) are; spelled = refl }
 
 members-given : (ms : List Pair) → AreMembers 126 ms → HasMembers (cond (bytes_eq (object_text ms) null_word) None (Some (object_text ms))) ms
 members-given ms are = subst (λ found. HasMembers found ms) (there (object_text ms) (object-no-null ms)) (object-of ms are)
@@ -89,7 +89,7 @@ module _ (head : Heading) (elements : List Drawn) (files : List Pair) (whole : I
       → IsSceneOf (object_text (scene_members head elements files)) (record { head = record head { files = kept }; elements = elements })
   scene-said kept keys rise same = record {
     members = scene_members head elements files;
-    object = record { are = members-are; spelled = refl };
+    object = record { are_members = members-are; spelled = refl };
     kind = (literal (codes "excalidraw") refl, refl);
     head = record {
       source = source-read head.source whole.source;
@@ -133,7 +133,7 @@ stands-at written text rest scene v is = record {
     reads = v;
     ends = follows written rest (no-number 128 written text is.members v is.object.spelled);
   };
-  is = is;
+  says = is;
 }
 
 written-Value : (layout : Layout) (text written : List ℕ) → IsCompact 128 text → IsWritten layout text written → Value 128 written text
@@ -180,7 +180,7 @@ scene-behind blank bytes scene rest space at =
         reads = s.reads;
         ends = s.ends;
       };
-      is = at.is;
+      says = at.says;
     }
 
 pub scene-before : (bytes : List ℕ) (scene : Scene) (rest more : List ℕ) → IsSceneAt bytes scene rest → IsSceneAt (bytes ++ more) scene (rest ++ more)
@@ -194,7 +194,7 @@ scene-before bytes scene rest more at =
         parts = ap (λ b. b ++ more) s.parts ∙ (append_assoc s.blank (s.value ++ rest) more ∙ ap (λ b. s.blank ++ b) (append_assoc s.value rest more));
         space = s.space;
         reads = s.reads;
-        ends = follows s.value (rest ++ more) (no-number 128 s.value at.text at.is.members s.reads at.is.object.spelled);
+        ends = follows s.value (rest ++ more) (no-number 128 s.value at.text at.says.members s.reads at.says.object.spelled);
       };
-      is = at.is;
+      says = at.says;
     }

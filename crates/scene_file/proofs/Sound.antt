@@ -63,19 +63,19 @@ sound-with : (e : Drawn) (index : Option (List ℕ)) (groups : List (List ℕ)) 
     → Stays container e.container → Stays start e.start_binding → Stays final e.end_binding → IsSound (with_parts e index groups frame bound container start final)
 sound-with e index groups frame bound container start final sound key texts name entries holder first last = record {
   restored = sound.restored;
-  is = record {
-    named = sound.is.named;
-    version = sound.is.version;
-    nonce = sound.is.nonce;
-    updated = sound.is.updated;
-    kind = sound.is.kind;
-    container = stays-holds _ container e.container holder sound.is.container;
-    start_binding = stays-holds _ start e.start_binding first sound.is.start_binding;
-    end_binding = stays-holds _ final e.end_binding last sound.is.end_binding;
-    file = sound.is.file;
-    rise = sound.is.rise;
-    free = sound.is.free;
-    nest = sound.is.nest;
+  is_element = record {
+    named = sound.is_element.named;
+    version = sound.is_element.version;
+    nonce = sound.is_element.nonce;
+    updated = sound.is_element.updated;
+    kind = sound.is_element.kind;
+    container = stays-holds _ container e.container holder sound.is_element.container;
+    start_binding = stays-holds _ start e.start_binding first sound.is_element.start_binding;
+    end_binding = stays-holds _ final e.end_binding last sound.is_element.end_binding;
+    file = sound.is_element.file;
+    rise = sound.is_element.rise;
+    free = sound.is_element.free;
+    nest = sound.is_element.nest;
   };
   written = record {
     id = sound.written.id;

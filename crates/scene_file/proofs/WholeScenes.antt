@@ -124,9 +124,9 @@ shown-whole live whole = sounds-whole (shown live) (shown-sound live (wholes-sou
 
 pub scene-whole : (bytes : List ℕ) (scene : Scene) (rest : List ℕ) → IsSceneAt bytes scene rest → IsWholeScene scene
 scene-whole bytes scene rest at =
-    let is = at.is in
+    let is = at.says in
     record {
-      head = head-whole is.members scene.head is.object.are is.head;
+      head = head-whole is.members scene.head is.object.are_members is.head;
       elements = subst (All IsWhole) (sym is.are_loaded) (sounds-whole (loaded is.elements) (loaded-sound is.elements (read-sound is.values is.elements is.read)));
       keys = subst HaveKeys (sym is.are_loaded) (loaded-keys is.elements);
     }

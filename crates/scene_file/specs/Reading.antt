@@ -98,7 +98,7 @@ IsSceneFault text (Element place fault) =
 pub record IsSceneAt (bytes : List ℕ) (scene : Scene) (rest : List ℕ) : Type 0 where
   pub text : List ℕ
   pub stands : Stands bytes text rest
-  pub is : IsSceneOf text scene
+  pub says : IsSceneOf text scene
 
 -- The text behind the offset has this first fault: its JSON form has, or it has none there and is no scene.
 abbrev pub IsFaultAt : List ℕ → ℕ → SceneFault → Type 0

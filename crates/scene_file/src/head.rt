@@ -131,7 +131,7 @@ pub(crate) fn head_of(
     settings: List<Member>,
     entries: List<Member>,
 ) -> Result<Head, AllocError>
-    requires are { AreMembers 127 (pairs members.now) }
+    requires are_members { AreMembers 127 (pairs members.now) }
     requires settings { HasMembers (given (codes "appState") (pairs members.now)) (pairs settings) }
     requires entries { HasMembers (given (codes "files") (pairs members.now)) (pairs entries) }
     ensures { IfOk result (IsHeadOf (pairs members.now)) }

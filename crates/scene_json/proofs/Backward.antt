@@ -73,7 +73,7 @@ module _ (limit : ℕ) (left : List ℕ) where
   number_back st b w (Some part) e f = record {
     tree = scalar (b ∷ f.front);
     rest = f.rest;
-    good = inl (run_number b f.front (rw e f.is));
+    good = inl (run_number b f.front (rw e f.holds));
     shallow = omega arith;
     spells = ap (λ x. b ∷ x) f.spells;
     ends = quiet_follows (b ∷ f.front) f.rest f.follows.0;
@@ -86,7 +86,7 @@ module _ (limit : ℕ) (left : List ℕ) where
     rest = f.rest;
     good = inr word;
     shallow = omega arith;
-    spells = ap (λ x. b ∷ x) (f.spells ∙ ap (λ x. x ++ f.rest) f.is);
+    spells = ap (λ x. b ∷ x) (f.spells ∙ ap (λ x. x ++ f.rest) f.holds);
     ends = no_number b (letters_of letters) f.rest none;
     follows = f.follows;
   }
@@ -109,7 +109,7 @@ module _ (limit : ℕ) (left : List ℕ) where
         record {
           tree = empty (container_of bracket) b.front;
           rest = b.follows.0;
-          good = b.is;
+          good = b.holds;
           shallow = omega arith;
           spells = ap (λ x. opening (container_of bracket) ∷ x) (b.spells ∙ ap (λ x. b.front ++ x) b.follows.1 ∙ sym (append_assoc b.front (closing (container_of bracket) ∷ []) b.follows.0));
           ends = no_number (opening (container_of bracket)) (b.front ++ closing (container_of bracket) ∷ []) b.follows.0 (no_opening bracket);
@@ -237,7 +237,7 @@ module _ (limit : ℕ) (left : List ℕ) where
   led_back : (r : Role) (st : List Bracket) (b : ℕ) (w : List ℕ) (o : Option Tail) → tail_led b ≡ o → Moves st b w (led_on r o) → Pieces (AfterString limit left r st) (b ∷ w)
   led_back r st b w None e h = absurd h
   led_back r st b w (Some tail) e f =
-      let c = led_char b f.front tail e f.is in
+      let c = led_char b f.front tail e f.holds in
       with_piece r st (bare c.0) (b ∷ w) f.rest (c.1, omega (arith, c.2), λ q. omega (arith, c.2), λ q. omega (arith, c.2))
       (ap (λ x. b ∷ x) f.spells ∙ ap (λ x. x ++ f.rest) (sym c.3)) f.follows
 
@@ -256,7 +256,7 @@ module _ (limit : ℕ) (left : List ℕ) where
   plain_back r st b w h = elim (chosen (b == 34) (To (after_string r)) (cond (b == 92) (To (Quoted r Escape)) (cond (nat_lt b 32) Refuse (cond (nat_lt b 128) (To (Quoted r Plain)) (led_on r (tail_led b))))) (Moves st b w) h) [
     | inl q ↦ record { pieces = []; rest = w; good = tt; spells = ap (λ x. x ∷ w) (eqb-true b 34 q.0); follows = closed_back r st b w q.1 }
     | inr q ↦ elim (chosen (b == 92) (To (Quoted r Escape)) (cond (nat_lt b 32) Refuse (cond (nat_lt b 128) (To (Quoted r Plain)) (led_on r (tail_led b)))) (Moves st b w) q.1) [
-      | inl s ↦ subst (λ x. Pieces (AfterString limit left r st) (x ∷ w)) (sym (eqb-true b 92 s.0)) (escaped_back r st w s.1.front s.1.rest s.1.is s.1.spells s.1.follows)
+      | inl s ↦ subst (λ x. Pieces (AfterString limit left r st) (x ∷ w)) (sym (eqb-true b 92 s.0)) (escaped_back r st w s.1.front s.1.rest s.1.holds s.1.spells s.1.follows)
       | inr s ↦ elim (chosen (nat_lt b 32) Refuse (cond (nat_lt b 128) (To (Quoted r Plain)) (led_on r (tail_led b))) (Moves st b w) s.1) [
         | inl z ↦ absurd z.1
         | inr l ↦ elim (chosen (nat_lt b 128) (To (Quoted r Plain)) (led_on r (tail_led b)) (Moves st b w) l.1) [
@@ -271,30 +271,30 @@ module _ (limit : ℕ) (left : List ℕ) where
   escape_back r st b w h = elim (chosen (b == 117) (To (Quoted r (Hex 3))) (cond (letter_meaning b == 0) Refuse (To (Quoted r Plain))) (Moves st b w) h) [
     | inl u ↦
         let f = u.1 in
-        record { front = b ∷ f.front; rest = f.rest; is = inr (f.front, ap (λ x. x ∷ f.front) (eqb-true b 117 u.0), f.is.0, f.is.1); spells = ap (λ x. b ∷ x) f.spells; follows = f.follows }
+        record { front = b ∷ f.front; rest = f.rest; holds = inr (f.front, ap (λ x. x ∷ f.front) (eqb-true b 117 u.0), f.holds.0, f.holds.1); spells = ap (λ x. b ∷ x) f.spells; follows = f.follows }
     | inr n ↦ elim (chosen (letter_meaning b == 0) Refuse (To (Quoted r Plain)) (Moves st b w) n.1) [
       | inl z ↦ absurd z.1
-      | inr l ↦ record { front = b ∷ []; rest = w; is = inl (b, refl, eqb-false (letter_meaning b) 0 l.0); spells = refl; follows = l.1 }
+      | inr l ↦ record { front = b ∷ []; rest = w; holds = inl (b, refl, eqb-false (letter_meaning b) 0 l.0); spells = refl; follows = l.1 }
     ]
   ]
 
   hex_back : (r : Role) (st : List Bracket) (more b : ℕ) (w : List ℕ) → Moves st b w (hex_move r more b) → Front (AreHex (suc more)) (Pieces (AfterString limit left r st)) (b ∷ w)
   hex_back r st more b w h = elim (chosen (is_hex b) (cond (more == 0) (To (Quoted r Plain)) (To (Quoted r (Hex (more - 1))))) Refuse (Moves st b w) h) [
     | inl d ↦ elim (chosen (more == 0) (To (Quoted r Plain)) (To (Quoted r (Hex (more - 1)))) (Moves st b w) d.1) [
-      | inl z ↦ record { front = b ∷ []; rest = w; is = (ap suc (sym (eqb-true more 0 z.0)), and_from (is_hex b) true d.0 refl); spells = refl; follows = z.1 }
+      | inl z ↦ record { front = b ∷ []; rest = w; holds = (ap suc (sym (eqb-true more 0 z.0)), and_from (is_hex b) true d.0 refl); spells = refl; follows = z.1 }
       | inr m ↦
           let f = m.1 in
           let some : more ≢ 0 = eqb-false more 0 m.0 in
-          record { front = b ∷ f.front; rest = f.rest; is = (omega (arith, f.is.0), and_from (is_hex b) (list_all is_hex f.front) d.0 f.is.1); spells = ap (λ x. b ∷ x) f.spells; follows = f.follows }
+          record { front = b ∷ f.front; rest = f.rest; holds = (omega (arith, f.holds.0), and_from (is_hex b) (list_all is_hex f.front) d.0 f.holds.1); spells = ap (λ x. b ∷ x) f.spells; follows = f.follows }
     ]
     | inr z ↦ absurd z.1
   ]
 
   sequence_on_back : (r : Role) (st : List Bracket) (n : ℕ) (tail : Tail) (b : ℕ) (w : List ℕ) (after : Option Tail) → tail_after tail ≡ after → tail_fits tail b ≡ true
       → Moves st b w (sequence_on r n after) → Front (λ s. Completes s tail) (Pieces (AfterString limit left r st)) (b ∷ w)
-  sequence_on_back r st n tail b w None e fits p = record { front = b ∷ []; rest = w; is = (fits, rw e refl); spells = refl; follows = p }
+  sequence_on_back r st n tail b w None e fits p = record { front = b ∷ []; rest = w; holds = (fits, rw e refl); spells = refl; follows = p }
   sequence_on_back r st n tail b w (Some next) e fits f =
-      record { front = b ∷ f.front; rest = f.rest; is = (fits, rw e f.is); spells = ap (λ x. b ∷ x) f.spells; follows = f.follows }
+      record { front = b ∷ f.front; rest = f.rest; holds = (fits, rw e f.holds); spells = ap (λ x. b ∷ x) f.spells; follows = f.follows }
 
   sequence_back : (r : Role) (st : List Bracket) (n : ℕ) (tail : Tail) (b : ℕ) (w : List ℕ) → Moves st b w (sequence_move r n tail b) → Front (λ s. Completes s tail) (Pieces (AfterString limit left r st)) (b ∷ w)
   sequence_back r st n tail b w h = elim (chosen (tail_fits tail b) (sequence_on r n (tail_after tail)) Refuse (Moves st b w) h) [
@@ -312,25 +312,25 @@ module _ (limit : ℕ) (left : List ℕ) where
   part_back : (part : Part) (st : List Bracket) (b : ℕ) (w : List ℕ) (after : Option Part) → part_after part b ≡ after
       → Moves st b w (number_move_on after (is_complete part && not (extends_number b)) (top st) b) → Front (λ s. ends s part ≡ true) (λ r. Quiet r × Rest limit left st r) (b ∷ w)
   part_back part st b w None e h = elim (chosen (is_complete part && not (extends_number b)) (after_move (top st) b) Refuse (Moves st b w) h) [
-    | inl c ↦ record { front = []; rest = b ∷ w; is = (and_parts (is_complete part) (not (extends_number b)) c.0).0; spells = refl; follows = (not-true (extends_number b) (and_parts (is_complete part) (not (extends_number b)) c.0).1, rest_back st b w c.1) }
+    | inl c ↦ record { front = []; rest = b ∷ w; holds = (and_parts (is_complete part) (not (extends_number b)) c.0).0; spells = refl; follows = (not-true (extends_number b) (and_parts (is_complete part) (not (extends_number b)) c.0).1, rest_back st b w c.1) }
     | inr z ↦ absurd z.1
   ]
-  part_back part st b w (Some next) e f = record { front = b ∷ f.front; rest = f.rest; is = rw e f.is; spells = ap (λ x. b ∷ x) f.spells; follows = f.follows }
+  part_back part st b w (Some next) e f = record { front = b ∷ f.front; rest = f.rest; holds = rw e f.holds; spells = ap (λ x. b ∷ x) f.spells; follows = f.follows }
 
   abbrev WordRest : Letters → List Bracket → List ℕ → Type 0
   WordRest letters st w = Front (λ s. s ≡ letters_of letters) (Rest limit left st) w
 
   -- the letter and those that follow it
   letters_back : (letters : Letters) (st : List Bracket) (b : ℕ) (w : List ℕ) → Moves st b w (word_on (letters_after letters)) → WordRest letters st (first_letter letters ∷ w)
-  letters_back Ull st b w f = record { front = letters_of Ull; rest = f.rest; is = refl; spells = ap (λ x. 117 ∷ x) (f.spells ∙ ap (λ x. x ++ f.rest) f.is); follows = f.follows }
-  letters_back Ll st b w f = record { front = letters_of Ll; rest = f.rest; is = refl; spells = ap (λ x. 108 ∷ x) (f.spells ∙ ap (λ x. x ++ f.rest) f.is); follows = f.follows }
-  letters_back L st b w r = record { front = letters_of L; rest = w; is = refl; spells = refl; follows = r }
-  letters_back Rue st b w f = record { front = letters_of Rue; rest = f.rest; is = refl; spells = ap (λ x. 114 ∷ x) (f.spells ∙ ap (λ x. x ++ f.rest) f.is); follows = f.follows }
-  letters_back Ue st b w f = record { front = letters_of Ue; rest = f.rest; is = refl; spells = ap (λ x. 117 ∷ x) (f.spells ∙ ap (λ x. x ++ f.rest) f.is); follows = f.follows }
-  letters_back Alse st b w f = record { front = letters_of Alse; rest = f.rest; is = refl; spells = ap (λ x. 97 ∷ x) (f.spells ∙ ap (λ x. x ++ f.rest) f.is); follows = f.follows }
-  letters_back Lse st b w f = record { front = letters_of Lse; rest = f.rest; is = refl; spells = ap (λ x. 108 ∷ x) (f.spells ∙ ap (λ x. x ++ f.rest) f.is); follows = f.follows }
-  letters_back Se st b w f = record { front = letters_of Se; rest = f.rest; is = refl; spells = ap (λ x. 115 ∷ x) (f.spells ∙ ap (λ x. x ++ f.rest) f.is); follows = f.follows }
-  letters_back E st b w r = record { front = letters_of E; rest = w; is = refl; spells = refl; follows = r }
+  letters_back Ull st b w f = record { front = letters_of Ull; rest = f.rest; holds = refl; spells = ap (λ x. 117 ∷ x) (f.spells ∙ ap (λ x. x ++ f.rest) f.holds); follows = f.follows }
+  letters_back Ll st b w f = record { front = letters_of Ll; rest = f.rest; holds = refl; spells = ap (λ x. 108 ∷ x) (f.spells ∙ ap (λ x. x ++ f.rest) f.holds); follows = f.follows }
+  letters_back L st b w r = record { front = letters_of L; rest = w; holds = refl; spells = refl; follows = r }
+  letters_back Rue st b w f = record { front = letters_of Rue; rest = f.rest; holds = refl; spells = ap (λ x. 114 ∷ x) (f.spells ∙ ap (λ x. x ++ f.rest) f.holds); follows = f.follows }
+  letters_back Ue st b w f = record { front = letters_of Ue; rest = f.rest; holds = refl; spells = ap (λ x. 117 ∷ x) (f.spells ∙ ap (λ x. x ++ f.rest) f.holds); follows = f.follows }
+  letters_back Alse st b w f = record { front = letters_of Alse; rest = f.rest; holds = refl; spells = ap (λ x. 97 ∷ x) (f.spells ∙ ap (λ x. x ++ f.rest) f.holds); follows = f.follows }
+  letters_back Lse st b w f = record { front = letters_of Lse; rest = f.rest; holds = refl; spells = ap (λ x. 108 ∷ x) (f.spells ∙ ap (λ x. x ++ f.rest) f.holds); follows = f.follows }
+  letters_back Se st b w f = record { front = letters_of Se; rest = f.rest; holds = refl; spells = ap (λ x. 115 ∷ x) (f.spells ∙ ap (λ x. x ++ f.rest) f.holds); follows = f.follows }
+  letters_back E st b w r = record { front = letters_of E; rest = w; holds = refl; spells = refl; follows = r }
 
   word_back_on : (letters : Letters) (st : List Bracket) (b : ℕ) (w : List ℕ) → Moves st b w (word_move letters b) → WordRest letters st (b ∷ w)
   word_back_on letters st b w h = elim (chosen (first_letter letters == b) (word_on (letters_after letters)) Refuse (Moves st b w) h) [

@@ -80,7 +80,7 @@ module _ (limit : ℕ) where
   pieces_closed r st = let c = string_closed r st in (34 ∷ c.0, record { pieces = []; rest = c.0; good = tt; spells = refl; follows = c.1 })
 
   front_closed : {Q P : List ℕ → Type 0} → (front : List ℕ) → Q front → (w : List ℕ) × P w → (w : List ℕ) × Front Q P w
-  front_closed front is p = (front ++ p.0, record { front = front; rest = p.0; is = is; spells = refl; follows = p.1 })
+  front_closed front is p = (front ++ p.0, record { front = front; rest = p.0; holds = is; spells = refl; follows = p.1 })
 
   place_closed : (r : Role) (place : Place) (st : List Bracket) → (w : List ℕ) × InString place (AfterString limit [] r st) w
   place_closed r Plain st = pieces_closed r st

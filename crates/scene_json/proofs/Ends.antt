@@ -109,8 +109,8 @@ module _ (left : List ℕ) where
   over Colon st (here (rest, e, p)) = absurd (cc)
   over After st f = rest_over st f
   over (Quoted r place) st f = absurd (no_string place (AfterString 128 left r st) f)
-  over (Number part) st f = number_over part st f.front f.rest f.is f.spells f.follows.1
-  over (Word letters) st f = absurd (no_word letters f.rest (f.spells ∙ ap (λ x. x ++ f.rest) f.is))
+  over (Number part) st f = number_over part st f.front f.rest f.holds f.spells f.follows.1
+  over (Word letters) st f = absurd (no_word letters f.rest (f.spells ∙ ap (λ x. x ++ f.rest) f.holds))
 
 -- ---- the machine stands so behind the first n bytes
 module _ (bytes : List ℕ) (n : ℕ) (m : Mode) (st : List Bracket) (is : run 128 start (take n bytes) ≡ state m st) where

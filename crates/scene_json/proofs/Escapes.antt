@@ -154,7 +154,7 @@ record FirstUnit (ps : List Piece) (value : ℕ) : Type 0 where
   others : List Piece
   same : ps ≡ unit a b c d ∷ others
   good : AllByRecursion IsPiece others
-  is : piece_value (unit a b c d) ≡ value
+  valued : piece_value (unit a b c d) ≡ value
 
 first-unit : (ps : List Piece) (after : List ℕ) (value : ℕ) → AllByRecursion IsPiece ps → StartsWithUnit (flat_map piece_spelling ps ++ 34 ∷ after) value → FirstUnit ps value
 first-unit [] after value good s = absurd (heads-differ 34 92 _ _ refl s.parts)
@@ -169,7 +169,7 @@ first-unit (unit a b c d ∷ ps) after value good s = record {
   others = ps;
   same = refl;
   good = good.1;
-  is = value-places (flat_map piece_spelling (unit a b c d ∷ ps) ++ 34 ∷ after) s.a s.b s.c s.d s.tail s.parts ∙ s.spells;
+  valued = value-places (flat_map piece_spelling (unit a b c d ∷ ps) ++ 34 ∷ after) s.a s.b s.c s.d s.tail s.parts ∙ s.spells;
 }
 
 pub pair-takes : (xs : List ℕ) (first second : ℕ) (old new : List ℕ) → get_or xs 0 0 ≡ 92 → get_or xs 1 0 ≡ 117 →
@@ -182,7 +182,7 @@ pair-takes xs first second old new zeroth one is high low starts e text after u 
     let same : first ≡ piece_value (unit h.a h.b h.c h.d) = is ∙ value-places xs h.a h.b h.c h.d _ h.parts in
     let f : FirstUnit h.pieces second = first-unit h.pieces after second h.good (subst (λ s. StartsWithUnit s second) (ap (drop 6) h.parts) starts) in
     let values : map piece_value h.pieces ≡ second ∷ map piece_value f.others =
-    ap (map piece_value) f.same ∙ ap (λ v. v ∷ map piece_value f.others) f.is in
+    ap (map piece_value) f.same ∙ ap (λ v. v ∷ map piece_value f.others) f.valued in
     let pair : characters (first ∷ second ∷ map piece_value f.others) ≡ paired first second ∷ characters (map piece_value f.others) = rw (high, low) refl in
     let means : content (unit h.a h.b h.c h.d ∷ h.pieces) ≡ encode_utf8 (paired first second) ++ content f.others =
     ap₂ (λ v vs. encode_utf8_all (characters (v ∷ vs))) (sym same) values ∙ ap encode_utf8_all pair in (

@@ -81,9 +81,9 @@ module _ (bytes : List ℕ) where
       by b small got =
           let whole = begins_runs 129 (take n bytes ++ b ∷ []) (subst (Begins 129) (take_one bytes n b got) deep.deeper) in
           let front = runs_less 129 (take n bytes) (b ∷ []) whole in
-          let inside = unfinished_sequence 129 (take n bytes) k front.mode front.brackets broken.unfinished front.is in
+          let inside = unfinished_sequence 129 (take n bytes) k front.mode front.brackets broken.unfinished front.reached in
           let stuck : refused ≡ state whole.mode whole.brackets =
-          sym (run-append 129 start (take n bytes) (b ∷ []) ∙ ap (λ o. run 129 o (b ∷ [])) front.is ∙ sequence_refuses 129 b front.mode front.brackets small inside) ∙ whole.is in
+          sym (run-append 129 start (take n bytes) (b ∷ []) ∙ ap (λ o. run 129 o (b ∷ [])) front.reached ∙ sequence_refuses 129 b front.mode front.brackets small inside) ∙ whole.reached in
           cc
 
   deep_not_stray : (n : ℕ) → IsTooDeep bytes n → IsStray bytes n → ⊥
@@ -102,8 +102,8 @@ module _ (bytes : List ℕ) where
   broken_not_stray k n m broken stray =
       let here = subst (IsStray bytes) (longest_one bytes n m broken.longest stray.longest) stray in
       let r = begins_runs 128 (take n bytes) broken.longest.begins in
-      let inside = unfinished_sequence 128 (take n bytes) k r.mode r.brackets broken.unfinished r.is in
-      not_inside (take n bytes) r.mode r.brackets r.is (sequence_outside r.mode inside) here.inside
+      let inside = unfinished_sequence 128 (take n bytes) k r.mode r.brackets broken.unfinished r.reached in
+      not_inside (take n bytes) r.mode r.brackets r.reached (sequence_outside r.mode inside) here.inside
 
   utf8_one : (m k : ℕ) → IsBadUtf8 bytes m → IsBadUtf8 bytes k → m ≡ k
   utf8_one m k (inl (n, a)) (inl (i, b)) =

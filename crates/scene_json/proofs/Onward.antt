@@ -85,7 +85,7 @@ module _ (limit : ℕ) (left : List ℕ) where
       record {
         solid = number_solid b first;
         inside = number_inside b first;
-        goes = rw (number_value b first, p.1) (record { front = s; rest = rest; is = p.2; spells = e; follows = (quiet, follows) });
+        goes = rw (number_value b first, p.1) (record { front = s; rest = rest; holds = p.2; spells = e; follows = (quiet, follows) });
       }
 
   literal_begun : (st : List Bracket) (b : ℕ) (w literal rest : List ℕ) → b ∷ w ≡ literal ++ rest → IsRun part_begun literal → Quiet rest → Rest limit left st rest → Begun st b w
@@ -98,15 +98,15 @@ module _ (limit : ℕ) (left : List ℕ) where
   word_begun st b w literal rest e (inl is) follows =
       let all : b ∷ w ≡ 110 ∷ 117 ∷ 108 ∷ 108 ∷ rest = e ∙ ap (λ x. x ++ rest) is in
       let first : b ≡ 110 = cc in
-      subst (λ y. Begun st y w) (sym first) (record { solid = refl; inside = refl; goes = record { front = letters_of Ull; rest = rest; is = refl; spells = cc; follows = follows } })
+      subst (λ y. Begun st y w) (sym first) (record { solid = refl; inside = refl; goes = record { front = letters_of Ull; rest = rest; holds = refl; spells = cc; follows = follows } })
   word_begun st b w literal rest e (inr (inl is)) follows =
       let all : b ∷ w ≡ 116 ∷ 114 ∷ 117 ∷ 101 ∷ rest = e ∙ ap (λ x. x ++ rest) is in
       let first : b ≡ 116 = cc in
-      subst (λ y. Begun st y w) (sym first) (record { solid = refl; inside = refl; goes = record { front = letters_of Rue; rest = rest; is = refl; spells = cc; follows = follows } })
+      subst (λ y. Begun st y w) (sym first) (record { solid = refl; inside = refl; goes = record { front = letters_of Rue; rest = rest; holds = refl; spells = cc; follows = follows } })
   word_begun st b w literal rest e (inr (inr is)) follows =
       let all : b ∷ w ≡ 102 ∷ 97 ∷ 108 ∷ 115 ∷ 101 ∷ rest = e ∙ ap (λ x. x ++ rest) is in
       let first : b ≡ 102 = cc in
-      subst (λ y. Begun st y w) (sym first) (record { solid = refl; inside = refl; goes = record { front = letters_of Alse; rest = rest; is = refl; spells = cc; follows = follows } })
+      subst (λ y. Begun st y w) (sym first) (record { solid = refl; inside = refl; goes = record { front = letters_of Alse; rest = rest; holds = refl; spells = cc; follows = follows } })
 
   text_begun : (st : List Bracket) (b : ℕ) (w rest : List ℕ) (pieces : List Piece) → b ∷ w ≡ (34 ∷ (flat_map piece_spelling pieces ++ 34 ∷ [])) ++ rest
       → AllByRecursion IsPiece pieces → Rest limit left st rest → Begun st b w
@@ -221,7 +221,7 @@ module _ (limit : ℕ) (left : List ℕ) where
         (rw (lead_char r l.first l.tail l.led) (record {
           front = l.more;
           rest = flat_map piece_spelling pieces ++ 34 ∷ rest;
-          is = l.completes;
+          holds = l.completes;
           spells = behind ∙ append_assoc l.more (flat_map piece_spelling pieces) (34 ∷ rest);
           follows = record { pieces = pieces; rest = rest; good = goods; spells = refl; follows = follows };
         }))
@@ -235,7 +235,7 @@ module _ (limit : ℕ) (left : List ℕ) where
       (let f : Front IsEscape (Pieces (AfterString limit left r st)) w = record {
         front = front;
         rest = flat_map piece_spelling pieces ++ 34 ∷ rest;
-        is = is;
+        holds = is;
         spells = cc;
         follows = record { pieces = pieces; rest = rest; good = goods; spells = refl; follows = follows };
       } in f)
@@ -268,7 +268,7 @@ module _ (limit : ℕ) (left : List ℕ) where
   escape_onward r st b w front rest (inr (h, is, four, hex)) e follows =
       let all : b ∷ w ≡ 117 ∷ (h ++ rest) = e ∙ ap (λ y. y ++ rest) is in
       let first : b ≡ 117 = cc in
-      subst (λ y. Reaches limit left (step limit (Quoted r Escape) st y) w) (sym first) (record { front = h; rest = rest; is = (four, hex); spells = cc; follows = follows })
+      subst (λ y. Reaches limit left (step limit (Quoted r Escape) st y) w) (sym first) (record { front = h; rest = rest; holds = (four, hex); spells = cc; follows = follows })
 
   hex_more : (r : Role) (st : List Bracket) (more b : ℕ) (w h rest : List ℕ) → AreHex more h → w ≡ h ++ rest → Pieces (AfterString limit left r st) rest
       → Reaches limit left (applied limit st b (cond (more == 0) (To (Quoted r Plain)) (To (Quoted r (Hex (more - 1)))))) w
@@ -276,7 +276,7 @@ module _ (limit : ℕ) (left : List ℕ) where
   hex_more r st zero b w (x ∷ h) rest is e follows = absurd (omega (arith, is.0))
   hex_more r st (suc more) b w h rest is e follows =
       rw (ne_eqb (suc more) 0 (λ z. omega arith))
-      (record { front = h; rest = rest; is = (let n : length h ≡ suc (suc more - 1) = omega (arith, is.0) in n, is.1); spells = e; follows = follows })
+      (record { front = h; rest = rest; holds = (let n : length h ≡ suc (suc more - 1) = omega (arith, is.0) in n, is.1); spells = e; follows = follows })
 
   hex_onward : (r : Role) (st : List Bracket) (more b : ℕ) (w front rest : List ℕ) → AreHex (suc more) front → b ∷ w ≡ front ++ rest
       → Pieces (AfterString limit left r st) rest → Reaches limit left (step limit (Quoted r (Hex more)) st b) w
@@ -290,7 +290,7 @@ module _ (limit : ℕ) (left : List ℕ) where
   sequence_more : (r : Role) (st : List Bracket) (n b : ℕ) (w s rest : List ℕ) (after : Option Tail) → on_tail (Completes s) (s ≡ []) after → w ≡ s ++ rest
       → Pieces (AfterString limit left r st) rest → Reaches limit left (applied limit st b (sequence_on r n after)) w
   sequence_more r st n b w s rest None none e follows = let same : rest ≡ w = sym (e ∙ ap (λ x. x ++ rest) none) in subst (Pieces (AfterString limit left r st)) same follows
-  sequence_more r st n b w s rest (Some tail) is e follows = record { front = s; rest = rest; is = is; spells = e; follows = follows }
+  sequence_more r st n b w s rest (Some tail) is e follows = record { front = s; rest = rest; holds = is; spells = e; follows = follows }
 
   sequence_onward : (r : Role) (st : List Bracket) (n : ℕ) (tail : Tail) (b : ℕ) (w front rest : List ℕ) → Completes front tail → b ∷ w ≡ front ++ rest
       → Pieces (AfterString limit left r st) rest → Reaches limit left (step limit (Quoted r (Sequence n tail)) st b) w
@@ -302,9 +302,9 @@ module _ (limit : ℕ) (left : List ℕ) where
 
   string_onward : (r : Role) (place : Place) (st : List Bracket) (b : ℕ) (w : List ℕ) → InString place (AfterString limit left r st) (b ∷ w) → Reaches limit left (step limit (Quoted r place) st b) w
   string_onward r Plain st b w p = pieces_onward r st b w p.rest p.pieces p.good p.spells p.follows
-  string_onward r Escape st b w f = escape_onward r st b w f.front f.rest f.is f.spells f.follows
-  string_onward r (Hex more) st b w f = hex_onward r st more b w f.front f.rest f.is f.spells f.follows
-  string_onward r (Sequence n tail) st b w f = sequence_onward r st n tail b w f.front f.rest f.is f.spells f.follows
+  string_onward r Escape st b w f = escape_onward r st b w f.front f.rest f.holds f.spells f.follows
+  string_onward r (Hex more) st b w f = hex_onward r st more b w f.front f.rest f.holds f.spells f.follows
+  string_onward r (Sequence n tail) st b w f = sequence_onward r st n tail b w f.front f.rest f.holds f.spells f.follows
 
   -- ---- numbers and words
   number_onward : (part : Part) (st : List Bracket) (b : ℕ) (w front rest : List ℕ) → ends front part ≡ true → b ∷ w ≡ front ++ rest → Quiet rest → Rest limit left st rest
@@ -317,18 +317,18 @@ module _ (limit : ℕ) (left : List ℕ) where
       let first : b ≡ x = cc in
       let p = some_part s (part_after part x) is in
       subst (λ y. Reaches limit left (step limit (Number part) st y) w) (sym first)
-      (rw p.1 (record { front = s; rest = rest; is = p.2; spells = cc; follows = (quiet, follows) }))
+      (rw p.1 (record { front = s; rest = rest; holds = p.2; spells = cc; follows = (quiet, follows) }))
 
   word_onward : (letters : Letters) (st : List Bracket) (b : ℕ) (w rest : List ℕ) → b ∷ w ≡ letters_of letters ++ rest → Rest limit left st rest
       → Reaches limit left (step limit (Word letters) st b) w
-  word_onward Ull st b w rest e follows = let first : b ≡ 117 = cc in subst (λ y. Reaches limit left (step limit (Word Ull) st y) w) (sym first) (record { front = letters_of Ll; rest = rest; is = refl; spells = cc; follows = follows })
-  word_onward Ll st b w rest e follows = let first : b ≡ 108 = cc in subst (λ y. Reaches limit left (step limit (Word Ll) st y) w) (sym first) (record { front = letters_of L; rest = rest; is = refl; spells = cc; follows = follows })
+  word_onward Ull st b w rest e follows = let first : b ≡ 117 = cc in subst (λ y. Reaches limit left (step limit (Word Ull) st y) w) (sym first) (record { front = letters_of Ll; rest = rest; holds = refl; spells = cc; follows = follows })
+  word_onward Ll st b w rest e follows = let first : b ≡ 108 = cc in subst (λ y. Reaches limit left (step limit (Word Ll) st y) w) (sym first) (record { front = letters_of L; rest = rest; holds = refl; spells = cc; follows = follows })
   word_onward L st b w rest e follows = let first : b ≡ 108 = cc in let same : rest ≡ w = cc in subst (λ y. Reaches limit left (step limit (Word L) st y) w) (sym first) (subst (Rest limit left st) same follows)
-  word_onward Rue st b w rest e follows = let first : b ≡ 114 = cc in subst (λ y. Reaches limit left (step limit (Word Rue) st y) w) (sym first) (record { front = letters_of Ue; rest = rest; is = refl; spells = cc; follows = follows })
-  word_onward Ue st b w rest e follows = let first : b ≡ 117 = cc in subst (λ y. Reaches limit left (step limit (Word Ue) st y) w) (sym first) (record { front = letters_of E; rest = rest; is = refl; spells = cc; follows = follows })
-  word_onward Alse st b w rest e follows = let first : b ≡ 97 = cc in subst (λ y. Reaches limit left (step limit (Word Alse) st y) w) (sym first) (record { front = letters_of Lse; rest = rest; is = refl; spells = cc; follows = follows })
-  word_onward Lse st b w rest e follows = let first : b ≡ 108 = cc in subst (λ y. Reaches limit left (step limit (Word Lse) st y) w) (sym first) (record { front = letters_of Se; rest = rest; is = refl; spells = cc; follows = follows })
-  word_onward Se st b w rest e follows = let first : b ≡ 115 = cc in subst (λ y. Reaches limit left (step limit (Word Se) st y) w) (sym first) (record { front = letters_of E; rest = rest; is = refl; spells = cc; follows = follows })
+  word_onward Rue st b w rest e follows = let first : b ≡ 114 = cc in subst (λ y. Reaches limit left (step limit (Word Rue) st y) w) (sym first) (record { front = letters_of Ue; rest = rest; holds = refl; spells = cc; follows = follows })
+  word_onward Ue st b w rest e follows = let first : b ≡ 117 = cc in subst (λ y. Reaches limit left (step limit (Word Ue) st y) w) (sym first) (record { front = letters_of E; rest = rest; holds = refl; spells = cc; follows = follows })
+  word_onward Alse st b w rest e follows = let first : b ≡ 97 = cc in subst (λ y. Reaches limit left (step limit (Word Alse) st y) w) (sym first) (record { front = letters_of Lse; rest = rest; holds = refl; spells = cc; follows = follows })
+  word_onward Lse st b w rest e follows = let first : b ≡ 108 = cc in subst (λ y. Reaches limit left (step limit (Word Lse) st y) w) (sym first) (record { front = letters_of Se; rest = rest; holds = refl; spells = cc; follows = follows })
+  word_onward Se st b w rest e follows = let first : b ≡ 115 = cc in subst (λ y. Reaches limit left (step limit (Word Se) st y) w) (sym first) (record { front = letters_of E; rest = rest; holds = refl; spells = cc; follows = follows })
   word_onward E st b w rest e follows = let first : b ≡ 101 = cc in let same : rest ≡ w = cc in subst (λ y. Reaches limit left (step limit (Word E) st y) w) (sym first) (subst (Rest limit left st) same follows)
 
   pub onward : (m : Mode) (st : List Bracket) (b : ℕ) (w : List ℕ) → Finishes limit left m st (b ∷ w) → Reaches limit left (step limit m st b) w
@@ -338,5 +338,5 @@ module _ (limit : ℕ) (left : List ℕ) where
   onward Colon st b w f = colon_onward st b w f
   onward After st b w f = rest_onward st b w f
   onward (Quoted r place) st b w f = string_onward r place st b w f
-  onward (Number part) st b w f = number_onward part st b w f.front f.rest f.is f.spells f.follows.0 f.follows.1
-  onward (Word letters) st b w f = word_onward letters st b w f.rest (f.spells ∙ ap (λ x. x ++ f.rest) f.is) f.follows
+  onward (Number part) st b w f = number_onward part st b w f.front f.rest f.holds f.spells f.follows.0 f.follows.1
+  onward (Word letters) st b w f = word_onward letters st b w f.rest (f.spells ∙ ap (λ x. x ++ f.rest) f.holds) f.follows

@@ -120,7 +120,7 @@ pub not_inside : (bytes : List ℕ) (m : Mode) (st : List Bracket) → run 128 s
 not_inside bytes m st is outside (zeros, begins) =
     let r = begins_runs 128 (bytes ++ (replicate zeros 48 ++ 92 ∷ [])) begins in
     let e : run 128 (state m st) (replicate zeros 48 ++ 92 ∷ []) ≡ state r.mode r.brackets =
-    ap (λ o. run 128 o (replicate zeros 48 ++ 92 ∷ [])) (sym is) ∙ sym (run-append 128 start bytes (replicate zeros 48 ++ 92 ∷ [])) ∙ r.is in
+    ap (λ o. run 128 o (replicate zeros 48 ++ 92 ∷ [])) (sym is) ∙ sym (run-append 128 start bytes (replicate zeros 48 ++ 92 ∷ [])) ∙ r.reached in
     subst (OnState (λ x. ⊥)) e (no_escape 128 (state m st) zeros outside)
 
 -- ---- the fault behind the first n bytes
@@ -136,11 +136,11 @@ module _ (bytes : List ℕ) (n : ℕ) (within : n ≤ length bytes) where
     longest : IsLongest bytes n
     longest = record {
       within = within;
-      begins = runs_begins 128 (take n bytes) (record { mode = m; brackets = st; is = is });
+      begins = runs_begins 128 (take n bytes) (record { mode = m; brackets = st; reached = is });
       stops = λ less begins.
           let g : slice_get bytes n ≡ Some (get_or bytes n 0) = slice_get-get_or bytes n 0 less in
           let r = begins_runs 128 (take (suc n) bytes) begins in
-          let e : refused ≡ state r.mode r.brackets = sym (run_one 128 (get_or bytes n 0) is g ∙ stops (get_or bytes n 0) g) ∙ r.is in
+          let e : refused ≡ state r.mode r.brackets = sym (run_one 128 (get_or bytes n 0) is g ∙ stops (get_or bytes n 0) g) ∙ r.reached in
           cc;
     }
 
@@ -154,7 +154,7 @@ module _ (bytes : List ℕ) (n : ℕ) (within : n ≤ length bytes) where
               b,
               g,
               deep_opens 128 st b (moved m (top st) b) r.mode r.brackets (stops b g)
-                  (sym (run_one 129 b (run_more 128 start (take n bytes) m st is) g) ∙ r.is),
+                  (sym (run_one 129 b (run_more 128 start (take n bytes) m st is) g) ∙ r.reached),
             )
 
     bracket_is : (b : ℕ) → opens (moved m (top st) b) ≡ true → Keeps (take n bytes) m → (b ≡ 91) ⊎ (b ≡ 123)
@@ -176,7 +176,7 @@ module _ (bytes : List ℕ) (n : ℕ) (within : n ≤ length bytes) where
         record {
           longest = longest;
           bracket = elim (bracket_is b o keeps) [ inl e ↦ inl (g ∙ ap Some e) | inr e ↦ inr (g ∙ ap Some e) ];
-          deeper = runs_begins 129 (take (suc n) bytes) (record { mode = d.0; brackets = d.1; is = run_one 129 b more g ∙ d.2 });
+          deeper = runs_begins 129 (take (suc n) bytes) (record { mode = d.0; brackets = d.1; reached = run_one 129 b more g ∙ d.2 });
         }
 
     -- no sequence is cut off here
@@ -268,7 +268,7 @@ module _ (every : List ℕ) (at n : ℕ) (within : n ≤ length (drop at every))
         runs_begins 128 (take n (drop at every) ++ (replicate e.0 48 ++ 92 ∷ [])) (record {
           mode = e.1.0;
           brackets = e.1.1;
-          is = run-append 128 start (take n (drop at every)) (replicate e.0 48 ++ 92 ∷ []) ∙ ap (λ o. run 128 o (replicate e.0 48 ++ 92 ∷ [])) is ∙ e.1.2;
+          reached = run-append 128 start (take n (drop at every)) (replicate e.0 48 ++ 92 ∷ []) ∙ ap (λ o. run 128 o (replicate e.0 48 ++ 92 ∷ [])) is ∙ e.1.2;
         }),
       )
 

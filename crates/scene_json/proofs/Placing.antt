@@ -55,10 +55,10 @@ insert-place n (m ∷ ms) name value q i some = elim (cases_Bool (bytes_eq name 
 
 -- which is at that place, and takes the new value
 pub record IsSet (n : ℕ) (ms : List Member) (name value : List ℕ) (i : ℕ) : Type 0 where
-  pub at : ℕ
-  pub is : i ≡ n + at
-  pub within : at < length ms
-  pub sets : (d : Member) → insert_entry ms name value ≡ set ms at ((get_or ms at d).0, value)
+  pub index : ℕ
+  pub counted : i ≡ n + index
+  pub within : index < length ms
+  pub sets : (d : Member) → insert_entry ms name value ≡ set ms index ((get_or ms index d).0, value)
 
 pub insert-set : (n : ℕ) (ms : List Member) (name value : List ℕ) (i : ℕ) → place_from n name ms ≡ Some i → IsSet n ms name value i
 insert-set n [] name value i some = cc
@@ -66,11 +66,11 @@ insert-set n (m ∷ ms) name value i some = elim (cases_Bool (bytes_eq name m.0)
   | inl e ↦
       let same : Some n ≡ Some i = rw e at some in
       let here : n ≡ i = cc in
-      record { at = 0; is = omega arith; within = omega arith; sets = λ d. rw e refl }
+      record { index = 0; counted = omega arith; within = omega arith; sets = λ d. rw e refl }
   | inr e ↦
       let rest : place_from (suc n) name ms ≡ Some i = rw e at some in
       let s = insert-set (suc n) ms name value i rest in
-      record { at = suc s.at; is = omega (arith, s.is); within = omega (arith, s.within); sets = λ d. rw e (ap (λ x. m ∷ x) (s.sets d)) }
+      record { index = suc s.index; counted = omega (arith, s.counted); within = omega (arith, s.within); sets = λ d. rw e (ap (λ x. m ∷ x) (s.sets d)) }
 ]
 
 -- ---- members that stand in a text
@@ -104,14 +104,14 @@ entries-more bytes places i here =
 pub within-kept : (bytes : List ℕ) (kept : List Place) (name : List ℕ) (first : ℕ) → place_from 0 name (entries bytes kept) ≡ Some first → first < length kept
 within-kept bytes kept name first some =
     let s = insert-set 0 (entries bytes kept) name [] first some in
-    omega (arith, s.is, s.within, length-map kept (entry bytes))
+    omega (arith, s.counted, s.within, length-map kept (entry bytes))
 
 pub keeps-last : (bytes : List ℕ) (kept : List Place) (name : List ℕ) (first : ℕ) (value : Span) (d : Place) → place_from 0 name (entries bytes kept) ≡ Some first →
     entries bytes (set kept first (record { name = (get_or kept first d).name; value = value })) ≡ insert_entry (entries bytes kept) name (cut bytes value)
 keeps-last bytes kept name first value d some =
     let s = insert-set 0 (entries bytes kept) name (cut bytes value) first some in
     let new : Place = record { name = (get_or kept first d).name; value = value } in
-    let at : s.at ≡ first = omega (arith, s.is) in
+    let at : s.index ≡ first = omega (arith, s.counted) in
     let inside : first < length kept = within-kept bytes kept name first some in
     let old : get_or (entries bytes kept) first (entry bytes d) ≡ entry bytes (get_or kept first d) = get_or-map (entry bytes) kept first d (entry bytes d) inside in
     map-set (entry bytes) kept first new

@@ -7,7 +7,7 @@ use Rattle.scene_json.proofs.CompactLaws.{quote-compact}
 
 -- the item is the quote of this text and of no other
 pub record IsQuote (item text : List ℕ) : Type 0 where
-  pub is : item ≡ quote text
+  pub quoted : item ≡ quote text
   pub utf8 : IsUtf8 text
   pub only : (other : List ℕ) → IsUtf8 other → item ≡ quote other → text ≡ other
 
@@ -32,7 +32,7 @@ quotes-texts [] (t ∷ ts) are = absurd are
 quotes-texts (x ∷ xs) [] are = absurd are
 quotes-texts (x ∷ xs) (t ∷ ts) are =
     let others = quotes-texts xs ts are.1 in
-    ((are.0.utf8, others.0), λ i. are.0.is i ∷ others.1 i)
+    ((are.0.utf8, others.0), λ i. are.0.quoted i ∷ others.1 i)
 
 first-same : {X : Type 0} (x y : X) (xs ys : List X) → (x ∷ xs) ≡ (y ∷ ys) → x ≡ y
 first-same x y xs ys e = ap (λ zs. get_or zs 0 x) e

@@ -215,7 +215,7 @@ opening-same object object e = refl
 pub record Front (Q P : List ℕ → Type 0) (w : List ℕ) : Type 0 where
   pub front : List ℕ
   pub rest : List ℕ
-  pub is : Q front
+  pub holds : Q front
   pub spells : w ≡ front ++ rest
   pub follows : P rest
 
@@ -225,13 +225,13 @@ Blank P w = Front (λ s. is_blank s ≡ true) P w
 -- the values of a container begin with white space and then with the first byte of a value
 label-Front : (c : Container) (l : Label) (v : Tree) (r : List ℕ) → IsLabel c l → IsGood v → Blank (Head begins_value) (label_spelling l ++ (spelling v ++ r))
 label-Front array (unnamed before) v r h good =
-    record { front = before; rest = spelling v ++ r; is = h; spells = refl; follows = more-Head begins_value (spelling v) r (tree-Head v good) }
+    record { front = before; rest = spelling v ++ r; holds = h; spells = refl; follows = more-Head begins_value (spelling v) r (tree-Head v good) }
 label-Front array (named _ _ _ _) v r h good = absurd h
 label-Front object (unnamed _) v r h good = absurd h
 label-Front object (named before name between after) v r h good = record {
   front = before;
   rest = 34 ∷ (flat_map piece_spelling name ++ 34 ∷ (between ++ 58 ∷ (after ++ (spelling v ++ r))));
-  is = h.0;
+  holds = h.0;
   spells = spread before name between after (spelling v ++ r);
   follows = record { first = 34; more = _; parts = refl; begins = refl };
 }
@@ -246,7 +246,7 @@ blank-no-values c blank vs r s space good e =
     let f = values-Front c vs good in
     let start = f.follows in
     let stop : Stops is_space (f.rest ++ s) = subst (Stops is_space) (sym (ap (λ x. x ++ s) start.parts)) (begins-no-space start.first start.begins) in
-    let run = run-once is_space blank f.front (closing c ∷ r) (f.rest ++ s) space f.is (closing-no-space c) stop
+    let run = run-once is_space blank f.front (closing c ∷ r) (f.rest ++ s) space f.holds (closing-no-space c) stop
     (e ∙ ap (λ x. x ++ s) f.spells ∙ append_assoc f.front f.rest s) in
     head-apart begins_value f.rest s r (closing c) start (closing-no-value c) (sym run.1)
 

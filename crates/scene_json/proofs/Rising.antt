@@ -58,32 +58,32 @@ put-at name m (n ∷ ns) =
 record Table (names : List (List ℕ)) (find : List ℕ → Option (List ℕ)) : Type 0 where
   members : List Pair
   rise : HaveRisingNames members
-  at : (name : List ℕ) → value_at name members ≡ (if list_any (bytes_eq name) names then find name else None)
+  each : (name : List ℕ) → value_at name members ≡ (if list_any (bytes_eq name) names then find name else None)
 
 none-found : (b : Bool) (found : Option (List ℕ)) → found ≡ None → (if b then found else None) ≡ None
 none-found true found e = e
 none-found false found e = refl
 
 table : (names : List (List ℕ)) (find : List ℕ → Option (List ℕ)) → Table names find
-table [] find = record { members = []; rise = rising_none; at = λ name. refl }
+table [] find = record { members = []; rise = rising_none; each = λ name. refl }
 table (n ∷ names) find =
     let t = table names find in
     elim (find n) as (λ o. find n ≡ o → Table (n ∷ names) find) [
       | None ↦ λ e. record {
         members = t.members;
         rise = t.rise;
-        at = λ name. elim (cases_Bool (bytes_eq name n)) [
+        each = λ name. elim (cases_Bool (bytes_eq name n)) [
           | inl own ↦ let missing : find name ≡ None = ap find (bytes_eq-true name n own) ∙ e in
-              t.at name ∙ none-found (list_any (bytes_eq name) names) (find name) missing ∙ sym (none-found (bytes_eq name n || list_any (bytes_eq name) names) (find name) missing)
-          | inr other ↦ rw other (t.at name)
+              t.each name ∙ none-found (list_any (bytes_eq name) names) (find name) missing ∙ sym (none-found (bytes_eq name n || list_any (bytes_eq name) names) (find name) missing)
+          | inr other ↦ rw other (t.each name)
         ];
       }
       | Some value ↦ λ e. record {
         members = put (n, value) t.members;
         rise = put-rising (n, value) t.members t.rise;
-        at = λ name. put-at name (n, value) t.members ∙ elim (cases_Bool (bytes_eq name n)) [
+        each = λ name. put-at name (n, value) t.members ∙ elim (cases_Bool (bytes_eq name n)) [
           | inl own ↦ rw own (sym (ap find (bytes_eq-true name n own) ∙ e))
-          | inr other ↦ rw other (t.at name)
+          | inr other ↦ rw other (t.each name)
         ];
       }
     ] refl
@@ -95,7 +95,7 @@ tabled names find others =
     let t = table names find in (
       t.members,
       t.rise,
-      λ name. t.at name ∙ elim (cases_Bool (list_any (bytes_eq name) names)) [
+      λ name. t.each name ∙ elim (cases_Bool (list_any (bytes_eq name) names)) [
         | inl there ↦ rw there refl
         | inr missing ↦ rw missing (sym (others name missing))
       ],

@@ -133,9 +133,9 @@ values-line c vs spaces bs good =
     let h = f.follows in
     let e : values_spelling vs ++ bs ≡ f.front ++ (h.first ∷ (h.more ++ bs)) =
     ap (λ x. x ++ bs) (f.spells ∙ ap (λ x. f.front ++ x) h.parts) ∙ append_assoc f.front (h.first ∷ h.more) bs in
-    rw e (blank-steps f.front true spaces (h.first ∷ (h.more ++ bs)) f.is
+    rw e (blank-steps f.front true spaces (h.first ∷ (h.more ++ bs)) f.holds
     ∙ first-step spaces h.first (h.more ++ bs) (begins-no-space h.first h.begins) (no-closing h.first h.begins)
-    ∙ ap (λ x. line (spaces + 2) ++ x) (sym (blank-steps f.front false (spaces + 2) (h.first ∷ (h.more ++ bs)) f.is)))
+    ∙ ap (λ x. line (spaces + 2) ++ x) (sym (blank-steps f.front false (spaces + 2) (h.first ∷ (h.more ++ bs)) f.holds)))
 
 -- the pass lays out a value, and what follows as if it stood alone
 mutual

@@ -186,12 +186,12 @@ pub record Field (xs : List ℕ) (left : Values) (rest : List ℕ) : Type 0 wher
   pub name : List Piece
   pub between : List ℕ
   pub after : List ℕ
-  pub is : turn.label ≡ named before name between after
+  pub label_is : turn.label ≡ named before name between after
   pub labelled : IsLabel object (named before name between after)
 
 field-of : {xs rest : List ℕ} {left : Values} (l : Label) → IsLabel object l → (t : Turn object xs left rest) → t.label ≡ l → Field xs left rest
 field-of (unnamed before) h t e = absurd h
-field-of (named before name between after) h t e = record { turn = t; before = before; name = name; between = between; after = after; is = e; labelled = h }
+field-of (named before name between after) h t e = record { turn = t; before = before; name = name; between = between; after = after; label_is = e; labelled = h }
 
 pub field : {xs rest : List ℕ} {left : Values} → Filled object xs left rest → Field xs left rest
 field {xs} {rest} {left} f = let t = turn object xs left rest f in field-of t.label t.labelled t refl
@@ -210,7 +210,7 @@ field-quoted bytes place start f is = record {
   pieces = f.name;
   good = f.labelled.1;
   parts = skip-to bytes place start f.before (string_spelling f.name ++ (f.between ++ 58 ∷ value_part f)) f.labelled.0 refl
-      (f.turn.parts ∙ ap (λ l. label_spelling l ++ (spelling f.turn.value ++ (f.turn.blank ++ f.turn.mark ∷ f.turn.tail))) f.is
+      (f.turn.parts ∙ ap (λ l. label_spelling l ++ (spelling f.turn.value ++ (f.turn.blank ++ f.turn.mark ∷ f.turn.tail))) f.label_is
       ∙ regroup-next f.before (string_spelling f.name) f.between 58 f.after (spelling f.turn.value ++ (f.turn.blank ++ f.turn.mark ∷ f.turn.tail))) is;
   means = refl;
 }

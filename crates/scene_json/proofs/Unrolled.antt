@@ -17,10 +17,10 @@ spaced_from [] w is p = here p
 spaced_from (b ∷ blank) w is p = let parts = and_parts (is_space b) (is_blank blank) is in space parts.0 (spaced_from blank w parts.1 p)
 
 pub spaced_to : {P : List ℕ → Type 0} {w : List ℕ} → Spaced P w → Blank P w
-spaced_to {w} (here p) = record { front = []; rest = w; is = refl; spells = refl; follows = p }
+spaced_to {w} (here p) = record { front = []; rest = w; holds = refl; spells = refl; follows = p }
 spaced_to (space {b} s r) =
     let more = spaced_to r in
-    record { front = b ∷ more.front; rest = more.rest; is = and_from (is_space b) (is_blank more.front) s more.is; spells = ap (λ x. b ∷ x) more.spells; follows = more.follows }
+    record { front = b ∷ more.front; rest = more.rest; holds = and_from (is_space b) (is_blank more.front) s more.holds; spells = ap (λ x. b ∷ x) more.spells; follows = more.follows }
 
 pub spaced_map : {P Q : List ℕ → Type 0} {w : List ℕ} → ((x : List ℕ) → P x → Q x) → Spaced P w → Spaced Q w
 spaced_map {w} f (here p) = here (f w p)
@@ -66,7 +66,7 @@ module _ (limit : ℕ) (left : List ℕ) (st : List Bracket) where
   pub first_label : (bracket : Bracket) (w : List ℕ) → Spaced (First limit left bracket (bracket ∷ st)) w → Labelled limit left bracket st w
   first_label Square w s =
       let b = spaced_to s in
-      record { label = unnamed b.front; rest = b.rest; good = b.is; spells = b.spells; follows = b.follows }
+      record { label = unnamed b.front; rest = b.rest; good = b.holds; spells = b.spells; follows = b.follows }
   first_label Curly w s =
       let before = spaced_to s in
       let quoted = before.follows.2 in
@@ -75,7 +75,7 @@ module _ (limit : ℕ) (left : List ℕ) (st : List Bracket) where
       record {
         label = named before.front quoted.pieces between.front after.front;
         rest = after.rest;
-        good = (before.is, quoted.good, between.is, after.is);
+        good = (before.holds, quoted.good, between.holds, after.holds);
         spells = before.spells ∙ ap (λ x. before.front ++ x) (before.follows.1 ∙ ap (λ x. 34 ∷ x) (quoted.spells
             ∙ ap (λ x. flat_map piece_spelling quoted.pieces ++ 34 ∷ x) (between.spells ∙ ap (λ x. between.front ++ x) (between.follows.1 ∙ ap (λ x. 58 ∷ x) after.spells))))
             ∙ sym (spread before.front quoted.pieces between.front after.front after.rest);
@@ -154,7 +154,7 @@ module _ (limit : ℕ) (left : List ℕ) (st : List Bracket) where
         | inl end ↦ record {
           values = last l.label value.tree b.front;
           rest = end.0;
-          good = (l.good, value.good, b.is);
+          good = (l.good, value.good, b.holds);
           shallow = value.shallow;
           spells = l.spells ∙ ap (λ x. label_spelling l.label ++ x) (value.spells ∙ ap (λ x. spelling value.tree ++ x) (b.spells ∙ ap (λ x. b.front ++ x) end.1))
               ∙ sym (regroup-last (label_spelling l.label) (spelling value.tree) b.front (closing (container_of bracket) ∷ end.0));
@@ -163,7 +163,7 @@ module _ (limit : ℕ) (left : List ℕ) (st : List Bracket) where
         | inr more ↦ let listed = more.2 in record {
           values = next l.label value.tree b.front listed.values;
           rest = listed.rest;
-          good = (l.good, value.good, b.is, listed.good);
+          good = (l.good, value.good, b.holds, listed.good);
           shallow = omega (arith, value.shallow, listed.shallow);
           spells = l.spells ∙ ap (λ x. label_spelling l.label ++ x) (value.spells ∙ ap (λ x. spelling value.tree ++ x) (b.spells ∙ ap (λ x. b.front ++ x) (more.1 ∙ ap (λ x. 44 ∷ x) listed.spells)))
               ∙ sym (regroup-next (label_spelling l.label) (spelling value.tree) b.front 44 (values_spelling listed.values) (closing (container_of bracket) ∷ listed.rest));

@@ -18,7 +18,7 @@ use Rattle.scene_json.proofs.Closers.{closed}
 pub record Runs (limit : ℕ) (from : Outcome) (bytes : List ℕ) : Type 0 where
   pub mode : Mode
   pub brackets : List Bracket
-  pub is : run limit from bytes ≡ state mode brackets
+  pub reached : run limit from bytes ≡ state mode brackets
 
 module _ (limit : ℕ) where
   pub refused_stays : (xs : List ℕ) (m : Mode) (st : List Bracket) → run limit refused xs ≡ state m st → ⊥
@@ -45,10 +45,10 @@ module _ (limit : ℕ) where
   runs_through : (xs w : List ℕ) (o : Outcome) → Reaches limit [] o (xs ++ w) → Runs limit o xs
   runs_through xs w refused f = absurd f
   runs_through xs w (ended b) f = absurd (cc)
-  runs_through [] w (state m st) f = record { mode = m; brackets = st; is = refl }
+  runs_through [] w (state m st) f = record { mode = m; brackets = st; reached = refl }
   runs_through (x ∷ xs) w (state m st) f =
       let r = runs_through xs w (step limit m st x) (onward limit [] m st x (xs ++ w) f) in
-      record { mode = r.mode; brackets = r.brackets; is = r.is }
+      record { mode = r.mode; brackets = r.brackets; reached = r.reached }
 
   -- ---- what begins a value is run over, and no other text
   value_start : (blank value text rest : List ℕ) → is_blank blank ≡ true → Value limit value text → Follows value rest → Reaches limit rest start (blank ++ (value ++ rest))
@@ -69,7 +69,7 @@ module _ (limit : ℕ) where
   pub runs_begins : (bytes : List ℕ) → Runs limit start bytes → Begins limit bytes
   runs_begins bytes r =
       let c = closed limit r.mode r.brackets in
-      let b = spaced_to (runs_backward [] bytes c.0 start r.mode r.brackets c.1 r.is) in
+      let b = spaced_to (runs_backward [] bytes c.0 start r.mode r.brackets c.1 r.reached) in
       let s = b.follows in
       record {
         more = c.0;
@@ -77,7 +77,7 @@ module _ (limit : ℕ) where
         value = spelling s.tree;
         text = compact s.tree;
         parts = b.spells ∙ ap (λ x. b.front ++ x) (s.spells ∙ ap (λ x. spelling s.tree ++ x) s.follows ∙ append-nil (spelling s.tree));
-        space = b.is;
+        space = b.holds;
         reads = record { tree = s.tree; good = s.good; shallow = omega (arith, s.shallow); spells = refl; means = refl };
       }
 
@@ -101,7 +101,7 @@ start_stands bytes rest r =
         blank = b.front;
         value = spelling s.tree;
         parts = b.spells ∙ ap (λ x. b.front ++ x) (s.spells ∙ ap (λ x. spelling s.tree ++ x) s.follows);
-        space = b.is;
+        space = b.holds;
         reads = record { tree = s.tree; good = s.good; shallow = omega (arith, s.shallow); spells = refl; means = refl };
         ends = subst (Follows (spelling s.tree)) s.follows s.ends;
       },

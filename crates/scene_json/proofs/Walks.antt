@@ -131,7 +131,7 @@ first-filled c bytes at first {text} {rest} h is =
     let f = values-Front c h.values h.filled.good in
     let start = f.follows in
     let tail : f.rest ++ closing c ∷ rest ≡ start.first ∷ (start.more ++ closing c ∷ rest) = ap (λ s. s ++ closing c ∷ rest) start.parts in
-    let place = skip-to bytes (at + 1) first f.front (f.rest ++ closing c ∷ rest) f.is
+    let place = skip-to bytes (at + 1) first f.front (f.rest ++ closing c ∷ rest) f.holds
     (subst (Stops is_space) (sym tail) (begins-no-space start.first start.begins))
     (sym (drop-drop 1 at bytes) ∙ h.filled.parts ∙ ap (λ s. s ++ closing c ∷ rest) f.spells ∙ append_assoc f.front f.rest (closing c ∷ rest)) is in
     (start.first, start.more ++ closing c ∷ rest, place ∙ tail, start.begins)

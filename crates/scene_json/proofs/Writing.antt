@@ -123,7 +123,7 @@ step bytes place mark start colon sign end closed out behind named signed done p
     let P : Place → Type 0 = λ p. IsWithin (length done) p.name × IsWithin (length done) p.value in
     let fits : AreWithin (length done) (places ++ new ∷ []) =
     All-push P places new (AreWithin-more (length out) (length done) places more within) ((grows.1, omega (arith, grows)), (grows.3, omega arith)) in
-    let label : quote (label_name t.label) ≡ N = ap (λ l. quote (label_name l)) g.is in
+    let label : quote (label_name t.label) ≡ N = ap (λ l. quote (label_name l)) g.label_is in
     ⊎_elim
     (λ h.
     let mine : map quoted (members left) ≡ pair ∷ [] = ap (map quoted) h.2 ∙ ap (λ (x : List ℕ). let q : Member = (x, V) in q ∷ []) label in

@@ -123,7 +123,7 @@ HasCarried-led before old new held e after part put kind found is kept stands ap
       changed = λ stored x same kinds some. (
         e,
         record {
-          is = is;
+          is_element = is;
           applied = (
             part,
             subst (λ o. StandsFor part o new) (same_Some old stored same) stands,

@@ -11,7 +11,7 @@ use Rattle.delta.specs.Parts.{StandsFor}
 
 -- the element after the difference of two others was applied to it
 pub record IsLed (old new held result : Drawn) : Type 0 where
-  pub is : IsElement result
+  pub is_element : IsElement result
   pub applied : (part : Delta) × StandsFor part old new × IsApplied part held result
 
 -- What a stored change makes of the element that the snapshot holds of its id, if it holds one. The new element comes where

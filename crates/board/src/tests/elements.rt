@@ -342,5 +342,8 @@ fn elements_nest_at_most_120(rt: HostRuntime) -> Result<(), Fail> {
         let value = format!(in alloc; "{{\"x\":{inner},\"type\":\"selection\"}}")?;
         is_read(&rt, alloc, value.as_str(), "dropped")?;
     }
-    Ok(())
+    // What is hidden by a later value of its name doesn't count.
+    let inner = nested(alloc, 124)?;
+    let value = format!(in alloc; "{{\"x\":{inner},\"x\":0,\"type\":\"line\",\"id\":\"l1\"}}")?;
+    is_read_as(&rt, alloc, value.as_str(), "line", "l1", &[])
 }

@@ -20,7 +20,7 @@ returns-in-Err-Fault-clause-fault c why is =
     let same : found ≡ why = cc in
     subst (IsRefusal c.args.bytes.now) same (record {
       scenes = c.loop-found.scenes.items;
-      at = c.loop-found.at;
+      start = c.loop-found.at;
       within = c.loop-found.invariant.within;
       lead = c.loop-found.invariant.lead;
       counted = omega (arith, c.len.ensures);

@@ -11,7 +11,7 @@ use Rattle.delta.proofs.binding.binding_of.Goals.{In_ok-rest}
 
 found : (c : In_ok-rest) → IsFound c.args.value.now c.in_ok-rest.rest.items
 found c =
-    binding-found c.args.value.now c.requires.0 c.requires.1 c.requires.2 (λ e. false≢true (sym c.if-is_null.false ∙ c.is_null.ensures.1 e)) c.in_ok-rest.rest.items c.in_ok-rest.ensures.spelled c.in_ok-rest.ensures.are.valued
+    binding-found c.args.value.now c.requires.0 c.requires.1 c.requires.2 (λ e. false≢true (sym c.if-is_null.false ∙ c.is_null.ensures.1 e)) c.in_ok-rest.rest.items c.in_ok-rest.ensures.spelled c.in_ok-rest.ensures.are_members.valued
 
 pub target_in-requires-clause-rise : goal.target_in-requires-clause-rise
 target_in-requires-clause-rise c = binding-rise (found (goal.at.target_in-requires-clause-rise c).In_ok-rest)
@@ -35,7 +35,7 @@ returns-clause-text c =
     let f = found (goal.at.returns-clause-text c).In_ok-rest in
     sym (f.text ∙ ap (λ b. binding_text (Some b)) (made c f))
 
-pub returns-clause-is : goal.returns-clause-is
-returns-clause-is c =
-    let f = found (goal.at.returns-clause-is c).In_ok-rest in
-    subst IsBinding (made c f) f.is
+pub returns-clause-is_binding : goal.returns-clause-is_binding
+returns-clause-is_binding c =
+    let f = found (goal.at.returns-clause-is_binding c).In_ok-rest in
+    subst IsBinding (made c f) f.is_binding

@@ -23,13 +23,13 @@ ids-none None e = refl
 ids-none (Some ids) e = cc
 
 record AreIds (listing : List ℕ) (ids : Option (List (List ℕ))) : Type 0 where
-  of : List (List ℕ)
-  is : ids ≡ Some of
-  text : listing ≡ listing_text of
+  listed : List (List ℕ)
+  ids_are : ids ≡ Some listed
+  text : listing ≡ listing_text listed
 
 ids-some : (listing : List ℕ) (ids : Option (List (List ℕ))) → Some listing ≡ option_map listing_text ids → AreIds listing ids
 ids-some listing None e = cc
-ids-some listing (Some ids) e = record { of = ids; is = refl; text = cc }
+ids-some listing (Some ids) e = record { listed = ids; ids_are = refl; text = cc }
 
 distinct : (c : After-without-others) → IsDistinct bytes_eq (names_of (pairs c.args.members))
 distinct c = subst (IsDistinct bytes_eq) (sym (names-pairs c.args.members)) c.requires
@@ -63,8 +63,8 @@ returns-in-Some-listing-clause-updated c =
     let ids = ids-some c.in-Some-listing.listing found.0 (sym c.in-Some-listing.is ∙ found.2) in
     let Q : Vec Member Global → Type 0 = λ all. AreUpdated (pairs c.args.members) (pairs all.items) in
     IfOk-weaker _ _ Q (λ (all : Vec Member Global) made.
-    updated-listing (pairs c.args.members) (pairs all.items) c.in-Some.old.now ids.of (distinct done) (sym c.in-Some.ensures)
-    (subst (IsTheOne (AreOldIds c.in-Some.old.now)) ids.is found.1)
+    updated-listing (pairs c.args.members) (pairs all.items) c.in-Some.old.now ids.listed (distinct done) (sym c.in-Some.ensures)
+    (subst (IsTheOne (AreOldIds c.in-Some.old.now)) ids.ids_are found.1)
     (made ∙ (λ i. filter (is_other listing_name) (others done i) ++ (listing_name, ids.text i) ∷ [])))
     c.with_listing.ensures
 

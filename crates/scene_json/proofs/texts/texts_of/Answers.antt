@@ -15,7 +15,7 @@ pub loop-item-preserved : goal.loop-item-preserved
 loop-item-preserved c =
     let found = c.in_ok-text.ensures.found c.in-Some-2.text (ap Ok c.in-Some-2.is) in
     let one : IsQuote c.item-item.result c.in-Some-2.text = record {
-      is = rw found at c.text_of.ensures.spelled;
+      quoted = rw found at c.text_of.ensures.spelled;
       utf8 = search rules;
       only = rw found at c.text_of.ensures.only;
     } in
