@@ -23,8 +23,8 @@ pub(crate) struct Place {
     pub value: Span,
 }
 
-/// How many names are compared one by one at most.
-const FEW: usize = 40;
+/// How many members are few, as an element's are: room is made for so many at once, and their names are compared one by one.
+pub(crate) const FEW: usize = 40;
 
 /// Where a name comes again in the object that stands from an offset on, writes the object anew: the last value stands at
 /// the first one's place. Names are equal where their quotes are. Among many an ordered map finds them, so that no choice

@@ -11,7 +11,7 @@ ghost use Rattle.scene_json.specs.Value.{Stands};
 ghost use Rattle.scene_json.specs.Walk.{Quoted, Literal, Filled, AppendsValue, items_text};
 
 use crate::build::push_quote;
-use crate::collapsing::{Place, Span, collapse};
+use crate::collapsing::{FEW, Place, Span, collapse};
 use crate::content::{content_of, plain_end};
 use crate::end::skip_space;
 use crate::number::extends_number;
@@ -181,7 +181,7 @@ fn push_members(
     ensures placed { IfOk result (λ found. AreWithin (length out.new.items) found.0.items) }
     ensures within { IfOk result (λ found. (at < found.1) × (found.1 ≤ length bytes.now)) }
 {
-    let mut places = Vec::new(alloc);
+    let mut places = Vec::with_capacity(alloc, FEW)?;
     let mut mark = b'{';
     let mut next = at;
     loop {

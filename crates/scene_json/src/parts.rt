@@ -11,6 +11,7 @@ ghost use Rattle.scene_json.specs.Passes.{ends_value};
 ghost use Rattle.scene_json.specs.Value.{IsCompact};
 ghost use Rattle.scene_json.specs.Walk.{Compacted};
 
+use crate::collapsing::FEW;
 use crate::content::text_at;
 use crate::fault::Shape;
 use crate::nesting::after_string;
@@ -103,7 +104,7 @@ fn members_from(alloc: Global, value: &Raw) -> Result<Vec<Member>, AllocError>
     ensures { IfOk result (λ found. (all : Items Pair) → AreMembers 127 all → value.now ≡ object_text all → pairs found.items ≡ all) }
 {
     let bytes = value.as_bytes();
-    let mut found = Vec::new(alloc);
+    let mut found = Vec::with_capacity(alloc, FEW)?;
     let mut at = 1;
     loop {
         let (name, colon) = text_at(alloc, value, at)?;

@@ -20,7 +20,7 @@ pub loop-found-init : goal.loop-found-init
 loop-found-init c =
     record {
       within = omega (arith, ap length (c.as_bytes-bytes.ensures.value ∙ c.requires.3 ∙ (object-starts (c.requires.0 ∷ c.requires.1)).1));
-      left = λ all are e. rw c.new-found.ensures.items (IsLeft-all all c.requires.0 c.requires.1 c.as_bytes-bytes.result.now (c.as_bytes-bytes.ensures.value ∙ c.requires.3) are e);
+      left = λ all are e. rw c.in_ok-found.ensures.items (IsLeft-all all c.requires.0 c.requires.1 c.as_bytes-bytes.result.now (c.as_bytes-bytes.ensures.value ∙ c.requires.3) are e);
     }
 
 pub text_at-requires : goal.text_at-requires
