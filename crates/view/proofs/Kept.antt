@@ -2,6 +2,7 @@
 use Rattle.std.proofs.Common.{◌≡◌, ℕ, Bool, true, false, not, List, [], ◌∷◌, ◌++◌, map, filter, Option, Some, None, IfSome, find, if◌then◌else◌, refl, IsUtf8}
 use Rattle.std.specs.List.{All, AllByRecursion, list_all}
 use Rattle.std.specs.Option.{option_map, option_or}
+use Rattle.std.proofs.ByRecursion.{All-append, All-map, All-weaker, all_kept_by}
 use Rattle.std.proofs.lemmas.Bool.{and_from, and_parts}
 use Rattle.std.proofs.lemmas.List.Elements.{All-from_recursion, recursion_from_All}
 use Rattle.std.proofs.lemmas.List.Sorted.{All-permutation}
@@ -34,20 +35,8 @@ abbrev pub AreKept : List Drawn → Type 0
 AreKept es = AllByRecursion IsKept es
 
 -- ---- lists and options
-filter-all : {X : Type 0} (P : X → Type 0) (p : X → Bool) (xs : List X) → AllByRecursion P xs → AllByRecursion P (filter p xs)
-filter-all P p [] all = tt
-filter-all P p (x ∷ xs) all = elim (p x) as (λ (b : Bool). AllByRecursion P (if b then x ∷ filter p xs else filter p xs)) [
-  | true ↦ (all.0, filter-all P p xs all.1)
-  | false ↦ filter-all P p xs all.1
-]
-
-append-all : {X : Type 0} (P : X → Type 0) (xs ys : List X) → AllByRecursion P xs → AllByRecursion P ys → AllByRecursion P (xs ++ ys)
-append-all P [] ys first second = second
-append-all P (x ∷ xs) ys first second = (first.0, append-all P xs ys first.1 second)
-
 map-all : {X Y : Type 0} (P : X → Type 0) (Q : Y → Type 0) (f : X → Y) (xs : List X) → ((x : X) → P x → Q (f x)) → AllByRecursion P xs → AllByRecursion Q (map f xs)
-map-all P Q f [] each all = tt
-map-all P Q f (x ∷ xs) each all = (each x all.0, map-all P Q f xs each all.1)
+map-all P Q f xs each all = All-map Q f xs (All-weaker P (λ x. Q (f x)) each xs all)
 
 find-some : {X : Type 0} (P : X → Type 0) (p : X → Bool) (xs : List X) → AllByRecursion P xs → IfSome (find p xs) P
 find-some P p [] all = tt
@@ -66,16 +55,13 @@ if-some P true o is = is
 if-some P false o is = tt
 
 -- ---- keys
-keys-or-none : (es : List Drawn) → AreKept es → list_all is_key_or_none (map index_of es) ≡ true
-keys-or-none [] all = refl
-keys-or-none (e ∷ es) all = and_from (is_key_or_none e.index) (list_all is_key_or_none (map index_of es)) (by e.index all.0.written.index) (keys-or-none es all.1)
+pub kept-keys : (es : List Drawn) → AreKept es → HaveKeysOrNone es
+kept-keys [] all = refl
+kept-keys (e ∷ es) all = and_from (is_key_or_none e.index) (list_all is_key_or_none (map index_of es)) (by e.index all.0.written.index) (kept-keys es all.1)
   where
     by : (key : Option (List ℕ)) → IfSome key (λ k. is_key k ≡ true) → is_key_or_none key ≡ true
     by None is = refl
     by (Some key) is = is
-
-pub kept-keys : (es : List Drawn) → AreKept es → HaveKeysOrNone es
-kept-keys = keys-or-none
 
 with_index-kept : (e : Drawn) (key : List ℕ) → is_key key ≡ true → IsKept e → IsKept (with_index e key)
 with_index-kept e key is kept =
@@ -119,7 +105,7 @@ keyed-kept (e ∷ es) (key ∷ keys) are all =
     (with_index-kept e key parts.0 all.0, keyed-kept es keys parts.1 all.1)
 
 pub repaired-kept : (es : List Drawn) → AreKept es → AreKept (keyed es (repaired (map index_of es)))
-repaired-kept es all = keyed-kept es (repaired (map index_of es)) (AreRepaired-from (map index_of es) (repaired (map index_of es)) refl (keys-or-none es all)).new_keys all
+repaired-kept es all = keyed-kept es (repaired (map index_of es)) (AreRepaired-from (map index_of es) (repaired (map index_of es)) refl (kept-keys es all)).new_keys all
 
 ordered-kept : (es : List Drawn) → AreKept es → AreKept (in_scene_order es)
 ordered-kept es all = recursion_from_All IsKept (in_scene_order es) (All-permutation IsKept es (in_scene_order es) (IsPermutation-in_scene_order es) (All-from_recursion IsKept es all))
@@ -169,7 +155,7 @@ HasText entry = IsUtf8 entry.id
 
 first-all : (entries : List BoundRef) → AllByRecursion HasText entries → AllByRecursion HasText (first_occurrences entries)
 first-all [] all = tt
-first-all (entry ∷ entries) all = (all.0, filter-all HasText (λ other. not (same_entry entry other)) (first_occurrences entries) (first-all entries all.1))
+first-all (entry ∷ entries) all = (all.0, all_kept_by (λ other. not (same_entry entry other)) HasText (first_occurrences entries) (first-all entries all.1))
 
 text_of-written : (list : List Drawn) (e : Drawn) → AreKept list → IsKept e → IfSome (text_of list e) IsUtf8
 unfolding text_of
@@ -187,10 +173,10 @@ listing-written : (list : List Drawn) (e : Drawn) → AreKept list → IsKept e 
 unfolding listing
 listing-written list e all kept =
     first-all (filter (is_true_entry list e) e.bound ++ (arrow_entries list e ++ text_entries (text_of list e)))
-    (append-all HasText (filter (is_true_entry list e) e.bound) (arrow_entries list e ++ text_entries (text_of list e))
-    (filter-all HasText (is_true_entry list e) e.bound kept.written.bound)
-    (append-all HasText (arrow_entries list e) (text_entries (text_of list e))
-    (map-all IsKept HasText (λ (arrow : Drawn). arrow_entry arrow.id) (filter (is_bound_to e) list) (λ x is. is.written.id) (filter-all IsKept (is_bound_to e) list all))
+    (All-append HasText (filter (is_true_entry list e) e.bound) (arrow_entries list e ++ text_entries (text_of list e))
+    (all_kept_by (is_true_entry list e) HasText e.bound kept.written.bound)
+    (All-append HasText (arrow_entries list e) (text_entries (text_of list e))
+    (map-all IsKept HasText (λ (arrow : Drawn). arrow_entry arrow.id) (filter (is_bound_to e) list) (λ x is. is.written.id) (all_kept_by (is_bound_to e) IsKept list all))
     (entries-of (text_of list e) (text_of-written list e all kept))))
 
 links-kept : (list : List Drawn) (e : Drawn) → AreKept list → IsKept e → IsKept (with_settled_links list e)
@@ -267,7 +253,7 @@ frame-kept names_frame e kept =
 
 groups-written : (groups : List (List ℕ)) → AllByRecursion IsUtf8 groups → AllByRecursion IsUtf8 (texts.first_occurrences groups)
 groups-written [] all = tt
-groups-written (group ∷ groups) all = (all.0, filter-all IsUtf8 (texts.is_other group) (texts.first_occurrences groups) (groups-written groups all.1))
+groups-written (group ∷ groups) all = (all.0, all_kept_by (texts.is_other group) IsUtf8 (texts.first_occurrences groups) (groups-written groups all.1))
 
 group-kept : (e : Drawn) → IsKept e → IsKept (grouped e)
 group-kept e kept =
@@ -317,22 +303,14 @@ unfolding shown
 shown-kept live all = settled-kept (placed live) (placed-kept live all)
 
 pub live-kept : (stored : List Drawn) → AreKept stored → AreKept (live_elements stored)
-live-kept stored all = filter-all IsKept is_live stored all
+live-kept stored all = all_kept_by is_live IsKept stored all
 
 -- ---- as laws say it
 kept-from : (es : List Drawn) → All (λ e. IsElement e × IsWritten e) es → AreKept es
-kept-from es all = by es (recursion_from_All (λ e. IsElement e × IsWritten e) es all)
-  where
-    by : (es : List Drawn) → AllByRecursion (λ e. IsElement e × IsWritten e) es → AreKept es
-    by [] all = tt
-    by (e ∷ es) all = (record { element = all.0.0; written = all.0.1 }, by es all.1)
+kept-from es all = All-weaker (λ e. IsElement e × IsWritten e) IsKept (λ e h. record { element = h.0; written = h.1 }) es (recursion_from_All _ es all)
 
 kept-to : (es : List Drawn) → AreKept es → All (λ e. IsElement e × IsWritten e) es
-kept-to es all = All-from_recursion (λ e. IsElement e × IsWritten e) es (by es all)
-  where
-    by : (es : List Drawn) → AreKept es → AllByRecursion (λ e. IsElement e × IsWritten e) es
-    by [] all = tt
-    by (e ∷ es) all = ((all.0.element, all.0.written), by es all.1)
+kept-to es all = All-from_recursion _ es (All-weaker IsKept (λ e. IsElement e × IsWritten e) (λ e h. (h.element, h.written)) es all)
 
 pub shown-elements : (live : List Drawn) → All (λ e. IsElement e × IsWritten e) live → All (λ e. IsElement e × IsWritten e) (shown live)
 shown-elements live all = kept-to (shown live) (shown-kept live (kept-from live all))

@@ -1,3 +1,5 @@
+pub mod InOrder
+pub mod Originals
 pub mod Kept
 pub mod OrderLaws
 pub mod SceneOrder

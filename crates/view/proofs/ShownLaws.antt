@@ -25,7 +25,8 @@ use Rattle.view.specs.Shown.{is_live, live_elements, place_less, comes_before, i
 use Rattle.links.proofs.Members.{map-map}
 use Rattle.view.specs.Settled.{settled, unsettled, AreSettled}
 use Rattle.view.proofs.SettledLaws.{map-less, unsettled-settled, settled-are, settled-again}
-use Rattle.view.proofs.SceneOrder.{IsPermutation-in_scene_order, in_scene_order-only, in_scene_order-permuted, in_scene_order-is}
+use Rattle.view.proofs.InOrder.{in_order-only, in_order-permuted}
+use Rattle.view.proofs.SceneOrder.{scene_order, IsPermutation-in_scene_order, in_scene_order-is}
 
 -- ---- ids that rise
 rise_from_below : (low : Option (List ℕ)) (key : List ℕ) (keys : List (List ℕ)) → ends_rise low (Some key) ≡ true → rise_between (Some key) None keys ≡ true → rise_between low None keys ≡ true
@@ -158,13 +159,13 @@ placed-is live h =
 -- ---- the order of the elements plays no part
 placed-permuted : (live others : List Drawn) → HaveDistinctIds live → IsPermutation live others → placed others ≡ placed live
 unfolding placed
-placed-permuted live others apart moved = ap (λ ordered. keyed ordered (repaired (map index_of ordered))) (in_scene_order-permuted live others apart moved)
+placed-permuted live others apart moved = ap (λ ordered. keyed ordered (repaired (map index_of ordered))) (in_order-permuted scene_order live others apart moved)
 
 -- ---- elements that are placed stay in their places
 placed-rising : (es : List Drawn) → HaveDistinctIds es → HaveRisingKeys es → placed es ≡ es
 unfolding placed
 placed-rising es apart h =
-    let sorted : in_scene_order es ≡ es = sym (in_scene_order-only es es apart (IsPermutation-refl es) (AreInSceneOrder-from_keys es h)) in
+    let sorted : in_scene_order es ≡ es = sym (in_order-only scene_order es es apart (IsPermutation-refl es) (AreInSceneOrder-from_keys es h)) in
     let keys : repaired (map index_of es) ≡ h.keys = ap repaired h.each ∙ repaired-rising h.keys h.rise in
     ap (λ ordered. keyed ordered (repaired (map index_of ordered))) sorted ∙ (ap (keyed es) keys ∙ keyed-own es h.keys h.each)
 

@@ -1,11 +1,12 @@
 -- What a board shows of its stored elements. The order of ids and the repair are this project's own.
 use Rattle.std.specs.Prelude.{◌≡◌, ℕ, List, [], ◌∷◌, Bool, true, false, not, ◌&&◌, ◌||◌, Option, Some, None, filter, map, bytes_eq, if◌then◌else◌, AllPairs, IsPermutation}
 use Rattle.std.specs.List.{list_all, IsDistinct}
+use Rattle.std.specs.Option.{unwrap_or}
 use Rattle.frac_keys.specs.Keys.{bytes_less}
 use Rattle.frac_keys.specs.Rising.{are_rising, is_key_or_none}
 use Rattle.index_repair.specs.Repair.{repaired}
 use Rattle.elem.specs.Drawn.{Drawn}
-use Rattle.elem_store.specs.Updates.{ids_of}
+use Rattle.elem_store.specs.Updates.{element_of, ids_of}
 use Rattle.view.specs.Settled.{settled, unsettled}
 
 -- the live elements: those that aren't deleted
@@ -27,15 +28,22 @@ place_less (Some index) id (Some other_index) other =
 abbrev pub comes_before : Drawn → Drawn → Bool
 comes_before e other = place_less e.index e.id other.index other.id
 
--- elements in scene order and one more, which goes before the first that doesn't come before it
-abbrev pub with_element : Drawn → List Drawn → List Drawn
-with_element e [] = e ∷ []
-with_element e (other ∷ others) = if comes_before other e then other ∷ with_element e others else e ∷ other ∷ others
+-- elements in an order and one more, which goes before the first that doesn't come before it
+abbrev pub with_element : (Drawn → Drawn → Bool) → Drawn → List Drawn → List Drawn
+with_element before e [] = e ∷ []
+with_element before e (other ∷ others) = if before other e then other ∷ with_element before e others else e ∷ other ∷ others
 
--- the elements in scene order
+-- the elements in an order
+abbrev pub in_order : (Drawn → Drawn → Bool) → List Drawn → List Drawn
+in_order before [] = []
+in_order before (e ∷ elements) = with_element before e (in_order before elements)
+
+-- the elements in scene order, and in the order of their ids
 abbrev pub in_scene_order : List Drawn → List Drawn
-in_scene_order [] = []
-in_scene_order (e ∷ elements) = with_element e (in_scene_order elements)
+in_scene_order elements = in_order comes_before elements
+
+abbrev pub in_id_order : List Drawn → List Drawn
+in_id_order elements = in_order (λ e other. bytes_less e.id other.id) elements
 
 -- each element comes before those behind it
 abbrev pub AreInSceneOrder : List Drawn → Type 0
@@ -88,6 +96,14 @@ without_index e = record e { index = None }
 
 abbrev pub bare : Drawn → Drawn
 bare e = unsettled (without_index e)
+
+-- a shown element as it is stored: the original of its id, or itself where there is none
+abbrev pub as_stored : List Drawn → Drawn → Drawn
+as_stored originals e = unwrap_or (element_of originals e.id) e
+
+-- the shown elements as they are stored, in the order of their ids
+abbrev pub all_as_stored : List Drawn → List Drawn → List Drawn
+all_as_stored originals elements = in_id_order (map (as_stored originals) elements)
 
 -- These elements are what is shown of the live ones, which are in the order of their ids.
 pub record IsView (live elements : List Drawn) : Type 0 where

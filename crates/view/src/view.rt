@@ -1,39 +1,44 @@
 //! The view of a board.
 
-ghost use Rattle.std.specs.Prelude.{◌≡◌, List as Items, true, length, map, Some, IfOk, IsPermutation, bytes_eq, IsTrue};
+ghost use Rattle.std.specs.Prelude.{◌≡◌, List as Items, true, length, map, Some, All, IfOk, IfSome, IsPermutation, bytes_eq, IsTrue};
 ghost use Rattle.frac_keys.specs.Rising.{are_rising};
 ghost use Rattle.elem.specs.Drawn.{Drawn};
-ghost use Rattle.elem_store.specs.Updates.{ids_of};
+ghost use Rattle.elem_store.specs.Updates.{element_of, ids_of};
 ghost use Rattle.view.specs.Settled.{AreSettled};
-ghost use Rattle.view.specs.Shown.{is_live, live_elements, placed, shown, HaveDistinctIds, HaveKeysOrNone, HaveRisingKeys, IsSceneOrder, bare};
+ghost use Rattle.view.specs.Shown.{as_stored, is_live, live_elements, placed, shown, HaveDistinctIds, HaveKeysOrNone, HaveRisingKeys, IsSceneOrder, bare};
 
 use crate::keys::with_repaired_keys;
 use crate::order;
 use board_io::List;
-use elem::Element;
+use elem::{Element, same};
 use elem_store::Store;
 use frames_groups::{settle_frames, settle_groups};
 use links::{settle_arrows, settle_texts};
 use std::alloc::{AllocError, Global};
 use std::marker::Model;
 
-/// What a board shows, with the live elements that it was made of, as stored, in the order of their ids.
+/// What a board shows. Contracts see the live elements that it was made of, as stored, in the order of their ids.
+///
+/// Only the elements that aren't shown as they are stored are held twice.
 #[derive(Drop)]
 pub struct View {
-    live: List<Element>,
+    /// The elements that are shown.
     shown: List<Element>,
+
+    /// The stored elements of those that are shown otherwise than they are stored.
+    originals: List<Element>,
 }
 
 impl Model for View {
     ghost use Rattle.std.specs.Prelude.{List as Items};
     ghost use Rattle.elem.specs.Drawn.{Drawn};
-    ghost use Rattle.view.specs.Shown.{IsView};
+    ghost use Rattle.view.specs.Shown.{all_as_stored, IsView};
 
     ghost Value = { Items Drawn };
 
-    ghost view = { λ v. v.live };
+    ghost view = { λ v. all_as_stored v.originals v.shown };
 
-    ghost invariant = { λ v. IsView v.live v.shown };
+    ghost invariant = { λ v. IsView (all_as_stored v.originals v.shown) v.shown };
 }
 
 /// The view of a store: of all its live elements. Fails only for want of memory.
@@ -41,8 +46,9 @@ pub fn view_of(alloc: Global, store: &Store) -> Result<View, AllocError>
     ensures { IfOk result (λ view. view ≡ live_elements store.now.elements) }
 {
     let live = live_of(alloc, store)?;
-    let shown = shown_of(alloc, &live)?;
-    Ok(View { live, shown })
+    let shown = shown_of(alloc, live)?;
+    let originals = originals_of(alloc, store, &shown)?;
+    Ok(View { shown, originals })
 }
 
 impl View {
@@ -66,7 +72,7 @@ impl View {
 /// The live elements of a store, in the order of their ids.
 fn live_of(alloc: Global, store: &Store) -> Result<List<Element>, AllocError>
     ensures exact { IfOk result (λ live. live ≡ live_elements store.now.elements) }
-    ensures ordered { IfOk result (λ live. are_rising (ids_of live) ≡ true) }
+    ensures ordered { IfOk result (λ _. are_rising (ids_of store.now.elements) ≡ true) }
 {
     let mut live = Vec::new(alloc);
     for i in 0..store.len() {
@@ -88,10 +94,10 @@ fn is_live(e: &Element) -> bool
 
 /// What is shown of the live elements: they are placed, and then texts, arrows, frames and groups are settled.
 #[tactic(auto, unfolding(crate::specs::Shown::shown, crate::specs::Settled::settled))]
-fn shown_of(alloc: Global, live: &List<Element>) -> Result<List<Element>, AllocError>
-    requires { HaveDistinctIds live.now }
-    ensures exact { IfOk result (λ new. new ≡ shown live.now) }
-    ensures keys { IfOk result (λ _. HaveKeysOrNone live.now) }
+fn shown_of(alloc: Global, live: List<Element>) -> Result<List<Element>, AllocError>
+    requires { HaveDistinctIds live }
+    ensures exact { IfOk result (λ new. new ≡ shown live) }
+    ensures keys { IfOk result (λ _. HaveKeysOrNone live) }
 {
     let elements = placed_of(alloc, live)?;
     let elements = settle_texts(alloc, elements)?;
@@ -101,13 +107,32 @@ fn shown_of(alloc: Global, live: &List<Element>) -> Result<List<Element>, AllocE
 }
 
 /// The elements in scene order, with repaired keys.
-fn placed_of(alloc: Global, live: &List<Element>) -> Result<List<Element>, AllocError>
-    requires { HaveDistinctIds live.now }
-    ensures exact { IfOk result (λ new. new ≡ placed live.now) }
+fn placed_of(alloc: Global, live: List<Element>) -> Result<List<Element>, AllocError>
+    requires { HaveDistinctIds live }
+    ensures exact { IfOk result (λ new. new ≡ placed live) }
     ensures distinct { IfOk result HaveDistinctIds }
-    ensures keys { IfOk result (λ _. HaveKeysOrNone live.now) }
+    ensures keys { IfOk result (λ _. HaveKeysOrNone live) }
 {
-    let mut ordered = live.try_clone_with(Element::try_clone)?.into_vec();
-    order::sort(&mut ordered)?;
-    Ok(List::from_vec(with_repaired_keys(alloc, ordered)?))
+    let mut elements = live.into_vec();
+    order::sort(&mut elements)?;
+    Ok(List::from_vec(with_repaired_keys(alloc, elements)?))
+}
+
+/// The stored elements of those that are shown otherwise than they are stored, copied.
+fn originals_of(
+    alloc: Global,
+    store: &Store,
+    shown: &List<Element>,
+) -> Result<List<Element>, AllocError>
+    ensures { IfOk result (λ originals. All (λ e. IfSome (element_of store.now.elements e.id) (λ stored. as_stored originals e ≡ stored)) shown.now) }
+{
+    let mut originals = Vec::new(alloc);
+    for e in shown.as_slice() {
+        if let Some(stored) = store.get(&e.id) {
+            if !same(stored, e) {
+                originals.push(stored.try_clone()?)?;
+            }
+        }
+    }
+    Ok(List::from_vec(originals))
 }

@@ -5,7 +5,7 @@ use Rattle.frac_keys.specs.Rising.{are_rising}
 use Rattle.elem.specs.Drawn.{Drawn}
 use Rattle.elem_store.specs.Updates.{ids_of}
 use Rattle.view.specs.Shown.{live_elements}
-use Rattle.view.proofs.ShownLaws.{live_one, deleted_one, live_elements-rise, within_stored}
+use Rattle.view.proofs.ShownLaws.{live_one, deleted_one, within_stored}
 use Rattle.view.proofs.view.live_of.Goals as goal
 use Rattle.view.proofs.view.live_of.Goals.{in-Some+then-is_live+in_ok-try_clone+in_ok-push, in-Some+else-is_live, in_default}
 
@@ -36,6 +36,4 @@ returns-clause-exact c =
 
 pub returns-clause-ordered : goal.returns-clause-ordered
 returns-clause-ordered c =
-    let exact : c.from_vec.result ≡ live_elements c.args.store.now.elements =
-    c.from_vec.ensures ∙ c.loop-i.invariant.made ∙ ap live_elements (take_all c.loop-i.i c.args.store.now.elements (omega (arith, c.len-i-end.ensures))) in
-    rw exact (live_elements-rise c.args.store.now.elements (rising c.args.store.now.elements (λ some. c.loop-i.invariant.ordered (omega (arith, c.len-i-end.ensures)))))
+    rising c.args.store.now.elements (λ some. c.loop-i.invariant.ordered (omega (arith, c.len-i-end.ensures)))
