@@ -77,11 +77,7 @@ fn push_scene(out: &mut Vec<u8>, head: &Head, elements: &[Element]) -> Result<()
 
 /// Writes the text of the scene of these elements, each member and item on a line of its own. Beside it stands the text of
 /// one element at a time.
-fn push_scene_lines(
-    out: &mut Vec<u8>,
-    head: &Head,
-    elements: &[Element],
-) -> Result<(), AllocError>
+fn push_scene_lines(out: &mut Vec<u8>, head: &Head, elements: &[Element]) -> Result<(), AllocError>
     requires { out.old.items ≡ [] }
     ensures { OnOk result (IsLaidOut 0 (scenes.scene_text head.now elements.now) out.new.items) }
 {

@@ -25,7 +25,7 @@ piece_behind text es e i cleared comma piece inside at empty between last =
 pub loop-i-init : goal.loop-i-init
 loop-i-init c = record {
   made = λ text so_far. subst (λ t. IsLaidOutSoFar c.args.lines.now t c.args.out.now.items) (sym (append-nil text)) so_far;
-  nest = ?;
+  nest = λ k d low. absurd (omega arith);
 }
 
 pub loop-i-preserved : goal.loop-i-preserved
@@ -33,7 +33,13 @@ loop-i-preserved c =
     let es = c.args.elements.now in
     let inside : c.loop-i.i < length es = omega arith in
     record {
-      made = λ text so_far. ?;
+      made = λ text so_far.
+          let before = text ++ join_with_byte 44 (map element_text (take c.loop-i.i es)) in
+          subst (λ t. IsLaidOutSoFar c.push.new.self t c.push.new.out.items)
+          (ap (λ x. before ++ x) c.as_slice.ensures.value
+          ∙ piece_behind text es c.index-elements-i.result c.loop-i.i c.clear.new.self.items c.push_comma.new.out.items c.push_element.new.out.items inside
+          c.index-elements-i.is c.clear.ensures.items c.in_ok-push_comma.ensures c.in_ok-push_element.ensures.text)
+          (c.in_ok-push.ensures before (c.loop-i.invariant.made text so_far));
       nest = All-more (λ e. IsCompact 120 (element_text e)) es c.loop-i.i c.index-elements-i.result inside c.loop-i.invariant.nest
           (subst (λ e. IsCompact 120 (element_text e)) c.index-elements-i.is c.in_ok-push_element.ensures.nests);
     }
