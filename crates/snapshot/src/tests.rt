@@ -125,13 +125,21 @@ fn has_pending(
 /// Whether a capture is of one element, of which the groups alone have changed from some to others.
 fn captures(snapshot: &mut Snapshot, store: &Store, from: &str, to: &str) -> Result<bool, Fail> {
     let entry = snapshot.capture(store)?;
-    let [part] = entry.parts.as_slice() else {
-        return Ok(false);
-    };
-    Ok(match part.changes.as_slice() {
-        [Change::Groups { before, after }] => are_letters(before, from) && are_letters(after, to),
+    Ok(match entry.parts.as_slice() {
+        [part] => match part.changes.as_slice() {
+            [change] => leads(change, from, to),
+            _ => false,
+        },
         _ => false,
     })
+}
+
+/// Whether a change is that of the groups, from some to others.
+fn leads(change: &Change, from: &str, to: &str) -> bool {
+    match change {
+        Change::Groups { before, after } => are_letters(before, from) && are_letters(after, to),
+        _ => false,
+    }
 }
 
 #[test]
