@@ -1,11 +1,10 @@
 //! One element, changed and changed back.
 
-ghost use Rattle.std.specs.Prelude.{◌≡◌, ◌≤◌, List as Items, codes, IfOk, OnOk};
+ghost use Rattle.std.specs.Prelude.{◌≡◌, ◌≤◌, List as Items, [], codes, IfOk, OnOk};
 ghost use Rattle.elem.specs.Facts.{greatest_whole};
 ghost use Rattle.delta.specs.Delta.{Delta};
 ghost use Rattle.history.specs.Stacks.{HaveStoredIds};
 
-use crate::laws::{ids_stay_stored, ids_stay_stored_by_taking};
 use crate::{History, Step};
 use board_io::{List, Stop};
 use delta::{Entry, Part, VersionFull, difference};
@@ -88,17 +87,19 @@ fn change_from(alloc: Global, before: &Element, after: &str) -> Result<Part, All
     difference(alloc, Some(before), &after)
 }
 
-/// Notes the change of a stored element.
-fn note(alloc: Global, history: &mut History, store: &Store, part: Part) -> Result<(), Fail>
-    requires undo { HaveStoredIds store.now.elements history.old.undo }
-    ensures undo { OnOk result (HaveStoredIds store.now.elements history.new.undo) }
-    ensures redo { OnOk result (HaveStoredIds store.now.elements history.new.redo) }
+/// A history in which the change of a stored element can be undone.
+fn noted(alloc: Global, store: &Store, part: Part) -> Result<History, Fail>
+    ensures undo { IfOk result (λ history. HaveStoredIds store.now.elements history.undo) }
+    ensures redo { IfOk result (λ history. history.redo ≡ []) }
 {
     if store.get(&part.id).is_none() {
         return Err(Fail::from("it isn't stored"));
     }
-    let parts = List::from_vec(vec![in alloc; part]?);
-    Ok(history.note(Entry { parts })?)
+    let mut history = History::new(alloc);
+    history.note(Entry {
+        parts: List::from_vec(vec![in alloc; part]?),
+    })?;
+    Ok(history)
 }
 
 /// Stores what a step gave, which is one element at most.
@@ -106,21 +107,21 @@ fn store_given(store: &mut Store, given: List<Element>) -> Result<(), Fail>
     ensures { (stack : Items (Items Delta)) → HaveStoredIds store.old.elements stack
         → OnOk result (HaveStoredIds store.new.elements stack) }
 {
-    ids_stay_stored_by_taking();
-    if let Some(e) = given.into_vec().pop() {
-        let _taken = store.take(e).map_err(|_| "memory")?;
+    let Some(e) = given.into_vec().pop() else {
+        return Ok(());
+    };
+    match store.take(e) {
+        Ok(_) => Ok(()),
+        Err(_) => Err(Fail::from("memory")),
     }
-    Ok(())
 }
 
 /// Undoes an entry, and stores what that gives.
 fn undo(history: &mut History, store: &mut Store) -> Result<(), Fail>
     requires undo { HaveStoredIds store.old.elements history.old.undo }
-    requires redo { HaveStoredIds store.old.elements history.old.redo }
-    ensures undo { OnOk result (HaveStoredIds store.new.elements history.new.undo) }
-    ensures redo { OnOk result (HaveStoredIds store.new.elements history.new.redo) }
+    requires redo { history.old.redo ≡ [] }
+    ensures { OnOk result (HaveStoredIds store.new.elements history.new.redo) }
 {
-    ids_stay_stored();
     match history.undo(store, 9, 8) {
         Ok(Step::Done(given)) => store_given(store, given),
         _ => Err(Fail::from("undo")),
@@ -141,8 +142,7 @@ fn redo(history: &mut History, store: &mut Store) -> Result<(), Fail>
 fn an_undo_leaves_what_others_added_and_is_redone(rt: HostRuntime) -> Result<(), Fail> {
     let alloc = rt.alloc();
     let mut store = store_of(alloc, 3, "vwx")?;
-    let mut history = History::new(alloc);
-    note(alloc, &mut history, &store, change(alloc, "v", "vw")?)?;
+    let mut history = noted(alloc, &store, change(alloc, "v", "vw")?)?;
     undo(&mut history, &mut store)?;
     assert!(rt; is_stored(&store, 4, "vx")?);
     assert_eq!(rt; (history.undo_len(), history.redo_len()), (0, 1));
@@ -153,19 +153,17 @@ fn an_undo_leaves_what_others_added_and_is_redone(rt: HostRuntime) -> Result<(),
 }
 
 #[test]
-fn nothing_is_redone_before_an_undo(rt: HostRuntime) -> Result<(), Fail> {
+fn an_undo_may_change_nothing(rt: HostRuntime) -> Result<(), Fail> {
     let alloc = rt.alloc();
-    let store = store_of(alloc, 2, "w")?;
-    let mut history = History::new(alloc);
-    assert!(rt; matches!(history.undo(&store, 9, 8), Ok(Step::Nothing)));
-    note(alloc, &mut history, &store, change(alloc, "", "w")?)?;
+    let mut store = store_of(alloc, 2, "w")?;
+    let mut history = noted(alloc, &store, change(alloc, "", "v")?)?;
     assert!(rt; matches!(history.redo(&store, 9, 8), Ok(Step::Nothing)));
     assert_eq!(rt; (history.undo_len(), history.redo_len()), (1, 0));
 
-    // An empty entry changes nothing.
-    let parts = List::new(alloc);
-    history.note(Entry { parts })?;
-    assert_eq!(rt; (history.undo_len(), history.redo_len()), (1, 0));
+    // The change was taken back by others: its element isn't given again.
+    undo(&mut history, &mut store)?;
+    assert!(rt; !is_stored(&store, 3, "w")?);
+    assert_eq!(rt; (history.undo_len(), history.redo_len()), (0, 1));
     Ok(())
 }
 
@@ -182,15 +180,14 @@ fn is_full(history: &mut History, store: &Store) -> bool
 #[test]
 fn the_greatest_version_stops_an_undo(rt: HostRuntime) -> Result<(), Fail> {
     let alloc = rt.alloc();
-    let mut store = store_of(alloc, GREATEST_WHOLE, "w")?;
-    let mut history = History::new(alloc);
-    note(alloc, &mut history, &store, change(alloc, "", "w")?)?;
-    note(alloc, &mut history, &store, change(alloc, "", "z")?)?;
-
-    // The last change was undone by others: its element isn't given again.
-    undo(&mut history, &mut store)?;
-    assert_eq!(rt; (history.undo_len(), history.redo_len()), (1, 1));
+    let store = store_of(alloc, GREATEST_WHOLE, "w")?;
+    let mut history = noted(alloc, &store, change(alloc, "", "w")?)?;
     assert!(rt; is_full(&mut history, &store));
-    assert_eq!(rt; (history.undo_len(), history.redo_len()), (1, 1));
+    assert_eq!(rt; (history.undo_len(), history.redo_len()), (1, 0));
+
+    // An empty entry changes nothing.
+    let parts = List::new(alloc);
+    history.note(Entry { parts })?;
+    assert_eq!(rt; (history.undo_len(), history.redo_len()), (1, 0));
     Ok(())
 }
