@@ -2,5 +2,5 @@
 use Rattle.history.proofs.StepLaws.{ids-taken}
 use Rattle.history.proofs.tests.store_given.Goals as goal
 
-pub returns-in-Ok : goal.returns-in-Ok
-returns-in-Ok c = λ stack stored. ids-taken _ _ _ stack c.in-Ok.ensures.after stored
+pub returns : goal.returns
+returns c = λ stack stored. ids-taken _ _ _ stack c.in-Ok.ensures.after stored
