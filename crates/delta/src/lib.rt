@@ -13,6 +13,8 @@ pub mod laws;
 mod part;
 mod rest;
 mod stamping;
+#[cfg(test)]
+mod tests;
 
 pub use applying::apply;
 pub use change::Change;

@@ -1,5 +1,5 @@
 -- Steps that grow by a part, and the least id that stops one.
-use Rattle.std.proofs.Common.{◌≡◌, ◌⊎◌, ℕ, zero, suc, ◌+◌, ◌<◌, length, take, drop, get_or, take-append-drop, append_assoc, true, List, [], ◌∷◌, ◌++◌, Some, None, IsSome, Contains, refl, sym, ap, ◌∙◌, subst, subst₂, inl, inr, arith}
+use Rattle.std.proofs.Common.{◌≡◌, ◌⊎◌, ℕ, zero, suc, ◌+◌, ◌<◌, length, take, drop, get_or, take-append-drop, append_assoc, Bool, true, false, ◌&&◌, if◌then◌else◌, List, [], ◌∷◌, ◌++◌, Some, None, IsSome, Contains, refl, sym, ap, ◌∙◌, subst, subst₂, inl, inr, arith}
 use Rattle.std.proofs.lemmas.Bool.{cases_Bool}
 use Rattle.std.proofs.lemmas.List.{map-append, take_more}
 use Rattle.std.proofs.lemmas.List.Elements.{Contains-append_left, Contains-append_right, Contains-append_cases, Contains-push, Contains-push_cases}
@@ -10,7 +10,7 @@ use Rattle.frac_keys.specs.Keys.{bytes_less}
 use Rattle.frac_keys.specs.Rising.{are_rising}
 use Rattle.elem.specs.Drawn.{Drawn}
 use Rattle.elem.specs.Order.{unstamped}
-use Rattle.elem_store.specs.Updates.{is_of, element_of}
+use Rattle.elem_store.specs.Updates.{HasTaken, is_of, element_of, is_taken}
 use Rattle.elem_store.proofs.Ids.{same_id}
 use Rattle.elem_store.proofs.Lists.{find-Some}
 use Rattle.elem_store.proofs.Rising.{less-other, less-less}
@@ -186,3 +186,12 @@ ids-stored store given time nonce from to left grown stepped before others = (
         let id : own.0.id ≡ p.id =
         came-id store time nonce own.0 own.1 own.2 g.0 own.3.stored own.4.kept own.6 ∙ ap (λ (o : Pair). o.after.id) g.2 ∙ sym of.3.id in
         subst (λ i. IsSome (element_of store i)) id (subst IsSome (sym own.3.stored) refl)
+
+-- storing an element keeps that the ids are stored
+pub ids-taken : (old new : List Drawn) (e : Drawn) (stack : List (List Delta)) → HasTaken old e new → HaveStoredIds old stack → HaveStoredIds new stack
+ids-taken old new e stack taken stored parts inside part among =
+    subst IsSome (sym (taken.each part.id)) (either (is_of part.id e && is_taken old e))
+  where
+    either : (b : Bool) → IsSome (if b then Some e else element_of old part.id)
+    either true = refl
+    either false = stored parts inside part among

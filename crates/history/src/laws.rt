@@ -2,7 +2,7 @@
 
 ghost use Rattle.std.specs.Prelude.{◌≡◌, ℕ, List as Items, Some};
 ghost use Rattle.elem.specs.Drawn.{Drawn};
-ghost use Rattle.elem_store.specs.Updates.{element_of};
+ghost use Rattle.elem_store.specs.Updates.{HasTaken, element_of};
 ghost use Rattle.delta.specs.Delta.{Delta};
 ghost use Rattle.delta.specs.Pairs.{Pair, EntryStandsFor, pairs_from};
 ghost use Rattle.delta.specs.Parts.{counted};
@@ -32,4 +32,10 @@ pub fn ids_stay_stored()
     ensures { (store given : Items Drawn) (time nonce : ℕ) (from to left grown : Items (Items Delta))
         → HasStepped store time nonce given from to left grown → HaveStoredIds store from → HaveStoredIds store to
         → HaveStoredIds store left × HaveStoredIds store grown }
+{}
+
+/// Storing an element keeps that each id of a stack is stored.
+pub fn ids_stay_stored_by_taking()
+    ensures { (old new : Items Drawn) (e : Drawn) (stack : Items (Items Delta))
+        → HasTaken old e new → HaveStoredIds old stack → HaveStoredIds new stack }
 {}
