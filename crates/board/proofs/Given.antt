@@ -1,8 +1,8 @@
 -- How much an input gave.
 use Rattle.std.proofs.Common.{◌≡◌, ℕ, ◌≤◌, List, [], ◌++◌, length, Option, Some, None, IsSome, IfSome, refl, sym, ap, arith, ◌∙◌, length-append, append-nil}
 use Rattle.std.specs.Option.{option_map}
-use Rattle.board_io.specs.Ends.{SourceEnd, Gave}
-use Rattle.board.specs.Ends.{limit, GaveWithin, GaveTooMuch, WasRead, HasLeft}
+use Rattle.board_io.specs.Ends.{SourceEnd}
+use Rattle.board.specs.Ends.{GaveWithin, GaveTooMuch, WasRead, HasLeft}
 
 -- Where the content is told, what was given has one length.
 one-length : (before after : Option (List ℕ)) (x y : List ℕ) → IsSome before → before ≡ option_map (λ rest. x ++ rest) after → before ≡ option_map (λ rest. y ++ rest) after → length x ≡ length y

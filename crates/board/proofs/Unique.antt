@@ -1,5 +1,5 @@
 -- An input has one answer alone, and inputs with the same updates, free of clashes, are merged to one text.
-use Rattle.std.proofs.Common.{◌≡◌, ◌≢◌, ℕ, List, [], ◌∷◌, ◌++◌, length, Result, Ok, Err, Some, codes, decimal, refl, sym, ap, ap₂, subst, ◌∙◌}
+use Rattle.std.proofs.Common.{◌≡◌, ℕ, List, [], ◌∷◌, ◌++◌, length, Result, Ok, Err, Some, codes, decimal, refl, sym, ap, ap₂, subst, ◌∙◌}
 use Rattle.base64.specs.GeneralPurpose.{decode_of}
 use Rattle.base64.specs.Engines.{standard}
 use Rattle.scene_json.specs.Characters.{quote}
@@ -7,12 +7,11 @@ use Rattle.scene_json.specs.Compact.{Member as Pair}
 use Rattle.scene_json.specs.Named.{value_at}
 use Rattle.elem.specs.Drawn.{Drawn}
 use Rattle.elem.proofs.Once.{object-once, quote-once}
-use Rattle.elem_store.specs.Updates.{AreStored, AreBest, HaveSameUpdates, IsFreeOfClashes}
+use Rattle.elem_store.specs.Updates.{AreBest, IsFreeOfClashes}
 use Rattle.elem_store.proofs.StoreLaws.{store-unique, stores-converge, AreStored-from_best}
 use Rattle.file_table.specs.Picture.{HasData, HasUrl, IsDataUrl, IsPictureSize}
 use Rattle.file_table.specs.References.{referred_files}
 use Rattle.file_table.proofs.Urls.{content-unique}
-use Rattle.view.specs.Shown.{live_elements, shown}
 use Rattle.scene_file.specs.Heads.{Heading, IsJoinedHead}
 use Rattle.scene_file.specs.Reading.{IsFaultAt}
 use Rattle.scene_file.specs.Scenes.{state_text}

@@ -11,7 +11,6 @@ use Rattle.scene_file.specs.Reading.{IsFaultAt}
 use Rattle.scene_file.specs.Scenes.{state_text}
 use Rattle.scene_file.specs.Texts.{IsSceneText}
 use Rattle.scene_file.specs.declared.layout.Layout.{Layout}
-use Rattle.scene_file.specs.declared.layout.Layout.TheVariants.{Compact}
 use Rattle.scene_file.specs.declared.scene.Scene.{Scene}
 use Rattle.board.specs.Faults.{newline}
 use Rattle.board.specs.Input.{HasScenes, HasFaultyText, HasExtraText}

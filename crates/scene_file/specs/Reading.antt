@@ -1,8 +1,8 @@
 -- What a scene's text says, and its first fault. After Excalidraw's JSON schema; which forms are accepted, and how missing
 -- keys are filled, is this project's own.
-use Rattle.std.specs.Prelude.{◌≡◌, ℕ, List, [], ◌∷◌, Option, Some, None, drop, map, codes, bytes_eq, is_some, if◌then◌else◌}
+use Rattle.std.specs.Prelude.{◌≡◌, ℕ, List, [], Option, Some, None, drop, map, codes, bytes_eq, is_some, if◌then◌else◌}
 use Rattle.std.specs.List.{AllByRecursion, list_all}
-use Rattle.scene_json.specs.Compact.{Member as Pair, array_text, object_text}
+use Rattle.scene_json.specs.Compact.{Member as Pair, array_text}
 use Rattle.scene_json.specs.Faults.{IsFirstFault}
 use Rattle.scene_json.specs.Members.{pairs}
 use Rattle.scene_json.specs.Named.{value_at, AreSameMembers, HaveRisingNames}

@@ -1,11 +1,12 @@
-use Rattle.std.proofs.Common.{◌≡◌, ◌++◌, sym, ap, subst}
 use Rattle.std.proofs.lemmas.Result.{IfOk-weaker}
+use Rattle.view.specs.Shown.{all_as_stored}
 use Rattle.view.proofs.ShownLaws.{shown-settled, HaveDistinctIds-rising}
 use Rattle.board.proofs.answer.shown_text.Goals as goal
 
 pub returns : goal.returns
 returns c =
-    let settled = shown-settled c.view.inside.live (HaveDistinctIds-rising c.view.inside.live c.view.invariant.ordered) c.view.invariant.keys in
+    let live = all_as_stored c.view.inside.originals c.view.inside.shown in
+    let settled = shown-settled live (HaveDistinctIds-rising live c.view.invariant.ordered) c.view.invariant.keys in
     IfOk-weaker c.ended.result _ _ (λ text made. record {
       head = c.in_ok-head.head;
       stored = c.in_ok-head.store.elements;

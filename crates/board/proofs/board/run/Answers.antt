@@ -1,7 +1,6 @@
-use Rattle.std.proofs.Common.{rules, ◌≡◌, Some, None, Err, sym, ap, ◌∙◌}
+use Rattle.std.proofs.Common.{rules, ◌≡◌, Some, None, sym, ◌∙◌}
 use Rattle.board.specs.Ends.{GaveWithin, WasRead}
 use Rattle.board.specs.Words.{asked}
-use Rattle.board.specs.declared.status.Fault.TheVariants as fault
 use Rattle.board.proofs.Answering.{not-usage, caused}
 use Rattle.board.proofs.Given.{within-excludes, nothing-excludes}
 use Rattle.board.proofs.board.run.Goals as goal

@@ -1,4 +1,4 @@
-use Rattle.std.proofs.Common.{◌≡◌, ◌+◌, [], ◌∷◌, ◌++◌, Err, drop, length, inl, inr, refl, sym, ap, subst, ◌∙◌, arith}
+use Rattle.std.proofs.Common.{◌≡◌, ◌+◌, Err, drop, inl, inr, refl, sym, ap, subst, ◌∙◌, arith}
 use Rattle.board.specs.Answers.{IsRefusal}
 use Rattle.board.specs.Input.{HasScenes}
 use Rattle.board.specs.declared.status.Fault.{Fault}

@@ -1,5 +1,5 @@
 -- The text is that of the scene, in its layout.
-use Rattle.std.proofs.Common.{◌≡◌, ◌++◌, ap, ◌∙◌, sym, subst}
+use Rattle.std.proofs.Common.{◌++◌, ap, ◌∙◌, sym, subst}
 use Rattle.scene_json.specs.Layout.{IsLaidOut}
 use Rattle.scene_file.specs.Scenes.{scene_text}
 use Rattle.scene_file.proofs.printing.scene_text.Goals as goal
