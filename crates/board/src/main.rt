@@ -7,8 +7,6 @@ pub mod laws;
 mod load;
 mod pictures;
 mod status;
-#[cfg(test)]
-mod tests;
 mod words;
 
 use crate::status::Fault;

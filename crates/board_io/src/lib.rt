@@ -10,8 +10,6 @@ mod memory;
 mod script;
 mod standard;
 mod stop;
-#[cfg(test)]
-mod tests;
 mod whole;
 
 pub use bytes::Bytes;

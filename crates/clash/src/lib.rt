@@ -4,7 +4,5 @@
 mod clash;
 pub mod laws;
 mod marks;
-#[cfg(test)]
-mod tests;
 
 pub use clash::Clash;

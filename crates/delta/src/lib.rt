@@ -13,8 +13,6 @@ pub mod laws;
 mod part;
 mod rest;
 mod stamping;
-#[cfg(test)]
-mod tests;
 
 pub use applying::apply;
 pub use change::Change;

@@ -10,8 +10,6 @@ mod object;
 mod order;
 mod parts;
 mod raw;
-#[cfg(test)]
-mod tests;
 mod values;
 
 pub use element::Element;

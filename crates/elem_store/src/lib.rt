@@ -4,7 +4,5 @@
 pub mod laws;
 mod places;
 mod store;
-#[cfg(test)]
-mod tests;
 
 pub use store::Store;

@@ -6,8 +6,6 @@ ghost use Rattle.std.specs.List.{IsDistinct};
 ghost use Rattle.first_texts.specs.FirstOccurrences as first;
 
 pub mod laws;
-#[cfg(test)]
-mod tests;
 
 use scene_json::Text;
 use std::alloc::{AllocError, Global};

@@ -12,6 +12,3 @@ mod spread;
 pub use generate::between;
 pub use key::Key;
 pub use spread::n_between;
-
-#[cfg(test)]
-mod tests;

@@ -4,8 +4,6 @@
 mod frames;
 mod groups;
 pub mod laws;
-#[cfg(test)]
-mod tests;
 
 pub use frames::settle_frames;
 pub use groups::settle_groups;

@@ -4,8 +4,6 @@
 mod history;
 pub mod laws;
 mod step;
-#[cfg(test)]
-mod tests;
 
 pub use history::History;
 pub use step::Step;

@@ -8,8 +8,6 @@ mod names;
 mod parts;
 mod settle;
 mod table;
-#[cfg(test)]
-mod tests;
 mod texts;
 
 pub use settle::{settle_arrows, settle_texts};

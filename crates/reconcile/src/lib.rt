@@ -4,8 +4,6 @@
 mod held;
 pub mod laws;
 mod taking;
-#[cfg(test)]
-mod tests;
 
 pub use held::Held;
 pub use taking::reconcile;

@@ -5,8 +5,6 @@ pub mod laws;
 mod legacy;
 mod restoring;
 mod table;
-#[cfg(test)]
-mod tests;
 
 pub use restoring::{into_restored, restore};
 pub use table::default_of;

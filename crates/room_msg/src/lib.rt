@@ -6,8 +6,6 @@ pub mod laws;
 mod message;
 mod printing;
 mod reading;
-#[cfg(test)]
-mod tests;
 
 pub use fault::MsgFault;
 pub use message::Message;

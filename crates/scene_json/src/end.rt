@@ -48,6 +48,3 @@ pub(crate) fn value_end(bytes: &[u8], at: usize) -> Result<usize, JsonFault>
         Err(machine.fault(None, bytes.len()))
     }
 }
-
-#[cfg(test)]
-mod tests;

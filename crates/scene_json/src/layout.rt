@@ -174,23 +174,3 @@ fn closes(byte: u8) -> bool
 {
     matches!(byte, b']' | b'}')
 }
-
-#[cfg(test)]
-mod tests {
-    use super::*;
-    use crate::samples::raw;
-    use std::test::Fail;
-
-    #[test]
-    fn lays_out_two_spaces_a_level(rt: HostRuntime) -> Result<(), Fail> {
-        let alloc = rt.alloc();
-        let nested = pretty(alloc, &raw(alloc, b"{\"a\":[1,{\"b\":{}}],\"c\":[]}")?)?;
-        let lines = b"{\n  \"a\": [\n    1,\n    {\n      \"b\": {}\n    }\n  ],\n  \"c\": []\n}";
-        assert_eq!(rt; nested.as_slice(), lines.as_slice());
-        let number = pretty(alloc, &raw(alloc, b"7")?)?;
-        assert_eq!(rt; number.as_slice(), b"7".as_slice());
-        let marks = pretty(alloc, &raw(alloc, b"\",:[]{}\\\"\"")?)?;
-        assert_eq!(rt; marks.as_slice(), b"\",:[]{}\\\"\"".as_slice());
-        Ok(())
-    }
-}

@@ -16,8 +16,6 @@ mod nesting;
 mod number;
 mod order;
 mod parts;
-#[cfg(test)]
-mod samples;
 mod scalar;
 mod scanning;
 mod sequence;

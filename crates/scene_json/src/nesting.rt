@@ -67,20 +67,3 @@ pub(crate) fn after_string(bytes: &[u8]) -> &[u8]
     }
     rest
 }
-
-#[cfg(test)]
-mod tests {
-    use super::*;
-    use crate::samples::raw;
-    use std::test::Fail;
-
-    #[test]
-    fn counts_brackets_outside_strings(rt: HostRuntime) -> Result<(), Fail> {
-        let alloc = rt.alloc();
-        assert_eq!(rt; depth_of(&raw(alloc, b"7")?), 0);
-        assert_eq!(rt; depth_of(&raw(alloc, b"\"[\\\"]{\"")?), 0);
-        assert_eq!(rt; depth_of(&raw(alloc, b"[]")?), 1);
-        assert_eq!(rt; depth_of(&raw(alloc, b"{\"a\":[{}]}")?), 3);
-        Ok(())
-    }
-}

@@ -58,28 +58,3 @@ pub fn is_null(value: &Raw) -> bool
 {
     value.as_bytes() == b"null".as_slice()
 }
-
-#[cfg(test)]
-mod tests {
-    use super::*;
-    use crate::samples::raw;
-    use std::test::Fail;
-
-    #[test]
-    fn reads_plain_decimals_alone(rt: HostRuntime) -> Result<(), Fail> {
-        let alloc = rt.alloc();
-        assert_eq!(rt; whole_of(&raw(alloc, b"0")?), Some(0));
-        assert_eq!(rt; whole_of(&raw(alloc, b"7")?), Some(7));
-        assert_eq!(rt;
-            whole_of(&raw(alloc, b"9007199254740991")?),
-            Some(9_007_199_254_740_991)
-        );
-        assert_eq!(rt; whole_of(&raw(alloc, b"9007199254740992")?), None);
-        assert_eq!(rt; whole_of(&raw(alloc, b"-0")?), None);
-        assert_eq!(rt; whole_of(&raw(alloc, b"1.0")?), None);
-        assert_eq!(rt; whole_of(&raw(alloc, b"1e3")?), None);
-        assert_eq!(rt; whole_of(&raw(alloc, b"\"1\"")?), None);
-        assert_eq!(rt; whole_of(&raw(alloc, b"true")?), None);
-        Ok(())
-    }
-}

@@ -30,6 +30,3 @@ pub fn scan(alloc: Global, bytes: &[u8], at: usize) -> Result<(Raw, usize), Stop
     push_compact(alloc, bytes, at, &mut text)?;
     Ok((Raw::from_compact(text)?, end))
 }
-
-#[cfg(test)]
-mod tests;

@@ -4,7 +4,5 @@
 mod held;
 mod pending;
 mod snapshot;
-#[cfg(test)]
-mod tests;
 
 pub use snapshot::Snapshot;

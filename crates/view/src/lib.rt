@@ -4,8 +4,6 @@
 mod keys;
 pub mod laws;
 mod order;
-#[cfg(test)]
-mod tests;
 mod view;
 
 pub use keys::with_repaired_keys;
