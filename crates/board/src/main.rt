@@ -1,16 +1,14 @@
-//! Restores and merges Excalidraw scenes, and tells what they store and the sizes of their pictures.
+//! The program: the top call over the standard streams and the words of the command line.
 #![tactic(auto)]
 
-mod answer;
-mod board;
-pub mod laws;
-mod load;
-mod pictures;
-mod status;
+ghost use Rattle.std.specs.Prelude.{◌≡◌};
+ghost use Rattle.std.specs.Process.{exit_status};
+ghost use Rattle.commands.specs.Faults.{code_of};
+
 mod words;
 
-use crate::status::Fault;
 use board_io::{List, ScriptLinks, StdSink, StdSource};
+use commands::{Fault, Status, board};
 use std::alloc::AllocError;
 use std::process::ExitCode;
 
@@ -19,7 +17,7 @@ fn main(rt: HostRuntime) -> ExitCode {
     let alloc = rt.alloc();
     let mut notes = StdSink::new(rt.stderr());
     let status = match words::of_command_line(&rt) {
-        Ok(words) => board::board(
+        Ok(words) => board(
             alloc,
             words.as_slice(),
             &mut StdSource::new(rt.stdin()),
@@ -29,5 +27,12 @@ fn main(rt: HostRuntime) -> ExitCode {
         ),
         Err(AllocError) => Fault::Memory.noted(alloc, &mut notes),
     };
+    exit_of(status)
+}
+
+/// The exit of a run with this status.
+fn exit_of(status: Status) -> ExitCode
+    ensures { exit_status result ≡ code_of status }
+{
     ExitCode::from(status.code())
 }

@@ -1,5 +1,0 @@
-use Rattle.board.proofs.Unique.{merge-of-best}
-use Rattle.board.proofs.laws.merge_is_of_the_best.Goals as goal
-
-pub returns : goal.returns
-returns c = merge-of-best

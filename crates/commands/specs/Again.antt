@@ -1,0 +1,39 @@
+-- What the texts that commands answer with are answered with themselves. This project's own.
+use Rattle.std.specs.Prelude.{◌↔◌, ℕ, List, [], ◌∷◌, Ok}
+use Rattle.std.specs.List.{concat}
+use Rattle.scene_file.specs.declared.layout.Layout.{Layout}
+use Rattle.commands.specs.Answers.{IsAnswer}
+use Rattle.commands.specs.declared.words.Command.{Command}
+use Rattle.commands.specs.declared.words.Command.TheVariants.{Restore, Merge, State, Pictures}
+
+-- What was restored, in whatever layout, is restored to the texts that the input is restored to: nothing is restored twice.
+abbrev pub RestoresOnce : Type 0
+RestoresOnce =
+    (first layout : Layout) (bytes text other : List ℕ) → IsAnswer (Restore first) bytes (Ok text)
+    → IsAnswer (Restore layout) text (Ok other) ↔ IsAnswer (Restore layout) bytes (Ok other)
+
+-- What was merged, in whatever layout, is restored to the texts that the input is merged to.
+abbrev pub RestoresMerges : Type 0
+RestoresMerges =
+    (first layout : Layout) (bytes text other : List ℕ) → IsAnswer (Merge first) bytes (Ok text)
+    → IsAnswer (Restore layout) text (Ok other) ↔ IsAnswer (Merge layout) bytes (Ok other)
+
+-- a command that takes any number of scenes
+abbrev pub TakesScenes : Command → Type 0
+TakesScenes (Restore layout) = ⊥
+TakesScenes (Merge layout) = Unit {0}
+TakesScenes State = Unit {0}
+TakesScenes Pictures = Unit {0}
+
+-- Each text is the state of the input at its place.
+abbrev pub AreStates : List (List ℕ) → List (List ℕ) → Type 0
+AreStates [] [] = Unit {0}
+AreStates [] (state ∷ states) = ⊥
+AreStates (input ∷ inputs) [] = ⊥
+AreStates (input ∷ inputs) (state ∷ states) = IsAnswer State input (Ok state) × AreStates inputs states
+
+-- The states of inputs stand for these: a merge, and each other command over scenes, is resumed from them.
+abbrev pub StatesStandFor : Type 0
+StatesStandFor =
+    (command : Command) (inputs states : List (List ℕ)) (text : List ℕ) → TakesScenes command → AreStates inputs states
+    → IsAnswer command (concat states) (Ok text) ↔ IsAnswer command (concat inputs) (Ok text)

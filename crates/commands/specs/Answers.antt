@@ -1,0 +1,108 @@
+-- What an input is answered with, command by command. This project's own; what is stored is Excalidraw's reconcile, and the
+-- texts are after its JSON schema.
+use Rattle.std.specs.Prelude.{◌≡◌, ℕ, List, [], ◌∷◌, ◌++◌, Result, Ok, Err, flat_map, map}
+use Rattle.elem.specs.Drawn.{Drawn}
+use Rattle.elem_store.specs.Updates.{AreStored, HaveSameUpdates, IsFreeOfClashes}
+use Rattle.file_table.specs.References.{referred_files}
+use Rattle.view.specs.Settled.{AreSettled}
+use Rattle.view.specs.Shown.{live_elements, shown, HaveRisingKeys}
+use Rattle.scene_file.specs.Heads.{Heading, IsJoinedHead}
+use Rattle.scene_file.specs.Reading.{IsFaultAt}
+use Rattle.scene_file.specs.Scenes.{state_text}
+use Rattle.scene_file.specs.Texts.{IsSceneText}
+use Rattle.scene_file.specs.declared.layout.Layout.{Layout}
+use Rattle.scene_file.specs.declared.scene.Scene.{Scene}
+use Rattle.commands.specs.Faults.{newline}
+use Rattle.commands.specs.Input.{HasScenes, HasFaultyText, HasExtraText}
+use Rattle.commands.specs.Pictures.{AreLines}
+use Rattle.commands.specs.declared.status.Fault.{Fault}
+use Rattle.commands.specs.declared.status.Fault.TheVariants as fault
+use Rattle.commands.specs.declared.words.Command.{Command}
+use Rattle.commands.specs.declared.words.Command.TheVariants.{Restore, Merge, State, Pictures}
+
+-- the elements of scenes, one scene after the other: each is an update; and the heads of scenes
+abbrev pub updates_of : List Scene → List Drawn
+updates_of scenes = flat_map (λ (scene : Scene). scene.elements) scenes
+
+abbrev pub heads_of : List Scene → List Heading
+heads_of scenes = map (λ (scene : Scene). scene.head) scenes
+
+-- The board of these scenes has their joined head, and stores of all their updates these elements.
+pub record IsBoardOf (scenes : List Scene) (head : Heading) (stored : List Drawn) : Type 0 where
+  pub joined : IsJoinedHead (heads_of scenes) head
+  pub stores : AreStored (updates_of scenes) stored
+
+-- what a board shows of its stored elements: the live ones in scene order, settled
+abbrev pub shown_of : List Drawn → List Drawn
+shown_of stored = shown (live_elements stored)
+
+-- The text of the scene that the board of these scenes shows, and a newline. Its keys rise strictly, and its elements
+-- agree on their links, frames and groups.
+pub record IsShownAs (scenes : List Scene) (layout : Layout) (text : List ℕ) : Type 0 where
+  pub head : Heading
+  pub stored : List Drawn
+  pub board : IsBoardOf scenes head stored
+  pub written : List ℕ
+  pub scene : IsSceneText layout head (shown_of stored) written
+  pub ended : text ≡ written ++ newline
+  pub rise : HaveRisingKeys (shown_of stored)
+  pub settled : AreSettled (shown_of stored)
+
+-- The text of all that the board of these scenes stores, and a newline.
+pub record IsStoredAs (scenes : List Scene) (text : List ℕ) : Type 0 where
+  pub head : Heading
+  pub stored : List Drawn
+  pub board : IsBoardOf scenes head stored
+  pub is_state : text ≡ state_text head stored ++ newline
+
+-- A line on each file that the board of these scenes shows.
+pub record HasPictures (scenes : List Scene) (text : List ℕ) : Type 0 where
+  pub head : Heading
+  pub stored : List Drawn
+  pub board : IsBoardOf scenes head stored
+  pub lines : AreLines (referred_files head.files (shown_of stored)) text
+
+-- The first fault of an input that is to be one scene: its first text has it, or a further byte follows the scene.
+abbrev pub IsOneRefusal : List ℕ → Fault → Type 0
+IsOneRefusal bytes (fault.Text number found) = (number ≡ 1) × IsFaultAt bytes 0 found
+IsOneRefusal bytes (fault.Extra at) = HasExtraText bytes at
+IsOneRefusal bytes other = ⊥
+
+-- The first fault of an input that is to be one scene at least: the first text with a fault has it.
+abbrev pub IsRefusal : List ℕ → Fault → Type 0
+IsRefusal bytes (fault.Text number found) = HasFaultyText bytes number found
+IsRefusal bytes other = ⊥
+
+-- The input is scenes, one at least, of which this text is made.
+abbrev pub IsMadeOf : (List Scene → List ℕ → Type 0) → List ℕ → List ℕ → Type 0
+IsMadeOf IsOf bytes text = (scenes : List Scene) × HasScenes bytes scenes × IsOf scenes text
+
+-- What a command answers an input with: this text, or this first fault.
+abbrev pub IsAnswer : Command → List ℕ → Result (List ℕ) Fault → Type 0
+IsAnswer (Restore layout) bytes (Ok text) = (scene : Scene) × HasScenes bytes (scene ∷ []) × IsShownAs (scene ∷ []) layout text
+IsAnswer (Restore layout) bytes (Err found) = IsOneRefusal bytes found
+IsAnswer (Merge layout) bytes (Ok text) = IsMadeOf (λ scenes. IsShownAs scenes layout) bytes text
+IsAnswer (Merge layout) bytes (Err found) = IsRefusal bytes found
+IsAnswer State bytes (Ok text) = IsMadeOf IsStoredAs bytes text
+IsAnswer State bytes (Err found) = IsRefusal bytes found
+IsAnswer Pictures bytes (Ok text) = IsMadeOf HasPictures bytes text
+IsAnswer Pictures bytes (Err found) = IsRefusal bytes found
+
+-- Two inputs are scenes with the same updates, in whatever order, grouping and repetition, none of which clash, and with
+-- one joined head.
+pub record HaveSameUpdatesFreeOfClashes (bytes others : List ℕ) : Type 0 where
+  pub scenes : List Scene
+  pub other_scenes : List Scene
+  pub bytes_hold : HasScenes bytes scenes
+  pub others_hold : HasScenes others other_scenes
+  pub same : HaveSameUpdates (updates_of scenes) (updates_of other_scenes)
+  pub free : IsFreeOfClashes (updates_of scenes)
+  pub head : Heading
+  pub joined : IsJoinedHead (heads_of scenes) head
+  pub other_joined : IsJoinedHead (heads_of other_scenes) head
+
+-- Inputs with the same updates, free of clashes, are merged to one text.
+abbrev pub Converges : Type 0
+Converges =
+    (layout : Layout) (bytes others text other_text : List ℕ) → HaveSameUpdatesFreeOfClashes bytes others
+    → IsAnswer (Merge layout) bytes (Ok text) → IsAnswer (Merge layout) others (Ok other_text) → other_text ≡ text

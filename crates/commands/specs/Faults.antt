@@ -1,0 +1,62 @@
+-- What faults there are, how a run with one ends, and the line that tells it. This project's own.
+use Rattle.std.specs.Prelude.{◌≡◌, ℕ, ◌≤◌, List, [], ◌∷◌, ◌++◌, ◌⊎◌, length, take, codes, decimal}
+use Rattle.board_io.specs.Counts.{Rose}
+use Rattle.board_io.specs.Ends.{SinkEnd, Took}
+use Rattle.scene_file.specs.Faults.{fault_words}
+use Rattle.commands.specs.declared.status.Status.{Status}
+use Rattle.commands.specs.declared.status.Status.TheVariants as status
+use Rattle.commands.specs.declared.status.Fault.{Fault}
+use Rattle.commands.specs.declared.status.Fault.TheVariants as fault
+
+-- the end of a line, U+000A
+abbrev pub newline : List ℕ
+newline = 10 ∷ []
+
+-- the exit status of each way in which a run ends
+abbrev pub code_of : Status → ℕ
+code_of status.Done = 0
+code_of status.Memory = 1
+code_of status.Usage = 2
+code_of status.Refused = 3
+code_of status.ReadFault = 4
+code_of status.WriteFault = 5
+code_of status.LinkFault = 6
+code_of status.Idle = 7
+
+-- how a run with this fault ends
+abbrev pub status_of : Fault → Status
+status_of fault.Memory = status.Memory
+status_of fault.Usage = status.Usage
+status_of fault.Read = status.ReadFault
+status_of fault.TooLong = status.Refused
+status_of (fault.Text number found) = status.Refused
+status_of (fault.Extra at) = status.Refused
+status_of fault.Write = status.WriteFault
+
+-- the line that tells a fault
+abbrev pub line_of : Fault → List ℕ
+line_of fault.Memory = codes "board: out of memory" ++ newline
+line_of fault.Usage = codes "board: usage: restore, merge, state, replay, pictures, drill SEED EVENTS, serve PORT LINKS IDLE" ++ newline
+line_of fault.Read = codes "board: read fault" ++ newline
+line_of fault.TooLong = codes "board: input is longer than 67108864 bytes" ++ newline
+line_of (fault.Text number found) = codes "board: text " ++ (decimal number ++ (codes ": " ++ (fault_words found ++ newline)))
+line_of (fault.Extra at) = codes "board: extra text at byte " ++ (decimal at ++ newline)
+line_of fault.Write = codes "board: write fault" ++ newline
+
+-- How a run with this fault ends: as it says, but that a line with a number may want memory.
+abbrev pub EndsAs : Fault → Fault → Type 0
+EndsAs (fault.Text number found) as_fault = (as_fault ≡ fault.Text number found) ⊎ (as_fault ≡ fault.Memory)
+EndsAs (fault.Extra at) as_fault = (as_fault ≡ fault.Extra at) ⊎ (as_fault ≡ fault.Memory)
+EndsAs other as_fault = as_fault ≡ other
+
+-- The line of this fault has no number, and wants no memory.
+abbrev pub HasFixedLine : Fault → Type 0
+HasFixedLine (fault.Text number found) = ⊥
+HasFixedLine (fault.Extra at) = ⊥
+HasFixedLine other = Unit {0}
+
+-- The notes gained the line of the fault, or a first part of it where their count of faults rose.
+abbrev pub Noted : Fault → SinkEnd → SinkEnd → Type 0
+Noted fault before after =
+    Took before after (line_of fault)
+    ⊎ ((n : ℕ) × (n ≤ length (line_of fault)) × Took before after (take n (line_of fault)) × Rose before.faults after.faults)

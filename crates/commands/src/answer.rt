@@ -1,0 +1,108 @@
+//! What an input is answered with, command by command.
+
+ghost use Rattle.std.specs.Prelude.{◌≡◌, ◌++◌, [], ◌∷◌, Ok, Err, IfOk};
+ghost use Rattle.scene_file.specs.Heads.{IsJoinedHead};
+ghost use Rattle.commands.specs.Answers.{IsAnswer, IsBoardOf, IsShownAs, IsStoredAs, HasPictures, heads_of, updates_of};
+ghost use Rattle.commands.specs.Faults.{newline};
+ghost use Rattle.commands.specs.declared.status.Fault.{Fault};
+
+use crate::load::{one_scene, scenes};
+use crate::pictures::picture_lines;
+use crate::status::Fault;
+use crate::words::Command;
+use board_io::{Bytes, List, Stop};
+use elem::Element;
+use elem_store::Store;
+use scene_file::{Head, Layout, Scene, join, scene_text, state_text};
+use std::alloc::{AllocError, Global};
+use view::view_of;
+
+/// The text that the command answers these bytes with, or the fault that they are refused for.
+pub(crate) fn answer(alloc: Global, command: Command, bytes: Bytes) -> Result<Bytes, Stop<Fault>>
+    ensures text { IfOk result (λ text. IsAnswer command bytes (Ok text)) }
+    ensures fault { (fault : Fault) → result ≡ Err (Stop.Fault fault) → IsAnswer command bytes (Err fault) }
+{
+    match command {
+        Command::Restore(layout) => {
+            let scene = one_scene(alloc, bytes)?;
+            Ok(shown_text(alloc, List::from_vec(vec![in alloc; scene]?), layout)?)
+        }
+        Command::Merge(layout) => {
+            let scenes = scenes(alloc, bytes)?;
+            Ok(shown_text(alloc, scenes, layout)?)
+        }
+        Command::State => {
+            let scenes = scenes(alloc, bytes)?;
+            Ok(stored_text(alloc, scenes)?)
+        }
+        Command::Pictures => {
+            let scenes = scenes(alloc, bytes)?;
+            Ok(pictures_text(alloc, scenes)?)
+        }
+    }
+}
+
+/// The text of the scene that the board of these scenes shows, and a newline. The store is dropped as soon as its view is
+/// made.
+fn shown_text(alloc: Global, scenes: List<Scene>, layout: Layout) -> Result<Bytes, AllocError>
+    ensures { IfOk result (IsShownAs scenes layout) }
+{
+    let (head, store) = board_of(alloc, scenes)?;
+    let view = view_of(alloc, &store)?;
+    drop(store);
+    ended(scene_text(alloc, &head, &view, layout)?)
+}
+
+/// The text of all that the board of these scenes stores, and a newline.
+fn stored_text(alloc: Global, scenes: List<Scene>) -> Result<Bytes, AllocError>
+    ensures { IfOk result (IsStoredAs scenes) }
+{
+    let (head, store) = board_of(alloc, scenes)?;
+    ended(state_text(alloc, &head, &store)?)
+}
+
+/// A line on each file that the board of these scenes shows.
+fn pictures_text(alloc: Global, scenes: List<Scene>) -> Result<Bytes, AllocError>
+    ensures { IfOk result (HasPictures scenes) }
+{
+    let (head, store) = board_of(alloc, scenes)?;
+    let view = view_of(alloc, &store)?;
+    let files = head.files.referred(view.elements())?;
+    picture_lines(alloc, &files)
+}
+
+/// The joined head of these scenes, and what is stored of their elements.
+fn board_of(alloc: Global, scenes: List<Scene>) -> Result<(Head, Store), AllocError>
+    ensures { IfOk result (λ board. IsBoardOf scenes board.0 board.1.elements) }
+{
+    let (head, updates) = joined(alloc, scenes)?;
+    let store = Store::from_updates(alloc, updates)?;
+    Ok((head, store))
+}
+
+/// The joined head of these scenes, and their elements, one scene after the other.
+fn joined(alloc: Global, scenes: List<Scene>) -> Result<(Head, List<Element>), AllocError>
+    ensures head { IfOk result (λ found. IsJoinedHead (heads_of scenes) found.0) }
+    ensures updates { IfOk result (λ found. found.1 ≡ updates_of scenes) }
+{
+    let mut head = Head::new(alloc);
+    let mut updates = Vec::new(alloc);
+    for scene in scenes.into_vec() {
+        let Scene {
+            head: other,
+            elements,
+        } = scene;
+        join(alloc, &mut head, &other)?;
+        updates.append(&mut elements.into_vec())?;
+    }
+    Ok((head, List::from_vec(updates)))
+}
+
+/// The text and a newline.
+fn ended(text: Bytes) -> Result<Bytes, AllocError>
+    ensures { IfOk result (λ ended. ended ≡ text ++ newline) }
+{
+    let mut text = text;
+    text.extend(b"\n")?;
+    Ok(text)
+}

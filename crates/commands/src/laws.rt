@@ -1,0 +1,33 @@
+//! Laws on what inputs are answered with, for all inputs. They do nothing when they run.
+
+ghost use Rattle.std.specs.Prelude.{◌≡◌, ℕ, List, ◌++◌, Result, Ok};
+ghost use Rattle.elem.specs.Drawn.{Drawn};
+ghost use Rattle.elem_store.specs.Updates.{AreBest, IsFreeOfClashes};
+ghost use Rattle.scene_file.specs.Heads.{Heading, IsJoinedHead};
+ghost use Rattle.scene_file.specs.Texts.{IsSceneText};
+ghost use Rattle.scene_file.specs.declared.layout.Layout.{Layout};
+ghost use Rattle.scene_file.specs.declared.scene.Scene.{Scene};
+ghost use Rattle.commands.specs.Answers.{IsAnswer, heads_of, updates_of, shown_of};
+ghost use Rattle.commands.specs.Faults.{newline};
+ghost use Rattle.commands.specs.Input.{HasScenes};
+ghost use Rattle.commands.specs.declared.status.Fault.{Fault};
+ghost use Rattle.commands.specs.declared.words.Command.{Command};
+
+/// Each command has an answer to each input, whatever its bytes.
+pub fn answer_exists()
+    ensures { (command : Command) (bytes : List ℕ) → (answer : Result (List ℕ) Fault) × IsAnswer command bytes answer }
+{}
+
+/// An input has one answer alone.
+pub fn answer_is_unique()
+    ensures { (command : Command) (bytes : List ℕ) (answer other : Result (List ℕ) Fault)
+        → IsAnswer command bytes answer → IsAnswer command bytes other → answer ≡ other }
+{}
+
+/// Where no updates clash, one of the best updates of each id, whichever is chosen, makes the text of a merge.
+pub fn merge_is_of_the_best()
+    ensures { (layout : Layout) (bytes text : List ℕ) (scenes : List Scene) (head : Heading) (chosen : List Drawn)
+        → HasScenes bytes scenes → IsFreeOfClashes (updates_of scenes) → IsJoinedHead (heads_of scenes) head
+        → AreBest (updates_of scenes) chosen → IsAnswer (Command.Merge layout) bytes (Ok text)
+        → (written : List ℕ) × IsSceneText layout head (shown_of chosen) written × (text ≡ written ++ newline) }
+{}

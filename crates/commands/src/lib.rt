@@ -1,0 +1,14 @@
+//! The commands of the program: what each answers its input with, and the top call that reads, answers and writes.
+#![tactic(auto)]
+
+mod answer;
+pub mod laws;
+mod load;
+mod pictures;
+mod running;
+mod status;
+mod words;
+
+pub use running::board;
+pub use status::{Fault, Status};
+pub use words::Command;
