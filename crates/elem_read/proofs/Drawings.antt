@@ -1,5 +1,5 @@
 -- The value that is read, its members and the restored ones.
-use Rattle.std.proofs.Common.{◌≡◌, ◌≢◌, ◌≤◌, ◌<◌, ℕ, List, [], ◌∷◌, Some, All, refl, sym, ap, ◌∙◌, bytes_eq, codes, lit≤, arith}
+use Rattle.std.proofs.Common.{◌≡◌, ◌≢◌, ℕ, List, [], ◌∷◌, Some, All, refl, sym, ap, ◌∙◌, bytes_eq, codes, lit≤}
 use Rattle.std.specs.List.{AllByRecursion}
 use Rattle.std.proofs.lemmas.Bool.{both_ways}
 use Rattle.std.proofs.lemmas.List.Elements.{recursion_from_All}
@@ -10,7 +10,6 @@ use Rattle.scene_json.specs.Parts.{AreMembers}
 use Rattle.scene_json.specs.Value.{IsCompact}
 use Rattle.scene_json.specs.declared.text.Member.{Member}
 use Rattle.scene_json.proofs.Collapsed.{bytes_eq-same}
-use Rattle.scene_json.proofs.CompactLaws.{Value-deeper}
 use Rattle.scene_json.proofs.Pairs.{AreMembers-values}
 use Rattle.restore_table.specs.Restored.{AreRestored, old_name}
 use Rattle.restore_table.proofs.RestoredLaws.{unknown-stays}

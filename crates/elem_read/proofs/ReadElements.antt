@@ -1,13 +1,16 @@
 -- Values that are read one after the other.
-use Rattle.std.proofs.Common.{◌≡◌, ◌⊎◌, inl, inr, ℕ, zero, suc, ◌+◌, ◌<◌, List, [], ◌∷◌, ◌++◌, All, length, take, map, get_or, refl, sym, ap, ap₂, subst, ◌∙◌, arith}
+use Rattle.std.proofs.Common.{◌≡◌, ◌⊎◌, inl, inr, ℕ, zero, suc, ◌+◌, ◌<◌, List, [], ◌∷◌, ◌++◌, All, lit≤, length, take, map, get_or, refl, sym, ap, ap₂, subst, ◌∙◌, arith}
 use Rattle.std.specs.List.{AllByRecursion}
 use Rattle.std.proofs.lemmas.List.{take_more}
 use Rattle.std.proofs.lemmas.List.Elements.{recursion_from_All, All-from_recursion}
+use Rattle.scene_json.specs.Value.{IsCompact}
+use Rattle.scene_json.proofs.CompactLaws.{Value-deeper}
 use Rattle.elem.specs.Drawn.{Drawn}
 use Rattle.elem.specs.Texts.{element_text}
 use Rattle.elem_read.specs.Elements.{AreRead, IsFirstFaulty}
 use Rattle.elem_read.specs.Reading.{IsSelection, IsElementIn, IsFaultIn, IsWhole}
 use Rattle.elem_read.specs.declared.fault.ElemFault.{ElemFault}
+use Rattle.elem_read.proofs.Read.{read-exists}
 use Rattle.elem_read.proofs.Unique.{element-once, element-faultless, element-kept, fault-once, fault-dropped}
 use Rattle.elem_read.proofs.Whole.{whole}
 
@@ -95,3 +98,18 @@ faultless (v ∷ values) elements zero fault (inl (dropped, read)) faulty = no-f
 faultless (v ∷ values) elements zero fault (inr (e, others, all, is, read)) faulty = no-fault v fault faulty (inr (e, is))
 faultless (v ∷ values) elements (suc place) fault (inl (dropped, read)) faulty = faultless values elements place fault read faulty.1
 faultless (v ∷ values) elements (suc place) fault (inr (e, others, all, is, read)) faulty = faultless values others place fault read faulty.1
+
+-- ---- some way
+pub read-or-faulty : (values : List (List ℕ)) → AllByRecursion (IsCompact 127) values
+    → ((elements : List Drawn) × AreRead values elements) ⊎ ((place : ℕ) × (fault : ElemFault) × IsFirstFaulty values place fault)
+read-or-faulty [] all = inl ([], refl)
+read-or-faulty (v ∷ values) all = by (read-exists v (Value-deeper (lit≤ tt) all.0)) (read-or-faulty values all.1)
+  where
+    by : IsSelection v ⊎ (((e : Drawn) × IsElementIn v e) ⊎ ((fault : ElemFault) × IsFaultIn v fault))
+        → ((elements : List Drawn) × AreRead values elements) ⊎ ((place : ℕ) × (fault : ElemFault) × IsFirstFaulty values place fault)
+        → ((elements : List Drawn) × AreRead (v ∷ values) elements) ⊎ ((place : ℕ) × (fault : ElemFault) × IsFirstFaulty (v ∷ values) place fault)
+    by (inl dropped) (inl (elements, read)) = inl (elements, inl (dropped, read))
+    by (inl dropped) (inr (place, fault, is)) = inr (suc place, fault, (inl dropped, is))
+    by (inr (inl (e, is))) (inl (elements, read)) = inl (e ∷ elements, inr (e, elements, refl, is, read))
+    by (inr (inl (e, is))) (inr (place, fault, later)) = inr (suc place, fault, (inr (e, is), later))
+    by (inr (inr (fault, is))) others = inr (zero, fault, is)

@@ -1,6 +1,7 @@
 //! Laws on reading, for all values. They do nothing when they run.
 
 ghost use Rattle.std.specs.Prelude.{◌≡◌, ◌⊎◌, List, ℕ, All, map};
+ghost use Rattle.std.specs.List.{AllByRecursion};
 ghost use Rattle.scene_json.specs.Compact.{Member};
 ghost use Rattle.scene_json.specs.Named.{AreSameMembers};
 ghost use Rattle.scene_json.specs.Value.{IsCompact};
@@ -48,6 +49,18 @@ pub fn reading_elements_is_unique()
         → IsFirstFaulty values place fault → IsFirstFaulty values other why → (place ≡ other) × (fault ≡ why) }
     ensures faultless { (values : List (List ℕ)) (elements : List Drawn) (place : ℕ) (fault : ElemFault)
         → AreRead values elements → IsFirstFaulty values place fault → ⊥ }
+{}
+
+/// Values are read as a list of elements, or have a first faulty one.
+pub fn reading_elements_exists()
+    ensures { (values : List (List ℕ)) → AllByRecursion (IsCompact 127) values
+        → ((elements : List Drawn) × AreRead values elements)
+        ⊎ ((place : ℕ) × (fault : ElemFault) × IsFirstFaulty values place fault) }
+{}
+
+/// Elements that are read of values are whole, each.
+pub fn read_elements_are_whole()
+    ensures { (values : List (List ℕ)) (elements : List Drawn) → AreRead values elements → All IsWhole elements }
 {}
 
 /// The texts of whole elements are read as these elements.

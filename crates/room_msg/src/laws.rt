@@ -12,7 +12,17 @@ pub fn reading_is_unique()
         → IsReadAs bytes answer → IsReadAs bytes other → answer ≡ other }
 {}
 
-/// The text of a whole message is read as that message. Every message that is read is whole.
+/// Each list of bytes is read as a message, or has a first fault.
+pub fn reading_exists()
+    ensures { (bytes : List ℕ) → (answer : Result Message MsgFault) × IsReadAs bytes answer }
+{}
+
+/// Every message that is read is whole.
+pub fn read_messages_are_whole()
+    ensures { (bytes : List ℕ) (message : Message) → IsReadAs bytes (Ok message) → IsWholeMessage message }
+{}
+
+/// The text of a whole message is read as that message.
 pub fn text_is_read_back()
     ensures { (message : Message) → IsWholeMessage message → IsReadAs (message_text message) (Ok message) }
 {}

@@ -18,7 +18,7 @@ use Rattle.elem_read.specs.Elements.{AreRead, IsFirstFaulty}
 use Rattle.elem_read.specs.Reading.{IsSelection, IsElementIn, IsFaultIn}
 use Rattle.elem_read.specs.declared.fault.ElemFault.{ElemFault}
 use Rattle.elem_read.proofs.Decided.{Decided, Fits, fits-in, text-or-not, unpaired, pairs-unpaired, not-named}
-use Rattle.elem_read.proofs.Read.{read-exists}
+use Rattle.elem_read.proofs.ReadElements.{read-or-faulty}
 use Rattle.file_table.specs.Table.{AreFilesOf}
 use Rattle.file_table.proofs.Tabled.{files-exist}
 use Rattle.scene_file.specs.Heads.{Heading, IsJoinedHead, least_source, settings_of, files_of}
@@ -36,21 +36,6 @@ joined-exists heads =
       record { source = least_source heads; app_state = unpaired settings.0; files = files.0 },
       record { source = refl; app_state = subst (AreFilesOf (settings_of heads)) (sym (pairs-unpaired settings.0)) settings.1; files = files.1 },
     )
-
--- ---- elements
-read-or-faulty : (values : List (List ℕ)) → AllByRecursion (IsCompact 127) values
-    → ((elements : List Drawn) × AreRead values elements) ⊎ ((place : ℕ) × (fault : ElemFault) × IsFirstFaulty values place fault)
-read-or-faulty [] all = inl ([], refl)
-read-or-faulty (v ∷ values) all = by (read-exists v (Value-deeper (lit≤ tt) all.0)) (read-or-faulty values all.1)
-  where
-    by : IsSelection v ⊎ (((e : Drawn) × IsElementIn v e) ⊎ ((fault : ElemFault) × IsFaultIn v fault))
-        → ((elements : List Drawn) × AreRead values elements) ⊎ ((place : ℕ) × (fault : ElemFault) × IsFirstFaulty values place fault)
-        → ((elements : List Drawn) × AreRead (v ∷ values) elements) ⊎ ((place : ℕ) × (fault : ElemFault) × IsFirstFaulty (v ∷ values) place fault)
-    by (inl dropped) (inl (elements, read)) = inl (elements, inl (dropped, read))
-    by (inl dropped) (inr (place, fault, is)) = inr (suc place, fault, (inl dropped, is))
-    by (inr (inl (e, is))) (inl (elements, read)) = inl (e ∷ elements, inr (e, elements, refl, is, read))
-    by (inr (inl (e, is))) (inr (place, fault, later)) = inr (suc place, fault, (inr (e, is), later))
-    by (inr (inr (fault, is))) others = inr (zero, fault, is)
 
 -- ---- what is given
 fits-given : (name : List ℕ) (members : List Pair) → AreMembers 127 members → Fits (given name members)
