@@ -1,5 +1,5 @@
 -- First occurrences: one text more, and which texts they are.
-use Rattle.std.proofs.Common.{◌≡◌, ℕ, Bool, true, false, cond, not, ◌&&◌, ◌||◌, ◌↔◌, List, [], ◌∷◌, ◌++◌, Contains, filter, bytes_eq, refl, sym, ap, ◌∙◌, subst}
+use Rattle.std.proofs.Common.{◌≡◌, ℕ, Bool, true, false, cond, not, ◌&&◌, ◌||◌, ◌↔◌, List, [], ◌∷◌, ◌++◌, Contains, filter, bytes_eq, refl, sym, ap, ◌∙◌}
 use Rattle.std.specs.List.{AllByRecursion, list_any, IsDistinct}
 use Rattle.std.specs.Cmp.Lexicographic.{nat_list_eq_equiv}
 use Rattle.std.proofs.lemmas.Bool.{not-true, not_from_false}
@@ -7,6 +7,7 @@ use Rattle.std.proofs.lemmas.List.{append-nil}
 use Rattle.std.proofs.lemmas.List.Elements.{filter_passes, filter-append, recursion_from_All}
 use Rattle.std.proofs.lemmas.Map.Views.{any-filter_same, Contains-from_any, list_any-from_Contains}
 use Rattle.std.proofs.lemmas.Slice.Eq.{bytes_eq-Decides}
+use Rattle.indexmap.specs.IndexSet.{insert_key}
 use Rattle.first_texts.specs.FirstOccurrences.{is_other, first_occurrences}
 
 -- ---- one text more
@@ -88,6 +89,12 @@ Contains-first_occurrences texts text = (
   λ c. Contains-from_any same_texts text texts (sym (any-first_occurrences texts text) ∙ list_any-from_Contains nat_list_eq_equiv text (first_occurrences texts) c),
   λ c. Contains-from_any same_texts text (first_occurrences texts) (any-first_occurrences texts text ∙ list_any-from_Contains nat_list_eq_equiv text texts c),
 )
+
+-- inserted into the first occurrences, a text joins them at their end if it isn't among them
+pub first_occurrences-inserted : (texts : List (List ℕ)) (text : List ℕ) → insert_key bytes_eq (first_occurrences texts) text ≡ first_occurrences (texts ++ text ∷ [])
+first_occurrences-inserted texts text =
+    let found = first_occurrences texts in
+    ap (λ b. cond b found (found ++ text ∷ [])) (any-first_occurrences texts text) ∙ sym (first_occurrences-push texts text)
 
 -- ---- distinct texts stay
 filter_keeps : (p : List ℕ → Bool) (xs : List (List ℕ)) → AllByRecursion (λ x. p x ≡ true) xs → filter p xs ≡ xs

@@ -1,2 +1,1 @@
 pub mod FirstLaws
-pub mod Seen

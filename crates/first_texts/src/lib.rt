@@ -7,21 +7,22 @@ ghost use Rattle.first_texts.specs.FirstOccurrences as first;
 
 pub mod laws;
 
+use indexmap::IndexSet;
 use scene_json::Text;
 use std::alloc::{AllocError, Global};
-use std::collections::BTreeSet;
+use std::hash::{BuildHasherDefault, DefaultHasher};
+
+/// Texts in the order in which they came, each once.
+type Firsts = IndexSet<Text, BuildHasherDefault<DefaultHasher>>;
 
 /// The texts, each once, in the order in which they first stand. Fails only for want of memory.
 pub fn first_occurrences(alloc: Global, texts: &[Text]) -> Result<Vec<Text>, AllocError>
     ensures exact { IfOk result (λ found. found.items ≡ first.first_occurrences texts.now) }
     ensures distinct { IfOk result (λ found. IsDistinct bytes_eq found.items) }
 {
-    let mut seen = BTreeSet::new(alloc);
-    let mut found = Vec::new(alloc);
+    let mut found = Firsts::with_hasher(alloc, BuildHasherDefault::new());
     for text in texts {
-        if seen.insert(text.try_clone()?)? {
-            found.push(text.try_clone()?)?;
-        }
+        found.insert(text.try_clone()?)?;
     }
-    Ok(found)
+    found.into_iter().collect(alloc)
 }
