@@ -61,7 +61,7 @@ pub AllByRecursion-weaker : {X : Type 0} (P Q : X → Type 0) (xs : List X) → 
 AllByRecursion-weaker P Q [] f h = tt
 AllByRecursion-weaker P Q (x ∷ xs) f h = (f x h.0, AllByRecursion-weaker P Q xs f h.1)
 
-AllByRecursion-map : {X Y : Type 0} (f : X → Y) (P : Y → Type 0) (xs : List X) → AllByRecursion P (map f xs) → AllByRecursion (λ x. P (f x)) xs
+pub AllByRecursion-map : {X Y : Type 0} (f : X → Y) (P : Y → Type 0) (xs : List X) → AllByRecursion P (map f xs) → AllByRecursion (λ x. P (f x)) xs
 AllByRecursion-map f P [] h = tt
 AllByRecursion-map f P (x ∷ xs) h = (h.0, AllByRecursion-map f P xs h.1)
 
@@ -73,7 +73,7 @@ AllByRecursion-with_member P m (n ∷ ns) p h =
       | false ↦ (p, h)
     ]
 
-AllByRecursion-sorted : (P : Pair → Type 0) (ms : List Pair) → AllByRecursion P ms → AllByRecursion P (sorted_members ms)
+pub AllByRecursion-sorted : (P : Pair → Type 0) (ms : List Pair) → AllByRecursion P ms → AllByRecursion P (sorted_members ms)
 AllByRecursion-sorted P [] h = tt
 AllByRecursion-sorted P (m ∷ ms) h = AllByRecursion-with_member P m (sorted_members ms) h.0 (AllByRecursion-sorted P ms h.1)
 

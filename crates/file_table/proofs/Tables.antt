@@ -1,31 +1,20 @@
 -- A table after one entry more.
-use Rattle.std.proofs.Common.{◌≡◌, ℕ, true, false, cond, ◌⊎◌, List, [], ◌∷◌, ◌++◌, Option, Some, None, bytes_eq, nat_cmp, refl, sym, ap, ◌∙◌, subst, inl, inr}
-use Rattle.std.specs.BTreeMap.{is_at, insert_entry}
-use Rattle.std.specs.Cmp.Lexicographic.{slice_cmp, nat_list_eq_equiv, texts_ties}
-use Rattle.std.specs.Map.{lookup}
-use Rattle.std.specs.Ordering.{match_ordering}
-use Rattle.std.specs.declared.cmp.Ordering.TheVariants.{Less, Equal, Greater}
+use Rattle.std.proofs.Common.{◌≡◌, ℕ, true, false, cond, ◌⊎◌, List, [], ◌∷◌, ◌++◌, Option, Some, None, bytes_eq, if◌then◌else◌, refl, sym, ap, ◌∙◌, subst, inl, inr}
+use Rattle.std.specs.Cmp.Lexicographic.{nat_list_eq_equiv}
+use Rattle.std.specs.List.{IsDistinct}
 use Rattle.std.proofs.lemmas.Bool.{cases_Bool, both_ways, cond-true, cond-false}
 use Rattle.std.proofs.lemmas.Slice.Eq.{bytes_eq-Decides}
+use Rattle.indexmap.specs.IndexMap.{insert_entry}
 use Rattle.scene_json.specs.Compact.{Member as Pair}
 use Rattle.scene_json.specs.Named.{value_at, HaveRisingNames}
+use Rattle.scene_json.specs.Parts.{names_of}
 use Rattle.scene_json.specs.Value.{IsCompact}
 use Rattle.frac_keys.specs.Keys.{bytes_less}
-use Rattle.file_table.specs.Table.{takes_place, least_entry, AreFilesOf, EntriesNest, IsTable}
+use Rattle.file_table.specs.Table.{takes_place, least_entry, AreFilesOf, EntriesNest, HaveFiles}
+use Rattle.elem.specs.Texts.{sorted_members}
+use Rattle.file_table.proofs.ById.{value-by_id, rising-by_id}
 use Rattle.file_table.proofs.Lesser.{lesser_either, lesser_either-none}
 use Rattle.file_table.proofs.Least.{least-append, least-own}
-
--- a look-up by the order is one by the bytes
-pub lookup-ordered : (id : List ℕ) (files : List Pair) → lookup (is_at (slice_cmp nat_cmp id)) files ≡ value_at id files
-lookup-ordered id files = ap (λ test. lookup test files) (λ i other. sym (texts_ties id other) i)
-
-pub updated : (old new : List Pair) (id entry : List ℕ)
-    → ((q : List ℕ) → lookup (is_at (slice_cmp nat_cmp q)) new ≡ cond (is_at (slice_cmp nat_cmp id) q) (Some entry) (lookup (is_at (slice_cmp nat_cmp q)) old))
-    → (q : List ℕ) → value_at q new ≡ cond (bytes_eq q id) (Some entry) (value_at q old)
-updated old new id entry updates q =
-    sym (lookup-ordered q new) ∙ updates q
-    ∙ ap (λ b. cond b (Some entry) (lookup (is_at (slice_cmp nat_cmp q)) old)) (sym (texts_ties id q) ∙ nat_list_eq_equiv.symm id q)
-    ∙ ap (cond (bytes_eq q id) (Some entry)) (lookup-ordered q old)
 
 -- what the table and the one entry have for an id
 least-one : (old : List Pair) (id entry : List ℕ) (q : List ℕ) → HaveRisingNames old → least_entry (old ++ (id, entry) ∷ []) q ≡ lesser_either (value_at q old) (cond (bytes_eq q id) (Some entry) None)
@@ -43,7 +32,7 @@ kept : (entry : List ℕ) (o : Option (List ℕ)) → takes_place o entry ≡ fa
 kept entry None h = absurd (both_ways true h refl)
 kept entry (Some old) h = ap Some (cond-false (bytes_less entry old) entry old h)
 
-pub AreFilesOf-taken : (old new : List Pair) (id entry : List ℕ) → HaveRisingNames old → HaveRisingNames new → takes_place (value_at id old) entry ≡ true
+AreFilesOf-taken : (old new : List Pair) (id entry : List ℕ) → HaveRisingNames old → HaveRisingNames new → takes_place (value_at id old) entry ≡ true
     → ((q : List ℕ) → value_at q new ≡ cond (bytes_eq q id) (Some entry) (value_at q old)) → AreFilesOf (old ++ (id, entry) ∷ []) new
 AreFilesOf-taken old new id entry rising still takes each = record { ordered = still; each = λ q. go q (cases_Bool (bytes_eq q id)) }
   where
@@ -60,7 +49,7 @@ AreFilesOf-taken old new id entry rising still takes each = record { ordered = s
         ∙ ap (lesser_either (value_at q old)) (sym (cond-false (bytes_eq q id) (Some entry) None f))
         ∙ sym (least-one old id entry q rising)
 
-pub AreFilesOf-kept : (old : List Pair) (id entry : List ℕ) → HaveRisingNames old → takes_place (value_at id old) entry ≡ false → AreFilesOf (old ++ (id, entry) ∷ []) old
+AreFilesOf-kept : (old : List Pair) (id entry : List ℕ) → HaveRisingNames old → takes_place (value_at id old) entry ≡ false → AreFilesOf (old ++ (id, entry) ∷ []) old
 AreFilesOf-kept old id entry rising stays = record { ordered = rising; each = λ q. go q (cases_Bool (bytes_eq q id)) }
   where
     go : (q : List ℕ) → (bytes_eq q id ≡ true) ⊎ (bytes_eq q id ≡ false) → value_at q old ≡ least_entry (old ++ (id, entry) ∷ []) q
@@ -75,17 +64,28 @@ AreFilesOf-kept old id entry rising stays = record { ordered = rising; each = λ
         ∙ ap (lesser_either (value_at q old)) (sym (cond-false (bytes_eq q id) (Some entry) None f))
         ∙ sym (least-one old id entry q rising)
 
-EntriesNest-insert : (limit : ℕ) (files : List Pair) (id entry : List ℕ) → EntriesNest limit files → IsCompact limit entry → EntriesNest limit (insert_entry (slice_cmp nat_cmp) files id entry)
+EntriesNest-insert : (limit : ℕ) (files : List Pair) (id entry : List ℕ) → EntriesNest limit files → IsCompact limit entry → EntriesNest limit (insert_entry bytes_eq files id entry)
 EntriesNest-insert limit [] id entry nest h = (h, tt)
 EntriesNest-insert limit (file ∷ files) id entry nest h =
-    elim (slice_cmp nat_cmp id file.0) as (λ o. EntriesNest limit (match_ordering o ((id, entry) ∷ file ∷ files) ((file.0, entry) ∷ files) (file ∷ insert_entry (slice_cmp nat_cmp) files id entry))) [
-      | Less ↦ (h, nest)
-      | Equal ↦ (h, nest.1)
-      | Greater ↦ (nest.0, EntriesNest-insert limit files id entry nest.1 h)
+    elim (bytes_eq id file.0) as (λ b. EntriesNest limit (if b then (file.0, entry) ∷ files else file ∷ insert_entry bytes_eq files id entry)) [
+      | true ↦ (h, nest.1)
+      | false ↦ (nest.0, EntriesNest-insert limit files id entry nest.1 h)
     ]
 
-pub IsTable-insert : (old new : List Pair) (id entry : List ℕ) → IsTable old → IsCompact 126 entry → new ≡ insert_entry (slice_cmp nat_cmp) old id entry → HaveRisingNames new → IsTable new
-IsTable-insert old new id entry table h is rising = record {
-  ordered = rising;
-  nest = subst (EntriesNest 126) (sym is) (EntriesNest-insert 126 old id entry table.nest h);
+pub HaveFiles-insert : (old new : List Pair) (id entry : List ℕ) → HaveFiles old → IsCompact 126 entry → new ≡ insert_entry bytes_eq old id entry → IsDistinct bytes_eq (names_of new) → HaveFiles new
+HaveFiles-insert old new id entry has h is distinct = record {
+  distinct = distinct;
+  nest = subst (EntriesNest 126) (sym is) (EntriesNest-insert 126 old id entry has.nest h);
 }
+
+-- ---- entries in whatever order
+pub by_id-taken : (old new : List Pair) (id entry : List ℕ) → HaveFiles old → HaveFiles new → takes_place (value_at id old) entry ≡ true
+    → ((q : List ℕ) → value_at q new ≡ cond (bytes_eq id q) (Some entry) (value_at q old)) → AreFilesOf (sorted_members old ++ (id, entry) ∷ []) (sorted_members new)
+by_id-taken old new id entry has gets takes each =
+    AreFilesOf-taken (sorted_members old) (sorted_members new) id entry (rising-by_id old has.distinct) (rising-by_id new gets.distinct)
+    (ap (λ o. takes_place o entry) (value-by_id id old) ∙ takes)
+    (λ q. value-by_id q new ∙ each q ∙ ap (λ b. cond b (Some entry) (value_at q old)) (nat_list_eq_equiv.symm id q) ∙ ap (cond (bytes_eq q id) (Some entry)) (sym (value-by_id q old)))
+
+pub by_id-kept : (old : List Pair) (id entry : List ℕ) → HaveFiles old → takes_place (value_at id old) entry ≡ false → AreFilesOf (sorted_members old ++ (id, entry) ∷ []) (sorted_members old)
+by_id-kept old id entry has stays =
+    AreFilesOf-kept (sorted_members old) id entry (rising-by_id old has.distinct) (ap (λ o. takes_place o entry) (value-by_id id old) ∙ stays)

@@ -1,9 +1,10 @@
 -- Tables of files: for each id an entry, which is a compact text. That the least of several entries counts is this
 -- project's own.
 use Rattle.std.specs.Prelude.{◌≡◌, ℕ, List, [], ◌∷◌, Bool, true, false, Option, Some, None, Contains, bytes_eq, if◌then◌else◌}
-use Rattle.std.specs.List.{AllByRecursion}
+use Rattle.std.specs.List.{AllByRecursion, IsDistinct}
 use Rattle.scene_json.specs.Compact.{Member as Pair}
 use Rattle.scene_json.specs.Named.{value_at, HaveRisingNames}
+use Rattle.scene_json.specs.Parts.{names_of}
 use Rattle.scene_json.specs.Value.{IsCompact}
 use Rattle.frac_keys.specs.Keys.{bytes_less}
 
@@ -41,7 +42,7 @@ pub record AreFilesOf (given files : List Pair) : Type 0 where
 abbrev pub EntriesNest : ℕ → List Pair → Type 0
 EntriesNest limit files = AllByRecursion (λ (file : Pair). IsCompact limit file.1) files
 
--- The ids rise, and each entry nests at most 126, so that a scene with it nests at most 128.
-pub record IsTable (files : List Pair) : Type 0 where
-  pub ordered : HaveRisingNames files
-  pub nest : EntriesNest 126 files
+-- No id comes twice, and each entry nests at most 126, so that a scene with it nests at most 128.
+pub record HaveFiles (entries : List Pair) : Type 0 where
+  pub distinct : IsDistinct bytes_eq (names_of entries)
+  pub nest : EntriesNest 126 entries

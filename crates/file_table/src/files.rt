@@ -11,32 +11,33 @@ ghost use Rattle.file_table.specs.Table.{AreFilesOf, EntriesNest};
 ghost use Rattle.file_table.specs.References.{referred_files};
 
 use crate::references::{found, references};
-use crate::table::{keep_lesser, members_of};
+use crate::table::{Entries, keep_lesser, members_by_id};
 use board_io::List;
 use elem::Element;
 use first_texts::first_occurrences;
 use scene_json::{Member, Raw, Text};
 use std::alloc::{AllocError, Global};
-use std::collections::BTreeMap;
+use std::hash::BuildHasherDefault;
 use std::marker::Model;
 
-/// The entries of files by their ids, in the order of these.
+/// The entries of files by their ids.
 #[derive(Drop)]
 pub struct Files {
-    entries: BTreeMap<Text, Raw>,
+    entries: Entries,
     alloc: Global,
 }
 
 impl Model for Files {
     ghost use Rattle.std.specs.Prelude.{List as Items};
     ghost use Rattle.scene_json.specs.Compact.{Member as Pair};
-    ghost use Rattle.file_table.specs.Table.{IsTable};
+    ghost use Rattle.elem.specs.Texts.{sorted_members};
+    ghost use Rattle.file_table.specs.Table.{HaveFiles};
 
     ghost Value = { Items Pair };
 
-    ghost view = { λ f. f.entries.entries };
+    ghost view = { λ f. sorted_members f.entries.entries };
 
-    ghost invariant = { λ f. IsTable f.entries.entries };
+    ghost invariant = { λ f. HaveFiles f.entries.entries };
 }
 
 impl Files {
@@ -45,7 +46,7 @@ impl Files {
         ensures { result ≡ [] }
     {
         Files {
-            entries: BTreeMap::new(alloc),
+            entries: Entries::with_hasher(alloc, BuildHasherDefault::new()),
             alloc,
         }
     }
@@ -77,6 +78,6 @@ impl Files {
         ensures ordered { IfOk result (λ members. HaveRisingNames (pairs members)) }
         ensures nest { IfOk result (λ members. EntriesNest 126 (pairs members)) }
     {
-        Ok(List::from_vec(members_of(self.alloc, &self.entries)?))
+        Ok(List::from_vec(members_by_id(self.alloc, &self.entries)?))
     }
 }

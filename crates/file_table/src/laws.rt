@@ -1,9 +1,14 @@
 //! Laws on files, for all of them. They do nothing when they run.
 
-ghost use Rattle.std.specs.Prelude.{◌≡◌, ◌↔◌, ◌⊎◌, ℕ, List, [], ◌++◌, Some, Contains};
+ghost use Rattle.std.specs.Prelude.{◌≡◌, ◌↔◌, ◌⊎◌, ℕ, List, [], ◌++◌, None, Some, is_some, filter, bytes_eq, if◌then◌else◌, Contains};
+ghost use Rattle.std.specs.List.{list_any};
 ghost use Rattle.scene_json.specs.Compact.{Member as Pair};
-ghost use Rattle.scene_json.specs.Named.{HaveRisingNames};
+ghost use Rattle.scene_json.specs.Named.{HaveRisingNames, value_at};
+ghost use Rattle.scene_json.specs.Parts.{names_of};
 ghost use Rattle.scene_json.specs.Value.{IsCompact};
+ghost use Rattle.first_texts.specs.FirstOccurrences.{first_occurrences};
+ghost use Rattle.elem.specs.Drawn.{Drawn};
+ghost use Rattle.file_table.specs.References.{references, referred_files};
 ghost use Rattle.file_table.specs.Picture.{HasData, IsPictureSize};
 ghost use Rattle.file_table.specs.Table.{least_entry, IsLeast, AreFilesOf};
 
@@ -34,6 +39,15 @@ pub fn files_join()
 /// The entries that are given have a table of files.
 pub fn files_exist()
     ensures { (given : List Pair) → (files : List Pair) × AreFilesOf given files }
+{}
+
+/// A file is referred exactly if an element names it, as images alone do, and the table has it; and then with the entry of
+/// the table, in the order in which they are first named.
+pub fn referred_files_are_named()
+    ensures exact { (files : List Pair) (elements : List Drawn) (id : List ℕ) → value_at id (referred_files files elements)
+        ≡ (if list_any (bytes_eq id) (references elements) then value_at id files else None) }
+    ensures order { (files : List Pair) (elements : List Drawn) → names_of (referred_files files elements)
+        ≡ filter (λ id. is_some (value_at id files)) (first_occurrences (references elements)) }
 {}
 
 /// An entry has a picture of some size, or data that is no base64, or no data.

@@ -5,11 +5,10 @@ ghost use Rattle.scene_json.specs.Members.{pairs};
 ghost use Rattle.file_table.specs.References as specs;
 ghost use Rattle.file_table.specs.References.{file_of};
 
-use crate::table::entry_of;
+use crate::table::{Entries, entry_of};
 use elem::Element;
-use scene_json::{Member, Raw, Text};
+use scene_json::{Member, Text};
 use std::alloc::{AllocError, Global};
-use std::collections::BTreeMap;
 
 /// The ids of files that elements name, in the order of the elements.
 pub(crate) fn references(alloc: Global, list: &[Element]) -> Result<Vec<Text>, AllocError>
@@ -34,7 +33,7 @@ fn file_of(e: &Element) -> Result<Option<Text>, AllocError>
 /// The files of these ids that are there.
 pub(crate) fn found(
     alloc: Global,
-    entries: &BTreeMap<Text, Raw>,
+    entries: &Entries,
     ids: Vec<Text>,
 ) -> Result<Vec<Member>, AllocError>
     ensures { IfOk result (λ members. pairs members.items ≡ filter_map (file_of entries.now.entries) ids.items) }

@@ -1,25 +1,27 @@
-//! Entries in the order of their ids.
+//! Entries by their ids.
 
 ghost use Rattle.std.specs.Prelude.{◌≡◌, [], ◌∷◌, ◌++◌, IfOk, OnOk, OnErr, option_copied};
 ghost use Rattle.scene_json.specs.Named.{value_at};
 ghost use Rattle.scene_json.specs.Members.{pair_of, pairs};
 ghost use Rattle.scene_json.specs.Value.{IsCompact};
-ghost use Rattle.file_table.specs.Table.{takes_place, AreFilesOf, IsTable};
+ghost use Rattle.elem.specs.Texts.{sorted_members};
+ghost use Rattle.file_table.specs.Table.{takes_place, AreFilesOf, HaveFiles};
 
+use indexmap::IndexMap;
 use scene_json::{Member, Raw, Text};
 use std::alloc::{AllocError, Global};
-use std::collections::BTreeMap;
+use std::hash::{BuildHasherDefault, DefaultHasher};
+
+/// Entries by their ids, in the order in which these came.
+pub(crate) type Entries = IndexMap<Text, Raw, BuildHasherDefault<DefaultHasher>>;
 
 /// Adds an entry, or keeps the lesser one where the id has one. For want of memory nothing is changed.
-pub(crate) fn keep_lesser(
-    entries: &mut BTreeMap<Text, Raw>,
-    id: Text,
-    entry: Raw,
-) -> Result<(), AllocError>
+pub(crate) fn keep_lesser(entries: &mut Entries, id: Text, entry: Raw) -> Result<(), AllocError>
     requires nest { IsCompact 126 entry }
-    requires table { IsTable entries.old.entries }
-    ensures taken { OnOk result (AreFilesOf (entries.old.entries ++ (id, entry) ∷ []) entries.new.entries) }
-    ensures table { IsTable entries.new.entries }
+    requires table { HaveFiles entries.old.entries }
+    ensures taken { OnOk result
+        (AreFilesOf (sorted_members entries.old.entries ++ (id, entry) ∷ []) (sorted_members entries.new.entries)) }
+    ensures table { HaveFiles entries.new.entries }
     ensures err { OnErr result (entries.new.entries ≡ entries.old.entries) }
 {
     if takes_place(entries, &id, &entry) {
@@ -29,7 +31,7 @@ pub(crate) fn keep_lesser(
 }
 
 /// Whether the id has no entry, or a greater one.
-fn takes_place(entries: &BTreeMap<Text, Raw>, id: &Text, entry: &Raw) -> bool
+fn takes_place(entries: &Entries, id: &Text, entry: &Raw) -> bool
     ensures { result ≡ takes_place (value_at id.now entries.now.entries) entry.now }
 {
     match entry_of(entries, id) {
@@ -39,17 +41,24 @@ fn takes_place(entries: &BTreeMap<Text, Raw>, id: &Text, entry: &Raw) -> bool
 }
 
 /// The entry of an id, if there is one.
-pub(crate) fn entry_of<'a>(entries: &'a BTreeMap<Text, Raw>, id: &Text) -> Option<&'a Raw>
+pub(crate) fn entry_of<'a>(entries: &'a Entries, id: &Text) -> Option<&'a Raw>
     ensures { option_copied result ≡ value_at id.now entries.now.entries }
 {
     entries.get(id)
 }
 
 /// The entries as members, in the order of their ids.
-pub(crate) fn members_of(
-    alloc: Global,
-    entries: &BTreeMap<Text, Raw>,
-) -> Result<Vec<Member>, AllocError>
+pub(crate) fn members_by_id(alloc: Global, entries: &Entries) -> Result<Vec<Member>, AllocError>
+    requires { HaveFiles entries.now.entries }
+    ensures { IfOk result (λ members. pairs members.items ≡ sorted_members entries.now.entries) }
+{
+    let mut members = members_of(alloc, entries)?;
+    members.sort_by(|a, b| a.name.cmp(&b.name))?;
+    Ok(members)
+}
+
+/// The entries as members, in the order in which their ids came.
+fn members_of(alloc: Global, entries: &Entries) -> Result<Vec<Member>, AllocError>
     ensures { IfOk result (λ members. pairs members.items ≡ entries.now.entries) }
 {
     let mut members = Vec::with_capacity(alloc, entries.len())?;

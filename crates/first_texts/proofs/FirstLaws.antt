@@ -76,7 +76,7 @@ either_way : (same among : Bool) → (same || (not same && among)) ≡ (same || 
 either_way true among = refl
 either_way false among = refl
 
-any-first_occurrences : (texts : List (List ℕ)) (text : List ℕ) → list_any (bytes_eq text) (first_occurrences texts) ≡ list_any (bytes_eq text) texts
+pub any-first_occurrences : (texts : List (List ℕ)) (text : List ℕ) → list_any (bytes_eq text) (first_occurrences texts) ≡ list_any (bytes_eq text) texts
 any-first_occurrences [] text = refl
 any-first_occurrences (first ∷ texts) text =
     let same = bytes_eq text first in

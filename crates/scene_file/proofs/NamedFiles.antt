@@ -11,21 +11,14 @@ use Rattle.scene_json.specs.Parts.{AreMembers}
 use Rattle.scene_json.specs.Value.{IsCompact}
 use Rattle.scene_json.proofs.Collapsed.{bytes_eq-true, bytes_eq-same}
 use Rattle.scene_json.proofs.Lookups.{IsBelow, rising_parts, rising_from, rising_none}
-use Rattle.first_texts.specs.FirstOccurrences.{is_other, first_occurrences}
+use Rattle.first_texts.specs.FirstOccurrences.{first_occurrences}
 use Rattle.first_texts.proofs.FirstLaws.{IsDistinct-first_occurrences, Contains-first_occurrences}
 use Rattle.elem.specs.Drawn.{Drawn}
 use Rattle.elem.specs.Forms.{find_in}
 use Rattle.elem_read.proofs.Keeping.{AllFound, found-has}
 use Rattle.elem_store.proofs.Lists.{list_any-false}
 use Rattle.file_table.specs.References.{references, referred_files}
-use Rattle.file_table.proofs.Referred.{found, IsDistinct-found}
-
-abbrev missing : Option (List ℕ)
-missing = None
-
-none-either : (b : Bool) → cond b missing missing ≡ missing
-none-either true = refl
-none-either false = refl
+use Rattle.file_table.proofs.Referred.{found, none-either, referred-at, IsDistinct-found}
 
 -- ---- members of names that pass
 abbrev passed : (List ℕ → Bool) → List Pair → List Pair
@@ -71,33 +64,6 @@ passed-rise test (file ∷ files) rise =
     ]
 
 -- ---- members of some names
-found-at : (files : List Pair) (ids : List (List ℕ)) (name : List ℕ) → value_at name (found files ids) ≡ cond (list_any (bytes_eq name) ids) (value_at name files) None
-found-at files [] name = refl
-found-at files (id ∷ ids) name = go (value_at id files) refl (found-at files ids name)
-  where
-    more-at : value_at name files ≡ None → value_at name (found files ids) ≡ cond (list_any (bytes_eq name) ids) (value_at name files) None → value_at name (found files ids) ≡ None
-    more-at none more =
-        more ∙ (ap (λ (o : Option (List ℕ)). cond (list_any (bytes_eq name) ids) o None) none ∙ none-either (list_any (bytes_eq name) ids))
-
-    go : (o : Option (List ℕ)) → value_at id files ≡ o → value_at name (found files ids) ≡ cond (list_any (bytes_eq name) ids) (value_at name files) None
-        → value_at name (cons_option (option_map (λ entry. (id, entry)) o) (found files ids)) ≡ cond (bytes_eq name id || list_any (bytes_eq name) ids) (value_at name files) None
-    go None none more =
-        elim (cases_Bool (bytes_eq name id)) [
-          | inl same ↦
-              let gone : value_at name files ≡ None = ap (λ n. value_at n files) (bytes_eq-true name id same) ∙ none in
-              more-at gone more ∙ sym (ap (λ b. cond (b || list_any (bytes_eq name) ids) (value_at name files) None) same ∙ gone)
-          | inr other ↦ more ∙ ap (λ b. cond (b || list_any (bytes_eq name) ids) (value_at name files) None) (sym other)
-        ]
-    go (Some entry) some more =
-        elim (cases_Bool (bytes_eq name id)) [
-          | inl same ↦
-              lookup_head (bytes_eq name) (id, entry) (found files ids) same
-              ∙ sym (ap (λ b. cond (b || list_any (bytes_eq name) ids) (value_at name files) None) same ∙ (ap (λ n. value_at n files) (bytes_eq-true name id same) ∙ some))
-          | inr other ↦
-              lookup_tail (bytes_eq name) (id, entry) (found files ids) other
-              ∙ (more ∙ ap (λ b. cond (b || list_any (bytes_eq name) ids) (value_at name files) None) (sym other))
-        ]
-
 -- what holds of all that is found holds of the members of some names
 found-each : (P : List ℕ → List ℕ → Type 0) (files : List Pair) (ids : List (List ℕ)) → AllFound P (find_in files) → AllByRecursion (λ (m : Pair). P m.0 m.1) (found files ids)
 found-each P files [] all = tt
@@ -115,26 +81,6 @@ found-same files others (id ∷ ids) same =
     ap₂ (λ o rest. cons_option (option_map (λ entry. (id, entry)) o) rest) same.0 (found-same files others ids same.1)
 
 -- ---- the names that come in a list
-other-any : (name text : List ℕ) (texts : List (List ℕ)) → bytes_eq name text ≡ false → list_any (bytes_eq name) (filter (is_other text) texts) ≡ list_any (bytes_eq name) texts
-other-any name text [] apart = refl
-other-any name text (first ∷ texts) apart = go (bytes_eq first text) refl (other-any name text texts apart)
-  where
-    go : (b : Bool) → bytes_eq first text ≡ b → list_any (bytes_eq name) (filter (is_other text) texts) ≡ list_any (bytes_eq name) texts
-        → list_any (bytes_eq name) (cond (not b) (first ∷ filter (is_other text) texts) (filter (is_other text) texts)) ≡ (bytes_eq name first || list_any (bytes_eq name) texts)
-    go true same more =
-        let differs : bytes_eq name first ≡ false = ap (bytes_eq name) (bytes_eq-true first text same) ∙ apart in
-        more ∙ ap (λ b. b || list_any (bytes_eq name) texts) (sym differs)
-    go false other more = ap (λ b. bytes_eq name first || b) more
-
-first-any : (name : List ℕ) (texts : List (List ℕ)) → list_any (bytes_eq name) (first_occurrences texts) ≡ list_any (bytes_eq name) texts
-first-any name [] = refl
-first-any name (text ∷ texts) =
-    elim (cases_Bool (bytes_eq name text)) [
-      | inl same ↦
-          ap (λ b. b || list_any (bytes_eq name) (filter (is_other text) (first_occurrences texts))) same ∙ sym (ap (λ b. b || list_any (bytes_eq name) texts) same)
-      | inr apart ↦ ap (λ b. bytes_eq name text || b) (other-any name text (first_occurrences texts) apart ∙ first-any name texts)
-    ]
-
 contained-any : (name : List ℕ) (names : List (List ℕ)) → Contains names name → list_any (bytes_eq name) names ≡ true
 contained-any name names c =
     true_from_ne_false (list_any (bytes_eq name) names) (λ none. both_ways (bytes_eq name name) (list_any-false (bytes_eq name) names name none c) (bytes_eq-same name))
@@ -143,8 +89,7 @@ contained-any name names c =
 module _ (files : List Pair) (elements : List Drawn) where
   pub named-same : AreSameMembers (filter (λ (file : Pair). list_any (bytes_eq file.0) (references elements)) files) (referred_files files elements)
   named-same name =
-      passed-at (λ (id : List ℕ). list_any (bytes_eq id) (references elements)) files name
-      ∙ (ap (λ b. cond b (value_at name files) None) (sym (first-any name (references elements))) ∙ sym (found-at files (first_occurrences (references elements)) name))
+      passed-at (λ (id : List ℕ). list_any (bytes_eq id) (references elements)) files name ∙ sym (referred-at files elements name)
 
   pub named-rise : HaveRisingNames files → HaveRisingNames (filter (λ (file : Pair). list_any (bytes_eq file.0) (references elements)) files)
   named-rise rise = passed-rise (λ (id : List ℕ). list_any (bytes_eq id) (references elements)) files rise

@@ -2,9 +2,20 @@ use Rattle.std.proofs.Common.{bytes_eq, sym, ap, ◌∙◌, subst}
 use Rattle.std.specs.List.{IsDistinct}
 use Rattle.scene_json.specs.Members.{pairs}
 use Rattle.scene_json.specs.Parts.{names_of}
+use Rattle.first_texts.specs.FirstOccurrences.{first_occurrences}
+use Rattle.elem.specs.Texts.{sorted_members}
+use Rattle.file_table.specs.References.{referred_files}
 use Rattle.file_table.specs.Table.{EntriesNest}
-use Rattle.file_table.proofs.Referred.{IsDistinct-found, EntriesNest-found}
+use Rattle.file_table.proofs.Referred.{found, found-by_id, IsDistinct-found, EntriesNest-found}
 use Rattle.file_table.proofs.files.Files.referred.Goals as goal
+
+pub returns-clause-exact : goal.returns-clause-exact
+returns-clause-exact c =
+    let files = c.self.inside.entries.entries in
+    ap pairs c.from_vec.ensures ∙ c.in_ok-found.ensures
+    ∙ found-by_id files c.in_ok-ids.ids.items
+    ∙ ap (found (sorted_members files)) (c.in_ok-ids.ensures.exact ∙ ap first_occurrences (c.as_slice.ensures.value ∙ c.in_ok-named.ensures))
+    ∙ ap (λ files. referred_files files c.args.list.now) c.self.view_is
 
 pub returns-clause-distinct : goal.returns-clause-distinct
 returns-clause-distinct c =
