@@ -1,5 +1,5 @@
 -- Each text behind an offset is a scene or has a first fault, and heads are joined to one.
-use Rattle.std.proofs.Common.{◌≡◌, ◌≢◌, ◌⊎◌, inl, inr, ℕ, zero, suc, ◌≤◌, ◌<◌, List, [], ◌∷◌, Bool, true, false, Option, Some, None, length, drop, codes, bytes_eq, if◌then◌else◌, refl, sym, ap, subst, ◌∙◌, lit≤}
+use Rattle.std.proofs.Common.{◌≡◌, ◌≢◌, ◌⊎◌, inl, inr, ℕ, ◌≤◌, ◌<◌, List, [], Bool, true, false, Option, Some, None, length, drop, codes, bytes_eq, if◌then◌else◌, refl, sym, ap, subst, ◌∙◌, lit≤}
 use Rattle.std.specs.List.{AllByRecursion}
 use Rattle.std.proofs.lemmas.Bool.{cases_Bool, both_ways}
 use Rattle.scene_json.specs.Compact.{Member as Pair, object_text}
@@ -8,15 +8,11 @@ use Rattle.scene_json.specs.Parts.{AreMembers, names_of}
 use Rattle.scene_json.specs.Tree.{null_word}
 use Rattle.scene_json.specs.Value.{IsCompact, Stands}
 use Rattle.scene_json.proofs.Collapsed.{bytes_eq-true, bytes_eq-same}
-use Rattle.scene_json.proofs.CompactLaws.{Value-compact, Value-deeper}
+use Rattle.scene_json.proofs.CompactLaws.{Value-compact}
 use Rattle.scene_json.proofs.Decided.{array-or-not, object-or-not, value-or-fault}
 use Rattle.scene_json.proofs.Rising.{tabled}
-use Rattle.elem.specs.Drawn.{Drawn}
 use Rattle.elem.specs.Forms.{find_in, IsText, IsObject}
 use Rattle.elem.proofs.FormsOnce.{text-once}
-use Rattle.elem_read.specs.Elements.{AreRead, IsFirstFaulty}
-use Rattle.elem_read.specs.Reading.{IsSelection, IsElementIn, IsFaultIn}
-use Rattle.elem_read.specs.declared.fault.ElemFault.{ElemFault}
 use Rattle.elem_read.proofs.Decided.{Decided, Fits, fits-in, text-or-not, unpaired, pairs-unpaired, not-named}
 use Rattle.elem_read.proofs.ReadElements.{read-or-faulty}
 use Rattle.file_table.specs.Table.{AreFilesOf}

@@ -1,5 +1,5 @@
 -- The files that elements name, in the order of their ids.
-use Rattle.std.proofs.Common.{◌≡◌, ℕ, List, [], ◌∷◌, Bool, true, false, cond, not, ◌||◌, Option, Some, None, Contains, filter, bytes_eq, refl, sym, ap, ap₂, ◌∙◌, inl, inr, IsUtf8}
+use Rattle.std.proofs.Common.{◌≡◌, ℕ, List, [], ◌∷◌, Bool, true, false, cond, Option, Some, None, Contains, filter, bytes_eq, refl, sym, ap, ap₂, ◌∙◌, inl, inr, IsUtf8}
 use Rattle.std.specs.List.{AllByRecursion, list_any, cons_option}
 use Rattle.std.specs.Option.{option_map}
 use Rattle.std.proofs.lemmas.Bool.{cases_Bool, cond-true, cond-false, true_from_ne_false, both_ways}
