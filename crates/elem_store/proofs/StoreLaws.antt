@@ -6,7 +6,8 @@ use Rattle.std.proofs.lemmas.Bool.{cases_Bool, cond-true, cond-false, false_from
 use Rattle.frac_keys.specs.Rising.{are_rising}
 use Rattle.elem.specs.Drawn.{Drawn}
 use Rattle.elem.specs.Order.{beats}
-use Rattle.elem_store.specs.Updates.{is_of, best_updates, stored_of, element_of, is_taken, ids_of, AreStored, HasTaken, IsFreeOfClashes, HaveSameUpdates, AreBest}
+use Rattle.elem.specs.Said.{AreElements}
+use Rattle.elem_store.specs.Updates.{is_of, best_updates, stored_of, element_of, is_taken, ids_of, AreStored, HasTaken, HaveSameUpdates, AreBest}
 use Rattle.elem_store.proofs.Ids.{same_id, of_itself}
 use Rattle.elem_store.proofs.Lists.{find-Some, find-None}
 use Rattle.elem_store.proofs.Leader.{next_leader, joined_leader, stored-push, stored-append}
@@ -53,12 +54,12 @@ AreStored-best updates elements e h c = stored-best updates e.id e (AreStored-st
 pub AreStored-ids : (updates elements : List Drawn) (id : List ℕ) → AreStored updates elements → is_some (element_of elements id) ≡ list_any (is_of id) updates
 AreStored-ids updates elements id h = ap is_some (h.each id) ∙ is_some-stored updates id
 
--- without a clash all best updates of an id are the same
-pub bests-same : (updates : List Drawn) (id : List ℕ) (e other : Drawn) → IsFreeOfClashes updates → Contains (best_updates updates id) e → Contains (best_updates updates id) other → e ≡ other
-bests-same updates id e other free c d =
-    best-same updates id e other free (IsBestOf-best updates id e c) (IsBestOf-best updates id other d)
+-- all best updates of an id are the same
+pub bests-same : (updates : List Drawn) (id : List ℕ) (e other : Drawn) → AreElements updates → Contains (best_updates updates id) e → Contains (best_updates updates id) other → e ≡ other
+bests-same updates id e other all c d =
+    best-same updates id e other all (IsBestOf-best updates id e c) (IsBestOf-best updates id other d)
 
--- what is stored is one of the best updates of each id
+-- what is stored is the best update of each id
 pub AreBest-stored : (updates elements : List Drawn) → AreStored updates elements → AreBest updates elements
 AreBest-stored updates elements h = record {
   ordered = h.ordered;
@@ -66,9 +67,9 @@ AreBest-stored updates elements h = record {
   best = λ e c. AreStored-best updates elements e h c;
 }
 
--- and without a clash one of the best updates of each id is what is stored
-pub AreStored-from_best : (updates chosen : List Drawn) → IsFreeOfClashes updates → AreBest updates chosen → AreStored updates chosen
-AreStored-from_best updates chosen free h = record { ordered = h.ordered; each = λ id. same id (element_of chosen id) (stored_of updates id) refl refl }
+-- and the best update of each id is what is stored
+pub AreStored-from_best : (updates chosen : List Drawn) → AreElements updates → AreBest updates chosen → AreStored updates chosen
+AreStored-from_best updates chosen all h = record { ordered = h.ordered; each = λ id. same id (element_of chosen id) (stored_of updates id) refl refl }
   where
     agree : (id : List ℕ) → is_some (element_of chosen id) ≡ is_some (stored_of updates id)
     agree id = h.each_id id ∙ sym (is_some-stored updates id)
@@ -80,7 +81,7 @@ AreStored-from_best updates chosen free h = record { ordered = h.ordered; each =
     same id (Some e) (Some f) k l =
         let found = find-Some (is_of id) chosen e k in
         let among = subst (λ i. Contains (best_updates updates i) e) (sym (same_id id e found.1)) (h.best e found.0) in
-        ap Some (bests-same updates id e f free among (stored-best updates id f l))
+        ap Some (bests-same updates id e f all among (stored-best updates id f l))
 
 -- a best update is one in each list of the same updates
 same-best : (updates others : List Drawn) (id : List ℕ) (e : Drawn) → HaveSameUpdates updates others → IsBestOf others id e → IsBestOf updates id e
@@ -90,20 +91,20 @@ same-best updates others id e same best = record {
   unbeaten = λ other c of. best.unbeaten other (same.in_others other c) of;
 }
 
-same-stored : (updates others : List Drawn) (id : List ℕ) (o o' : Option Drawn) → HaveSameUpdates updates others → IsFreeOfClashes updates → stored_of updates id ≡ o → stored_of others id ≡ o' → o ≡ o'
-same-stored updates others id None None same free h k = refl
-same-stored updates others id (Some e) None same free h k =
+same-stored : (updates others : List Drawn) (id : List ℕ) (o o' : Option Drawn) → HaveSameUpdates updates others → AreElements updates → stored_of updates id ≡ o → stored_of others id ≡ o' → o ≡ o'
+same-stored updates others id None None same all h k = refl
+same-stored updates others id (Some e) None same all h k =
     let best = IsBestOf-stored updates id e h in absurd (stored-None others id e k (same.in_others e best.taken) best.named)
-same-stored updates others id None (Some e) same free h k =
+same-stored updates others id None (Some e) same all h k =
     let best = IsBestOf-stored others id e k in absurd (stored-None updates id e h (same.in_updates e best.taken) best.named)
-same-stored updates others id (Some e) (Some f) same free h k =
-    ap Some (best-same updates id e f free (IsBestOf-stored updates id e h) (same-best updates others id f same (IsBestOf-stored others id f k)))
+same-stored updates others id (Some e) (Some f) same all h k =
+    ap Some (best-same updates id e f all (IsBestOf-stored updates id e h) (same-best updates others id f same (IsBestOf-stored others id f k)))
 
--- two lists of the same updates, free of clashes, have one store
-pub stores-converge : (updates others elements news : List Drawn) → HaveSameUpdates updates others → IsFreeOfClashes updates → AreStored updates elements → AreStored others news → elements ≡ news
-stores-converge updates others elements news same free h k =
+-- two lists of the same updates have one store
+pub stores-converge : (updates others elements news : List Drawn) → HaveSameUpdates updates others → AreElements updates → AreStored updates elements → AreStored others news → elements ≡ news
+stores-converge updates others elements news same all h k =
     same_elements elements news h.ordered k.ordered (λ id.
-    h.each id ∙ same-stored updates others id (stored_of updates id) (stored_of others id) same free refl refl ∙ sym (k.each id))
+    h.each id ∙ same-stored updates others id (stored_of updates id) (stored_of others id) same all refl refl ∙ sym (k.each id))
 
 -- a list in which the ids rise is its own store
 pub AreStored-itself : (elements : List Drawn) → are_rising (ids_of elements) ≡ true → AreStored elements elements

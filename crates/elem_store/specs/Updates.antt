@@ -1,5 +1,4 @@
--- What is stored of a list of updates. Source: Excalidraw's reconcile; that among equal bests the first counts is this
--- project's own.
+-- What is stored of a list of updates. Source: Excalidraw's reconcile.
 use Rattle.std.specs.Prelude.{◌≡◌, ℕ, List, Bool, true, not, ◌&&◌, ◌==◌, Option, Some, is_some, Contains, find, filter, map, bytes_eq, if◌then◌else◌}
 use Rattle.std.specs.List.{list_any}
 use Rattle.std.specs.Option.{option_map_or}
@@ -23,7 +22,7 @@ is_best updates id e = is_of id e && is_unbeaten updates e
 abbrev pub best_updates : List Drawn → List ℕ → List Drawn
 best_updates updates id = filter (is_best updates id) updates
 
--- the stored element of an id: the first of its best updates in the list's order
+-- the stored element of an id: its best update, of which there is one alone, since those that none beats have one text
 unfoldable pub stored_of : List Drawn → List ℕ → Option Drawn
 stored_of updates id = find (is_best updates id) updates
 
@@ -50,11 +49,12 @@ pub record HasTaken (old : List Drawn) (e : Drawn) (new : List Drawn) : Type 0 w
   pub ordered : are_rising (ids_of new) ≡ true
   pub each : (id : List ℕ) → element_of new id ≡ (if is_of id e && is_taken old e then Some e else element_of old id)
 
--- whether the ids, versions and nonces of two updates agree, so that neither beats the other
+-- whether the ids, versions and nonces of two updates agree, so that their texts decide
 abbrev pub are_tied : Drawn → Drawn → Bool
 are_tied e other = bytes_eq e.id other.id && (e.version == other.version && e.nonce == other.nonce)
 
--- Two updates clash where their id, version and nonce agree and they aren't the same; none do.
+-- Two updates clash where their id, version and nonce agree and they aren't the same; none do. A clash is told, and
+-- decides nothing.
 abbrev pub IsFreeOfClashes : List Drawn → Type 0
 IsFreeOfClashes updates =
     (e other : Drawn) → Contains updates e → Contains updates other → are_tied e other ≡ true → e ≡ other
@@ -64,7 +64,7 @@ pub record HaveSameUpdates (updates others : List Drawn) : Type 0 where
   pub in_others : (e : Drawn) → Contains updates e → Contains others e
   pub in_updates : (e : Drawn) → Contains others e → Contains updates e
 
--- These elements are one of the best updates of each id, in the order of the ids.
+-- These elements are the best update of each id, in the order of the ids.
 pub record AreBest (updates chosen : List Drawn) : Type 0 where
   pub ordered : are_rising (ids_of chosen) ≡ true
   pub each_id : (id : List ℕ) → is_some (element_of chosen id) ≡ list_any (is_of id) updates
