@@ -80,7 +80,7 @@ pub fn board<S: Source, K: Sink, N: Sink, L: Links>(
 {
     match run(alloc, words, input, output) {
         Ok(()) => Status::Done,
-        Err(fault) => fault.noted(alloc, notes),
+        Err(fault) => fault.noted(notes),
     }
 }
 
