@@ -8,6 +8,7 @@ use Rattle.commands.specs.declared.status.Status.{Status}
 use Rattle.commands.specs.declared.status.Status.TheVariants.{Done, Refused, WriteFault}
 use Rattle.commands.specs.declared.status.Fault.{Fault}
 use Rattle.commands.specs.declared.status.Fault.TheVariants as fault
+use Rattle.commands.specs.declared.status.Refusal.{Refusal}
 use Rattle.commands.specs.declared.words.Command.{Command}
 
 -- how many bytes an input has at most
@@ -53,15 +54,16 @@ WasDoneInPart command before after out out_after =
     ((n : ℕ) × WasAnswered command before after out out_after (take n)) × Rose out.faults out_after.faults
 
 -- The input gave one byte more than the limit; or it was read to its end, and the command that was asked for answers it
--- with this fault.
+-- with this refusal.
 abbrev pub WasRefused : Option Command → Fault → SourceEnd → SourceEnd → Type 0
 WasRefused command fault.TooLong before after = GaveTooMuch before after
-WasRefused command found before after =
+WasRefused command (fault.Refused found) before after =
     (asked : Command) × (command ≡ Some asked) × (bytes : List ℕ) × WasRead before after bytes × IsAnswer asked bytes (Err found)
+WasRefused command other before after = ⊥
 
 -- How a run ends whose input has this answer: Done, and the text was written, or WriteFault, where the output's count of
 -- faults rose; or Refused, and the notes tell the fault.
-abbrev pub EndsWith : Result (List ℕ) Fault → Status → SinkEnd → SinkEnd → SinkEnd → SinkEnd → Type 0
+abbrev pub EndsWith : Result (List ℕ) Refusal → Status → SinkEnd → SinkEnd → SinkEnd → SinkEnd → Type 0
 EndsWith (Ok text) status out out_after notes notes_after =
     ((status ≡ Done) × Took out out_after text) ⊎ ((status ≡ WriteFault) × Rose out.faults out_after.faults)
-EndsWith (Err found) status out out_after notes notes_after = (status ≡ Refused) × Noted found notes notes_after
+EndsWith (Err found) status out out_after notes notes_after = (status ≡ Refused) × Noted (fault.Refused found) notes notes_after

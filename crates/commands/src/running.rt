@@ -9,6 +9,7 @@ ghost use Rattle.commands.specs.Ends.{EndsWith, GaveWithin, GaveTooMuch, HasLeft
 ghost use Rattle.commands.specs.Faults.{status_of, Noted};
 ghost use Rattle.commands.specs.Words.{asked};
 ghost use Rattle.commands.specs.declared.status.Fault.{Fault};
+ghost use Rattle.commands.specs.declared.status.Refusal.{Refusal};
 ghost use Rattle.commands.specs.declared.words.Command.{Command};
 
 use crate::answer::answer;
@@ -56,7 +57,7 @@ pub fn board<S: Source, K: Sink, N: Sink, L: Links>(
     ensures complete { (command : Command) (bytes : List ℕ) → asked words.now ≡ Some command
         → HasLeft (S.seen input.old) bytes
         → ¬ Rose (S.seen input.old).faults (S.seen input.new).faults
-        → (result ≡ Status.Memory) ⊎ ((answer : Result (List ℕ) Fault) × IsAnswer command bytes answer
+        → (result ≡ Status.Memory) ⊎ ((answer : Result (List ℕ) Refusal) × IsAnswer command bytes answer
         × EndsWith answer result (K.seen output.old) (K.seen output.new) (N.seen notes.old) (N.seen notes.new)) }
     ensures too_long { IsSome (S.seen input.old).left → GaveTooMuch (S.seen input.old) (S.seen input.new)
         → (result ≡ Status.Memory)
@@ -112,7 +113,7 @@ fn run<S: Source, K: Sink>(
     };
     let text = match answer(alloc, command, bytes) {
         Ok(text) => text,
-        Err(Stop::Fault(fault)) => return Err(fault),
+        Err(Stop::Fault(refusal)) => return Err(Fault::Refused(refusal)),
         Err(Stop::Memory) => return Err(Fault::Memory),
     };
     match write_all(output, text.as_slice()) {

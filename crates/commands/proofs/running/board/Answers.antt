@@ -7,6 +7,7 @@ use Rattle.commands.specs.Ends.{EndsWith, HasLeft, WasDone}
 use Rattle.commands.specs.Faults.{status_of, Noted}
 use Rattle.commands.specs.Words.{asked}
 use Rattle.commands.specs.declared.status.Fault.{Fault}
+use Rattle.commands.specs.declared.status.Refusal.{Refusal}
 use Rattle.commands.specs.declared.status.Status.{Status}
 use Rattle.commands.specs.declared.status.Status.TheVariants as status
 use Rattle.commands.specs.declared.words.Command.{Command}
@@ -22,7 +23,7 @@ use Rattle.commands.proofs.running.board.Goals as goal
 module _ (asks : Option Command) (command : Command) (bytes : List ℕ) (before after : SourceEnd) (out out_after notes notes_after : SinkEnd) (result : Status)
     (is : asks ≡ Some command) (left : HasLeft before bytes) where
   abbrev IsComplete : Type 0
-  IsComplete = (result ≡ status.Memory) ⊎ ((answer : Result (List ℕ) Fault) × IsAnswer command bytes answer × EndsWith answer result out out_after notes notes_after)
+  IsComplete = (result ≡ status.Memory) ⊎ ((answer : Result (List ℕ) Refusal) × IsAnswer command bytes answer × EndsWith answer result out out_after notes notes_after)
 
   complete-done : result ≡ status.Done → WasDone asks before after out out_after → IsComplete
   complete-done done w =
@@ -34,7 +35,7 @@ module _ (asks : Option Command) (command : Command) (bytes : List ℕ) (before 
       → (Rose before.faults after.faults → ⊥) → IsComplete
   complete-fault f cause ended note reads = by (answer-exists command bytes)
     where
-      by : (answer : Result (List ℕ) Fault) × IsAnswer command bytes answer → IsComplete
+      by : (answer : Result (List ℕ) Refusal) × IsAnswer command bytes answer → IsComplete
       by (Ok text, answered) = elim (text-ends asks command bytes (Ok text) before after is left answered text f out out_after refl cause reads) [
         | inl memory ↦ inl (ended ∙ memory)
         | inr (failed, rose) ↦ inr (Ok text, answered, inr (ended ∙ failed, rose))
