@@ -1,6 +1,5 @@
-use Rattle.std.proofs.Common.{rules, ◌≡◌, Some, sym, ◌∙◌}
-use Rattle.commands.specs.Ends.{GaveWithin, WasRead}
-use Rattle.commands.specs.Words.{asked}
+use Rattle.std.proofs.Common.{rules}
+use Rattle.commands.specs.Ends.{span, GaveWithin}
 use Rattle.commands.proofs.Given.{within-excludes, nothing-excludes}
 use Rattle.commands.proofs.running.run.Goals as goal
 
@@ -9,5 +8,5 @@ returns-in_default-clause-too_long g c told long = absurd (nothing-excludes (g.S
 
 pub returns-in-Err-Fault-Failed-clause-too_long : goal.returns-in-Err-Fault-Failed-clause-too_long
 returns-in-Err-Fault-Failed-clause-too_long g c told long =
-    let within : GaveWithin (g.S.Source.seen c.args.input.now) (g.S.Source.seen c.read_all.new.source) = search rules in
+    let within : GaveWithin (span (g.S.Source.seen c.args.input.now) (g.S.Source.seen c.read_all.new.source)) = search rules in
     absurd (within-excludes (g.S.Source.seen c.args.input.now) (g.S.Source.seen c.read_all.new.source) told long within)
