@@ -25,3 +25,12 @@ asked (word ∷ options) =
     else if bytes_eq word (codes "state") then asked_alone State options
     else if bytes_eq word (codes "pictures") then asked_alone Pictures options
     else None
+
+-- The words that ask for each command. This project's own.
+abbrev pub words_of : Command → List (List ℕ)
+words_of (Restore Compact) = codes "restore" ∷ []
+words_of (Restore Pretty) = codes "restore" ∷ codes "--pretty" ∷ []
+words_of (Merge Compact) = codes "merge" ∷ []
+words_of (Merge Pretty) = codes "merge" ∷ codes "--pretty" ∷ []
+words_of State = codes "state" ∷ []
+words_of Pictures = codes "pictures" ∷ []

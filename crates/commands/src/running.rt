@@ -5,10 +5,11 @@ ghost use Rattle.board_io.specs.Counts.{Rose};
 ghost use Rattle.commands.specs.Again.{RestoresOnce, RestoresMerges, StatesStandFor};
 ghost use Rattle.commands.specs.Answers.{IsAnswer, Converges};
 ghost use Rattle.commands.specs.Causes.{HasCause};
-ghost use Rattle.commands.specs.Ends.{EndsWith, GaveWithin, GaveTooMuch, HasLeft, WasDone, WasDoneInPart, WasRefused};
+ghost use Rattle.commands.specs.Ends.{span, EndsWith, GaveWithin, GaveTooMuch, HasLeft, WasDone, WasDoneInPart, WasRefused};
 ghost use Rattle.commands.specs.Faults.{status_of, Noted};
 ghost use Rattle.commands.specs.Words.{asked};
 ghost use Rattle.commands.specs.declared.status.Fault.{Fault};
+ghost use Rattle.commands.specs.declared.status.Refusal.{Refusal};
 ghost use Rattle.commands.specs.declared.words.Command.{Command};
 
 use crate::answer::answer;
@@ -38,27 +39,27 @@ pub fn board<S: Source, K: Sink, N: Sink, L: Links>(
 
     // Done: the input, read to its end, is answered with a text, and that is written.
     ensures done { result ≡ Status.Done
-        → WasDone (asked words.now) (S.seen input.old) (S.seen input.new) (K.seen output.old) (K.seen output.new) }
+        → WasDone (asked words.now) (span (S.seen input.old) (S.seen input.new)) (span (K.seen output.old) (K.seen output.new)) }
 
     // Refused: the input is too long, or answered with a fault, and the notes tell it.
     ensures refused { result ≡ Status.Refused → (fault : Fault)
-        × WasRefused (asked words.now) fault (S.seen input.old) (S.seen input.new)
+        × WasRefused (asked words.now) fault (span (S.seen input.old) (S.seen input.new))
         × Noted fault (N.seen notes.old) (N.seen notes.new) }
 
     // ReadFault and WriteFault: the count of faults rose; what was read was within the limit, and a first part was written.
     ensures read_fault { result ≡ Status.ReadFault → Rose (S.seen input.old).faults (S.seen input.new).faults
-        × GaveWithin (S.seen input.old) (S.seen input.new) }
+        × GaveWithin (span (S.seen input.old) (S.seen input.new)) }
     ensures write_fault { result ≡ Status.WriteFault
-        → WasDoneInPart (asked words.now) (S.seen input.old) (S.seen input.new) (K.seen output.old) (K.seen output.new) }
+        → WasDoneInPart (asked words.now) (span (S.seen input.old) (S.seen input.new)) (span (K.seen output.old) (K.seen output.new)) }
 
     // Where the input tells its bytes and doesn't fail: Done with the one text that the command answers these bytes with,
     // unless the output fails, or Refused with the one fault; or memory is wanted.
     ensures complete { (command : Command) (bytes : List ℕ) → asked words.now ≡ Some command
         → HasLeft (S.seen input.old) bytes
         → ¬ Rose (S.seen input.old).faults (S.seen input.new).faults
-        → (result ≡ Status.Memory) ⊎ ((answer : Result (List ℕ) Fault) × IsAnswer command bytes answer
-        × EndsWith answer result (K.seen output.old) (K.seen output.new) (N.seen notes.old) (N.seen notes.new)) }
-    ensures too_long { IsSome (S.seen input.old).left → GaveTooMuch (S.seen input.old) (S.seen input.new)
+        → (result ≡ Status.Memory) ⊎ ((answer : Result (List ℕ) Refusal) × IsAnswer command bytes answer
+        × EndsWith answer result (span (K.seen output.old) (K.seen output.new)) (span (N.seen notes.old) (N.seen notes.new))) }
+    ensures too_long { IsSome (S.seen input.old).left → GaveTooMuch (span (S.seen input.old) (S.seen input.new))
         → (result ≡ Status.Memory)
         ⊎ ((result ≡ Status.Refused) × Noted Fault.TooLong (N.seen notes.old) (N.seen notes.new)) }
 
@@ -80,7 +81,7 @@ pub fn board<S: Source, K: Sink, N: Sink, L: Links>(
 {
     match run(alloc, words, input, output) {
         Ok(()) => Status::Done,
-        Err(fault) => fault.noted(alloc, notes),
+        Err(fault) => fault.noted(notes),
     }
 }
 
@@ -94,10 +95,10 @@ fn run<S: Source, K: Sink>(
     ensures usage { (result ≡ Err Fault.Usage) ↔ (asked words.now ≡ None) }
     ensures usage_unread { result ≡ Err Fault.Usage → input.new ≡ input.old }
     ensures done { OnOk result
-        (WasDone (asked words.now) (S.seen input.old) (S.seen input.new) (K.seen output.old) (K.seen output.new)) }
+        (WasDone (asked words.now) (span (S.seen input.old) (S.seen input.new)) (span (K.seen output.old) (K.seen output.new))) }
     ensures fault { IfErr result (λ fault. HasCause fault (asked words.now)
-        (S.seen input.old) (S.seen input.new) (K.seen output.old) (K.seen output.new)) }
-    ensures too_long { IsSome (S.seen input.old).left → GaveTooMuch (S.seen input.old) (S.seen input.new)
+        (span (S.seen input.old) (S.seen input.new)) (span (K.seen output.old) (K.seen output.new))) }
+    ensures too_long { IsSome (S.seen input.old).left → GaveTooMuch (span (S.seen input.old) (S.seen input.new))
         → (result ≡ Err Fault.Memory) ⊎ (result ≡ Err Fault.TooLong) }
     ensures output_kept { IfErr result (λ fault. fault ≢ Fault.Write → output.new ≡ output.old) }
 {
@@ -112,7 +113,7 @@ fn run<S: Source, K: Sink>(
     };
     let text = match answer(alloc, command, bytes) {
         Ok(text) => text,
-        Err(Stop::Fault(fault)) => return Err(fault),
+        Err(Stop::Fault(refusal)) => return Err(Fault::Refused(refusal)),
         Err(Stop::Memory) => return Err(Fault::Memory),
     };
     match write_all(output, text.as_slice()) {
