@@ -16,7 +16,7 @@ use Rattle.commands.proofs.Existing.{answer-exists}
 use Rattle.commands.proofs.Given.{read-whole}
 use Rattle.commands.proofs.States.{states-stand_for}
 use Rattle.commands.proofs.Unique.{merges-converge}
-use Rattle.commands.proofs.board.board.Goals as goal
+use Rattle.commands.proofs.running.board.Goals as goal
 
 -- the ends of runs over an input that tells its bytes
 module _ (asks : Option Command) (command : Command) (bytes : List ℕ) (before after : SourceEnd) (out out_after notes notes_after : SinkEnd) (result : Status)

@@ -3,7 +3,7 @@ use Rattle.commands.specs.Ends.{GaveWithin, WasRead}
 use Rattle.commands.specs.Words.{asked}
 use Rattle.commands.proofs.Answering.{not-usage, caused}
 use Rattle.commands.proofs.Given.{within-excludes, nothing-excludes}
-use Rattle.commands.proofs.board.run.Goals as goal
+use Rattle.commands.proofs.running.run.Goals as goal
 
 pub returns-in_default-clause-too_long : goal.returns-in_default-clause-too_long
 returns-in_default-clause-too_long g c told long = absurd (nothing-excludes (g.S.Source.seen c.args.input.now) told long)
