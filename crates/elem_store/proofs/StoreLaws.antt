@@ -4,6 +4,7 @@ use Rattle.std.specs.List.{list_any}
 use Rattle.std.specs.Option.{option_map_or}
 use Rattle.std.proofs.lemmas.Bool.{cases_Bool, cond-true, cond-false, false_from_ne_true, false≢true}
 use Rattle.std.proofs.lemmas.List.Elements.{All-contains, All-contains_itself, All-weaker}
+use Rattle.std.proofs.lemmas.Option.{same_Some}
 use Rattle.frac_keys.specs.Rising.{are_rising}
 use Rattle.elem.specs.Drawn.{Drawn}
 use Rattle.elem.specs.Order.{beats}
@@ -150,6 +151,20 @@ elements-stored updates elements all h =
     All-weaker (Contains elements) (λ e. IsElement e × IsWritten e)
     (λ e c. All-contains (λ e. IsElement e × IsWritten e) updates e all (stored-given updates elements e h c))
     elements (All-contains_itself elements)
+
+-- a store of elements that takes one is a store of elements
+pub elements-taken : (old new : List Drawn) (e : Drawn) → AreElements old → IsElement e → IsWritten e → HasTaken old e new → AreElements new
+elements-taken old new e all is w t =
+    All-weaker (Contains new) (λ x. IsElement x × IsWritten x)
+    (λ x c. go x (is_of x.id e && is_taken old e) refl (sym (member None None new x t.ordered c) ∙ t.each x.id)) new (All-contains_itself new)
+  where
+    go : (x : Drawn) (b : Bool) → (is_of x.id e && is_taken old e) ≡ b → Some x ≡ cond (is_of x.id e && is_taken old e) (Some e) (element_of old x.id) → IsElement x × IsWritten x
+    go x true k h =
+        let same : x ≡ e = same_Some x e (h ∙ cond-true (is_of x.id e && is_taken old e) (Some e) (element_of old x.id) k) in
+        subst (λ y. IsElement y × IsWritten y) (sym same) (is, w)
+    go x false k h =
+        let kept = sym (h ∙ cond-false (is_of x.id e && is_taken old e) (Some e) (element_of old x.id) k) in
+        All-contains (λ y. IsElement y × IsWritten y) old x all (find-Some (is_of x.id) old x kept).0
 
 -- what one list has two have
 any-append : (p : Drawn → Bool) (updates more : List Drawn) → list_any p updates ≡ true → list_any p (updates ++ more) ≡ true

@@ -4,7 +4,8 @@ ghost use Rattle.std.specs.Prelude.{◌≡◌, ℕ, List, [], ◌∷◌, ◌++�
 ghost use Rattle.std.specs.List.{list_any};
 ghost use Rattle.frac_keys.specs.Rising.{are_rising};
 ghost use Rattle.elem.specs.Drawn.{Drawn};
-ghost use Rattle.elem.specs.Said.{AreElements};
+ghost use Rattle.elem.specs.Facts.{IsElement};
+ghost use Rattle.elem.specs.Said.{IsWritten, AreElements};
 ghost use Rattle.elem_store.specs.Updates.{is_of, best_updates, element_of, ids_of, AreStored, HasTaken, takings, HaveSameUpdates, AreBest};
 
 /// The store of no updates has no element.
@@ -80,6 +81,12 @@ pub fn stored_were_given()
         → AreStored updates elements → Contains elements e → Contains updates e }
     ensures elements { (updates elements : List Drawn)
         → AreElements updates → AreStored updates elements → AreElements elements }
+{}
+
+/// A store of elements that takes one is a store of elements.
+pub fn taking_keeps_elements()
+    ensures { (old new : List Drawn) (e : Drawn)
+        → AreElements old → IsElement e → IsWritten e → HasTaken old e new → AreElements new }
 {}
 
 /// Ids stay stored over further updates.
