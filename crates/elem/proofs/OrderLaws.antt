@@ -14,6 +14,10 @@ less-same : (a : Drawn) → text_less a a ≡ false
 unfolding text_less
 less-same a = bytes_less-same (element_text a)
 
+-- No element has a text that is less than that of an equal one.
+pub same-not_less : (a b : Drawn) → a ≡ b → false ≡ text_less a b
+same-not_less a b same = sym (subst (λ x. text_less x b ≡ false) (sym same) (less-same b))
+
 less-asym : (a b : Drawn) → text_less a b ≡ true → text_less b a ≡ false
 unfolding text_less
 less-asym a b less = bytes_less-asym (element_text a) (element_text b) less
