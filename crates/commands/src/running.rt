@@ -63,7 +63,8 @@ pub fn board<S: Source, K: Sink, N: Sink, L: Links>(
         → (result ≡ Status.Memory)
         ⊎ ((result ≡ Status.Refused) × Noted Fault.TooLong (N.seen notes.old) (N.seen notes.new)) }
 
-    // Inputs with the same updates, free of clashes, are merged to one text.
+    // Inputs with the same updates and the same heads, in whatever order, grouping and repetition, are merged to one
+    // text.
     ensures converges { Converges }
 
     // What was restored or merged is restored as the input itself, and the states of inputs stand for these.

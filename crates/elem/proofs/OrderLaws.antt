@@ -14,6 +14,10 @@ less-same : (a : Drawn) → text_less a a ≡ false
 unfolding text_less
 less-same a = bytes_less-same (element_text a)
 
+-- No element has a text that is less than that of an equal one.
+pub same-not_less : (a b : Drawn) → a ≡ b → false ≡ text_less a b
+same-not_less a b same = sym (subst (λ x. text_less x b ≡ false) (sym same) (less-same b))
+
 less-asym : (a b : Drawn) → text_less a b ≡ true → text_less b a ≡ false
 unfolding text_less
 less-asym a b less = bytes_less-asym (element_text a) (element_text b) less
@@ -22,7 +26,8 @@ less-trans : (a b c : Drawn) → text_less a b ≡ true → text_less b c ≡ tr
 unfolding text_less
 less-trans a b c first second = bytes_less-trans (element_text a) (element_text b) (element_text c) first second
 
-bytes-neither : (a b : List ℕ) → bytes_less a b ≡ false → bytes_less b a ≡ false → a ≡ b
+-- Where neither is less, the two are equal.
+pub bytes-neither : (a b : List ℕ) → bytes_less a b ≡ false → bytes_less b a ≡ false → a ≡ b
 bytes-neither a b first second = elim (cases_Bool (bytes_eq a b)) [
   | inl same ↦ bytes_eq-true a b same
   | inr differ ↦ absurd (false≢true (sym first ∙ bytes_less-turned a b differ second))
@@ -32,7 +37,8 @@ less-neither : (a b : Drawn) → text_less a b ≡ false → text_less b a ≡ f
 unfolding text_less
 less-neither a b first second = bytes-neither (element_text a) (element_text b) first second
 
-bytes-below : (a b c : List ℕ) → bytes_less b a ≡ false → bytes_less c b ≡ false → bytes_less c a ≡ false
+-- What isn't greater than the one that isn't greater isn't greater.
+pub bytes-below : (a b c : List ℕ) → bytes_less b a ≡ false → bytes_less c b ≡ false → bytes_less c a ≡ false
 bytes-below a b c first second = elim (cases_Bool (bytes_less c a)) [
   | inl less ↦ elim (cases_Bool (bytes_less a b)) [
     | inl more ↦ absurd (false≢true (sym second ∙ bytes_less-trans c a b less more))

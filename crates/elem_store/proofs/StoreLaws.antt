@@ -1,13 +1,16 @@
 -- What holds of a store of a list of updates.
-use Rattle.std.proofs.Common.{◌≡◌, ℕ, Bool, true, false, cond, ◌&&◌, List, [], ◌∷◌, ◌++◌, Option, Some, None, is_some, Contains, refl, sym, ap, ap₂, ◌∙◌, subst, inl, inr}
+use Rattle.std.proofs.Common.{◌≡◌, ℕ, Bool, true, false, cond, ◌&&◌, ◌||◌, List, [], ◌∷◌, ◌++◌, Option, Some, None, is_some, Contains, refl, sym, ap, ap₂, ◌∙◌, subst, inl, inr}
 use Rattle.std.specs.List.{list_any}
 use Rattle.std.specs.Option.{option_map_or}
 use Rattle.std.proofs.lemmas.Bool.{cases_Bool, cond-true, cond-false, false_from_ne_true, false≢true}
+use Rattle.std.proofs.lemmas.List.Elements.{All-contains, All-contains_itself, All-weaker}
+use Rattle.std.proofs.lemmas.Option.{same_Some}
 use Rattle.frac_keys.specs.Rising.{are_rising}
 use Rattle.elem.specs.Drawn.{Drawn}
 use Rattle.elem.specs.Order.{beats}
-use Rattle.elem.specs.Said.{AreElements}
-use Rattle.elem_store.specs.Updates.{is_of, best_updates, stored_of, element_of, is_taken, ids_of, AreStored, HasTaken, HaveSameUpdates, AreBest}
+use Rattle.elem.specs.Facts.{IsElement}
+use Rattle.elem.specs.Said.{IsWritten, AreElements}
+use Rattle.elem_store.specs.Updates.{is_of, best_updates, stored_of, element_of, is_taken, ids_of, AreStored, HasTaken, is_newer, takings, HaveSameUpdates, AreBest}
 use Rattle.elem_store.proofs.Ids.{same_id, of_itself}
 use Rattle.elem_store.proofs.Lists.{find-Some, find-None}
 use Rattle.elem_store.proofs.Leader.{next_leader, joined_leader, stored-push, stored-append}
@@ -138,3 +141,54 @@ AreStored-all updates elements e h one c = stored (stored_of updates e.id) refl
         let best = IsBestOf-stored updates e.id x k in
         let same = one e x c best.taken (same_id e.id x best.named) in
         subst (Contains elements) (sym same) (find-Some (is_of e.id) elements x (h.each e.id ∙ k)).0
+
+-- what is stored was among the updates
+pub stored-given : (updates elements : List Drawn) (e : Drawn) → AreStored updates elements → Contains elements e → Contains updates e
+stored-given updates elements e h c = (IsBestOf-stored updates e.id e (AreStored-stored updates elements e h c)).taken
+
+pub elements-stored : (updates elements : List Drawn) → AreElements updates → AreStored updates elements → AreElements elements
+elements-stored updates elements all h =
+    All-weaker (Contains elements) (λ e. IsElement e × IsWritten e)
+    (λ e c. All-contains (λ e. IsElement e × IsWritten e) updates e all (stored-given updates elements e h c))
+    elements (All-contains_itself elements)
+
+-- a store of elements that takes one is a store of elements
+pub elements-taken : (old new : List Drawn) (e : Drawn) → AreElements old → IsElement e → IsWritten e → HasTaken old e new → AreElements new
+elements-taken old new e all is w t =
+    All-weaker (Contains new) (λ x. IsElement x × IsWritten x)
+    (λ x c. go x (is_of x.id e && is_taken old e) refl (sym (member None None new x t.ordered c) ∙ t.each x.id)) new (All-contains_itself new)
+  where
+    go : (x : Drawn) (b : Bool) → (is_of x.id e && is_taken old e) ≡ b → Some x ≡ cond (is_of x.id e && is_taken old e) (Some e) (element_of old x.id) → IsElement x × IsWritten x
+    go x true k h =
+        let same : x ≡ e = same_Some x e (h ∙ cond-true (is_of x.id e && is_taken old e) (Some e) (element_of old x.id) k) in
+        subst (λ y. IsElement y × IsWritten y) (sym same) (is, w)
+    go x false k h =
+        let kept = sym (h ∙ cond-false (is_of x.id e && is_taken old e) (Some e) (element_of old x.id) k) in
+        All-contains (λ y. IsElement y × IsWritten y) old x all (find-Some (is_of x.id) old x kept).0
+
+-- what one list has two have
+any-append : (p : Drawn → Bool) (updates more : List Drawn) → list_any p updates ≡ true → list_any p (updates ++ more) ≡ true
+any-append p [] more h = cc
+any-append p (e ∷ updates) more h = elim (cases_Bool (p e)) [
+  | inl t ↦ ap (λ b. b || list_any p (updates ++ more)) t
+  | inr f ↦ ap (λ b. b || list_any p (updates ++ more)) f ∙ any-append p updates more (sym (ap (λ b. b || list_any p updates) f) ∙ h)
+]
+
+-- ids stay stored
+pub ids-stay : (updates more elements news : List Drawn) (id : List ℕ) → AreStored updates elements → AreStored (updates ++ more) news
+    → is_some (element_of elements id) ≡ true → is_some (element_of news id) ≡ true
+ids-stay updates more elements news id h k some =
+    AreStored-ids (updates ++ more) news id k
+    ∙ any-append (is_of id) updates more (sym (AreStored-ids updates elements id h) ∙ some)
+
+-- lists with the same stored elements take the same further updates
+takings-same : (updates others more : List Drawn) → ((id : List ℕ) → stored_of updates id ≡ stored_of others id) → takings updates more ≡ takings others more
+takings-same updates others [] same = refl
+takings-same updates others (e ∷ more) same =
+    let later = takings-same (updates ++ e ∷ []) (others ++ e ∷ []) more
+    (λ id. stored-push updates e id ∙ ap (λ o. cond (is_of id e) (Some (next_leader e o)) o) (same id) ∙ sym (stored-push others e id)) in
+    ap₂ (λ o rest. cond (is_newer e o) (record { before = o; taken = e } ∷ rest) rest) (same e.id) later
+
+pub takings-stored : (updates elements more : List Drawn) → AreStored updates elements → takings elements more ≡ takings updates more
+takings-stored updates elements more h =
+    takings-same elements updates more (λ id. sym ((AreStored-itself elements h.ordered).each id) ∙ h.each id)

@@ -1,5 +1,5 @@
 -- What is stored of a list of updates. Source: Excalidraw's reconcile.
-use Rattle.std.specs.Prelude.{◌≡◌, ℕ, List, Bool, true, not, ◌&&◌, ◌==◌, Option, Some, is_some, Contains, find, filter, map, bytes_eq, if◌then◌else◌}
+use Rattle.std.specs.Prelude.{◌≡◌, ℕ, List, [], ◌∷◌, ◌++◌, Bool, true, not, ◌&&◌, ◌==◌, Option, Some, is_some, Contains, find, filter, map, bytes_eq, if◌then◌else◌}
 use Rattle.std.specs.List.{list_any}
 use Rattle.std.specs.Option.{option_map_or}
 use Rattle.frac_keys.specs.Rising.{are_rising}
@@ -30,9 +30,26 @@ stored_of updates id = find (is_best updates id) updates
 abbrev pub element_of : List Drawn → List ℕ → Option Drawn
 element_of elements id = find (is_of id) elements
 
+-- whether an update becomes stored where this is stored of its id: nothing is, or the update beats it
+abbrev pub is_newer : Drawn → Option Drawn → Bool
+is_newer e stored = option_map_or (beats e) stored true
+
 -- whether a store of these elements takes an update: its id is new, or it beats the stored element
 abbrev pub is_taken : List Drawn → Drawn → Bool
-is_taken elements e = option_map_or (beats e) (element_of elements e.id) true
+is_taken elements e = is_newer e (element_of elements e.id)
+
+-- An update that becomes stored, and what was stored of its id before it.
+pub record Taking : Type 0 where
+  pub before : Option Drawn
+  pub taken : Drawn
+
+-- which of further updates become stored behind these, in their order, each with what was stored before it
+abbrev pub takings : List Drawn → List Drawn → List Taking
+takings updates [] = []
+takings updates (e ∷ more) =
+    if is_newer e (stored_of updates e.id)
+    then record { before = stored_of updates e.id; taken = e } ∷ takings (updates ++ e ∷ []) more
+    else takings (updates ++ e ∷ []) more
 
 -- the ids of elements
 abbrev pub ids_of : List Drawn → List (List ℕ)
