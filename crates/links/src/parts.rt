@@ -23,6 +23,13 @@ pub(crate) fn container_of(e: &Element) -> Option<&Text>
     e.container.as_ref()
 }
 
+/// The frame of an element.
+pub(crate) fn frame_of(e: &Element) -> Option<&Text>
+    ensures { option_copied result ≡ e.now.frame }
+{
+    e.frame.as_ref()
+}
+
 /// The listing of an element.
 pub(crate) fn bound_of(e: &Element) -> &List<BoundRef>
     ensures { result.now ≡ e.now.bound }
