@@ -1,12 +1,13 @@
 -- The rows of an element are those of the ids that it names.
-use Rattle.std.proofs.Common.{◌≡◌, ℕ, Bool, true, false, ◌||◌, List, ◌++◌, Option, Some, None, bytes_eq, refl, ap, ap₂, ◌∙◌}
-use Rattle.std.specs.List.{list_any}
+use Rattle.std.proofs.Common.{◌≡◌, ℕ, Bool, true, false, ◌&&◌, ◌||◌, List, [], ◌∷◌, ◌++◌, map, Option, Some, None, bytes_eq, refl, ap, ap₂, ◌∙◌}
+use Rattle.std.specs.List.{list_any, AllByRecursion, IsDistinct}
 use Rattle.std.proofs.lemmas.List.Folds.{list_any-append}
 use Rattle.first_texts.specs.FirstOccurrences.{first_occurrences}
-use Rattle.first_texts.proofs.FirstLaws.{Contains-first_occurrences}
+use Rattle.first_texts.proofs.FirstLaws.{Contains-first_occurrences, IsDistinct-first_occurrences}
 use Rattle.elem.specs.Drawn.{Drawn}
+use Rattle.links.specs.declared.rows.LinkRow.{LinkRow}
 use Rattle.links.specs.Names.{is_id, target_of}
-use Rattle.links.specs.Rows.{id_there, rows_of, is_for}
+use Rattle.links.specs.Rows.{id_there, named_ids, rows_of, is_for, same_row}
 use Rattle.links.specs.Steps.{names_id}
 use Rattle.links.proofs.Members.{same_bools, list_any-from, list_any-found}
 use Rattle.links.proofs.Tabled.{list_any-map}
@@ -42,3 +43,17 @@ rows_of-named e id =
     ∙ or_assoc (list_any p container) (list_any p frame) (list_any p start || list_any p end')
     ∙ ap₂ (λ a b. a || b) (ap₂ (λ a b. a || b) (any-there id e.container) (any-there id e.frame))
     (ap₂ (λ a b. a || b) (any-there id (target_of e.start_binding)) (any-there id (target_of e.end_binding)))
+
+-- no row comes twice
+apart-rows : (id namer : List ℕ) (ids : List (List ℕ)) → AllByRecursion (λ other. bytes_eq id other ≡ false) ids
+    → AllByRecursion (λ (row : LinkRow). same_row (record { named = id; namer = namer }) row ≡ false) (map (λ (other : List ℕ). record { named = other; namer = namer }) ids)
+apart-rows id namer [] h = tt
+apart-rows id namer (other ∷ ids) h = (ap (λ b. b && bytes_eq namer namer) h.0, apart-rows id namer ids h.1)
+
+distinct-rows : (namer : List ℕ) (ids : List (List ℕ)) → IsDistinct bytes_eq ids → IsDistinct same_row (map (λ (id : List ℕ). record { named = id; namer = namer }) ids)
+unfolding IsDistinct
+distinct-rows namer [] h = tt
+distinct-rows namer (id ∷ ids) h = (apart-rows id namer ids h.0, distinct-rows namer ids h.1)
+
+pub rows_of-distinct : (e : Drawn) → IsDistinct same_row (rows_of e)
+rows_of-distinct e = distinct-rows e.id (named_ids e) (IsDistinct-first_occurrences _)

@@ -1,17 +1,20 @@
 -- Rows in order, their named ids and their namers side by side.
-use Rattle.std.proofs.Common.{◌≡◌, ◌⊎◌, ℕ, zero, suc, ◌+◌, ◌-◌, ◌<◌, ◌≤◌, Bool, true, false, not, ◌&&◌, ◌||◌, List, [], ◌∷◌, length, get_or, take, drop, map, filter, insert, Some, Less, Equal, Greater, slice_get, bytes_eq, is_lt, nat_cmp, refl, sym, ap, ap₂, ◌∙◌, subst, inl, inr, length-take, length-drop, arith}
-use Rattle.std.specs.List.{remove}
+use Rattle.std.proofs.Common.{◌≡◌, ◌⊎◌, ℕ, zero, suc, ◌+◌, ◌-◌, ◌<◌, ◌≤◌, Bool, true, false, not, ◌&&◌, ◌||◌, List, [], ◌∷◌, length, get_or, take, drop, map, filter, insert, Option, Some, None, Less, Equal, Greater, slice_get, bytes_eq, is_lt, nat_cmp, refl, sym, ap, ap₂, ◌∙◌, subst, inl, inr, length-take, length-drop, arith}
+use Rattle.std.specs.List.{remove, AllPairs}
 use Rattle.std.specs.List.Sorted.{IsSortedBy, IsPartitionPoint}
 use Rattle.std.specs.Cmp.Lexicographic.{slice_cmp, nat_list_cmp_total}
 use Rattle.std.specs.Ordering.{is_eq, ordering_reverse}
 use Rattle.std.proofs.Math.Seq.{take-nil, drop-nil}
 use Rattle.std.proofs.lemmas.Bool.{and_parts, and_from, or_cases, or_left, or_right, both_ways, cond-true, cond-false, false_from_ne_true, cases_lt}
 use Rattle.std.proofs.lemmas.List.{get_or-take, get_or-drop}
+use Rattle.std.proofs.lemmas.List.Elements.{filter_passes}
+use Rattle.std.proofs.lemmas.List.Kept.{AllPairs-filter}
 use Rattle.std.proofs.lemmas.Map.Lookups.{exact_bytes}
 use Rattle.std.proofs.lemmas.Slice.Eq.{bytes_eq-Decides}
 use Rattle.frac_keys.specs.Keys.{bytes_less}
+use Rattle.frac_keys.specs.Rising.{ends_rise, rise_between, are_rising}
 use Rattle.links.specs.declared.rows.LinkRow.{LinkRow}
-use Rattle.links.specs.Rows.{is_for, namer_of, is_earlier, rows_at, AreRows, IsGapFor, IsRowAt, AreEndsOf}
+use Rattle.links.specs.Rows.{is_for, namer_of, is_earlier, AreRowsRising, rows_at, AreRows, IsGapFor, IsRowAt, AreEndsOf}
 use Rattle.links.proofs.Members.{bytes_eq-refl}
 use Rattle.links.proofs.Sorting.{less-order, is_less, is_not_greater, not_greater-is, bytes_eq-cmp, turns-ordered, before_is, at_is, behind_is, less_is}
 
@@ -210,3 +213,28 @@ namers-between (x ∷ named) (y ∷ namers) id (suc a) (suc b) full ends =
     ap (λ n. take n (drop a namers)) e
     ∙ namers-between named namers id a b (omega (arith, full)) (AreEndsOf-tail x named id (suc a) (suc b) a b (omega arith) (omega arith) (inl (omega arith)) ends)
     ∙ ap (map namer_of) (sym (cond-false (is_for id row) (row ∷ filter (is_for id) (rows_at named namers)) (filter (is_for id) (rows_at named namers)) (other-less id x (ends.less 0 x (omega arith)))))
+
+-- and they rise
+namers-rise : (low : Option (List ℕ)) (rows : List LinkRow) → ((k : ℕ) (d : LinkRow) → k < length rows → ends_rise low (Some (get_or rows k d).namer) ≡ true)
+    → AllPairs (λ (row other : LinkRow). bytes_less row.namer other.namer ≡ true) rows → rise_between low None (map namer_of rows) ≡ true
+namers-rise None [] low-less h = refl
+namers-rise (Some low) [] low-less h = refl
+namers-rise low (row ∷ rows) low-less h =
+    and_from (ends_rise low (Some row.namer)) (rise_between (Some row.namer) None (map namer_of rows)) (low-less 0 row (omega arith))
+    (namers-rise (Some row.namer) rows (λ k d l. h 0 (suc k) d (omega arith) (omega (arith, l))) (λ i j d l m. h (suc i) (suc j) d (omega (arith, l)) (omega (arith, m))))
+
+-- of two rows for one id the earlier one has the lesser namer
+for-less : (id : List ℕ) (row other : LinkRow) → is_for id row ≡ true → is_for id other ≡ true → is_earlier row other ≡ true → bytes_less row.namer other.namer ≡ true
+for-less id row other one two earlier =
+    let same : row.named ≡ other.named = sym ((bytes_eq-Decides id row.named).0 one) ∙ (bytes_eq-Decides id other.named).0 two in
+    elim (or_cases (bytes_less row.named other.named) (bytes_eq row.named other.named && bytes_less row.namer other.namer) earlier) [
+      | inl less ↦ absurd (both_ways (bytes_less other.named other.named) (less-itself other.named) (ap (λ n. bytes_less n other.named) (sym same) ∙ less))
+      | inr both ↦ (and_parts (bytes_eq row.named other.named) (bytes_less row.namer other.namer) both).1
+    ]
+
+pub namers-rising : (rows : List LinkRow) (id : List ℕ) → AreRowsRising rows → are_rising (map namer_of (filter (is_for id) rows)) ≡ true
+namers-rising rows id rise =
+    let those = filter (is_for id) rows in
+    let of_id = filter_passes (is_for id) rows in
+    namers-rise None those (λ k d l. refl)
+    (λ i j d l m. for-less id (get_or those i d) (get_or those j d) (of_id i d (omega (arith, l, m))) (of_id j d m) (AllPairs-filter (λ row other. is_earlier row other ≡ true) (is_for id) rows rise i j d l m))

@@ -16,9 +16,12 @@ id_there (Some id) = id ∷ []
 abbrev pub named_ids : Drawn → List (List ℕ)
 named_ids e = first_occurrences (id_there e.container ++ (id_there e.frame ++ (id_there (target_of e.start_binding) ++ id_there (target_of e.end_binding))))
 
--- a row for each id that an element names
+-- the row of an id that an element names, and the rows of all of them
+abbrev pub row_of : Drawn → List ℕ → LinkRow
+row_of e id = record { named = id; namer = e.id }
+
 abbrev pub rows_of : Drawn → List LinkRow
-rows_of e = map (λ id. record { named = id; namer = e.id }) (named_ids e)
+rows_of e = map (row_of e) (named_ids e)
 
 -- whether two rows are the same, and whether rows have one
 abbrev pub same_row : LinkRow → LinkRow → Bool

@@ -1,6 +1,7 @@
 //! A table of who names whom.
 
-ghost use Rattle.std.specs.Prelude.{◌≡◌, List as Items, [], ◌+◌, ◌<◌, ◌≤◌, not, ◌&&◌, ◌||◌, filter, length, map, OnOk};
+ghost use Rattle.std.specs.Prelude.{◌≡◌, List as Items, [], ◌+◌, ◌<◌, ◌≤◌, not, ◌&&◌, ◌||◌, filter, length, map, OnOk, IsTrue};
+ghost use Rattle.frac_keys.specs.Rising.{are_rising};
 ghost use Rattle.links.specs.Rows.{has_row, same_row, is_for, is_namer, namer_of, AreRowsRising};
 
 use crate::row_places::{ends_of, insert, place_of, take_out_namer};
@@ -65,7 +66,8 @@ impl LinkTable {
     {
         self.take_out_namer(id);
         self.put_in_all(rows);
-        self.told();
+        // The rows rise, as those of each table do.
+        let _ = &self.named;
     }
 
     /// Takes the old rows out, and puts the new ones in. It takes no memory.
@@ -77,12 +79,14 @@ impl LinkTable {
     {
         self.take_out_all(old);
         self.put_in_all(new);
-        self.told();
+        // The rows rise, as those of each table do.
+        let _ = &self.named;
     }
 
     /// The namers of the rows with this named id, rising. It takes no memory.
     pub fn namers(&self, id: &Text) -> &[Text]
         ensures exact { result.now ≡ map namer_of (filter (is_for id.now) self.now.rows) }
+        ensures rising { IsTrue (are_rising result.now) }
         ensures rise { AreRowsRising self.now.rows }
     {
         let (start, end) = ends_of(&self.named, id);
@@ -148,12 +152,5 @@ impl LinkTable {
             }
             Ok(_) => {}
         }
-    }
-
-    /// What holds of every table.
-    fn told(&self)
-        ensures rise { AreRowsRising self.now.rows }
-    {
-        let _ = &self.named;
     }
 }

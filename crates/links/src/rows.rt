@@ -1,10 +1,10 @@
 //! Rows of who names whom.
 
 ghost use Rattle.std.specs.Prelude.{◌≡◌, ℕ, List as Items, ◌++◌, map, IfOk, OnOk, option_copied};
-ghost use Rattle.std.specs.List.{list_any};
+ghost use Rattle.std.specs.List.{list_any, IsDistinct};
 ghost use Rattle.first_texts.specs.FirstOccurrences as first;
 ghost use Rattle.links.specs.Rows as words;
-ghost use Rattle.links.specs.Rows.{id_there, is_for};
+ghost use Rattle.links.specs.Rows.{id_there, is_for, same_row};
 ghost use Rattle.links.specs.Steps.{names_id};
 
 use crate::names::ends_of;
@@ -27,14 +27,22 @@ pub struct LinkRow {
 pub fn rows_of(alloc: Global, e: &Element) -> Result<List<LinkRow>, AllocError>
     ensures exact { IfOk result (λ rows. rows ≡ words.rows_of e.now) }
     ensures named { IfOk result (λ rows. (id : Items ℕ) → list_any (is_for id) rows ≡ names_id id e.now) }
+    ensures distinct { IfOk result (λ rows. IsDistinct same_row rows) }
 {
     let named = named_ids(alloc, e)?;
+    Ok(List::from_vec(rows_for(alloc, named, e)?))
+}
+
+/// A row for each of these ids that an element names.
+fn rows_for(alloc: Global, named: Vec<Text>, e: &Element) -> Result<Vec<LinkRow>, AllocError>
+    ensures { IfOk result (λ rows. rows.items ≡ map (words.row_of e.now) named.items) }
+{
     let mut rows = Vec::with_capacity(alloc, named.len())?;
     for named in named {
         let namer = id_of(e).try_clone()?;
         rows.push(LinkRow { named, namer })?;
     }
-    Ok(List::from_vec(rows))
+    Ok(rows)
 }
 
 /// The ids that an element names, each once.
