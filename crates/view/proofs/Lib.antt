@@ -5,3 +5,4 @@ pub mod OrderLaws
 pub mod SceneOrder
 pub mod SettledLaws
 pub mod ShownLaws
+pub mod StepLaws

@@ -4,6 +4,7 @@
 mod keys;
 pub mod laws;
 mod order;
+pub mod steps;
 mod view;
 
 pub use keys::with_repaired_keys;

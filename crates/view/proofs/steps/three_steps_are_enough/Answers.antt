@@ -1,0 +1,8 @@
+use Rattle.view.proofs.StepLaws.{settled-alike, settled-alone}
+use Rattle.view.proofs.steps.three_steps_are_enough.Goals as goal
+
+pub returns-clause-alike : goal.returns-clause-alike
+returns-clause-alike c = settled-alike
+
+pub returns-clause-alone : goal.returns-clause-alone
+returns-clause-alone c = settled-alone
