@@ -1,0 +1,6 @@
+mod JoinedLinks
+mod Printed
+mod Steps
+mod Tries
+mod Served
+mod MemberLaws
