@@ -12,7 +12,7 @@ use Rattle.frames_groups.proofs.FrameLaws.{framed-among}
 use Rattle.links.specs.Arrows.{with_settled_links}
 use Rattle.links.specs.Names.{has_id, is_id, HaveDistinctIds}
 use Rattle.links.specs.Settled.{settled_links, unlinked, unplaced}
-use Rattle.links.specs.Steps.{names_id, is_within, near}
+use Rattle.links.specs.Steps.{names_id, is_within}
 use Rattle.links.specs.Texts.{with_settled_container, settled_texts}
 use Rattle.links.proofs.Members.{bytes_eq-refl, find-map, find-Some, map-map}
 use Rattle.links.proofs.Near.{near-all, links-alone, found-settled, step-to, within-own, within-more, within-step}
