@@ -1,7 +1,8 @@
 -- What settling makes of one element rests on the elements at most three steps of naming from it.
-use Rattle.std.proofs.Common.{◌≡◌, ℕ, suc, Bool, true, cond, ◌&&◌, ◌||◌, List, ◌++◌, find, filter, map, Option, Some, None, Contains, All, IsTrue, bytes_eq, refl, sym, ap, ap₂, ◌∙◌}
+use Rattle.std.proofs.Common.{◌≡◌, ℕ, suc, Bool, zero, true, false, subst, inl, inr, cond, ◌&&◌, ◌||◌, List, ◌++◌, find, filter, map, Option, Some, None, Contains, All, IsTrue, bytes_eq, refl, sym, ap, ap₂, ◌∙◌}
+use Rattle.std.specs.List.{list_any}
 use Rattle.std.specs.Option.{option_map, option_or}
-use Rattle.std.proofs.lemmas.Bool.{and_parts, and_from, or_left, or_right}
+use Rattle.std.proofs.lemmas.Bool.{and_parts, and_from, or_cases, or_left, or_right}
 use Rattle.std.proofs.lemmas.List.Elements.{All-contains}
 use Rattle.std.proofs.lemmas.Slice.Eq.{bytes_eq-Decides}
 use Rattle.elem.specs.declared.kind.Role.{Role}
@@ -16,7 +17,7 @@ use Rattle.links.specs.Arrows.{names_target, settled_end, is_bound_to, is_true_a
 use Rattle.links.specs.Settled.{settled_links}
 use Rattle.links.specs.Steps.{names_id, is_one_step, is_within, near}
 use Rattle.links.proofs.Among.{find-among, filter-among, any-among, Contains-among, and-same, same-and, distinct-among}
-use Rattle.links.proofs.Members.{map-map, filter-map, find-map, find-Some, list_any-from, list_any-same}
+use Rattle.links.proofs.Members.{bytes_eq-refl, map-map, filter-map, find-map, find-Some, list_any-from, list_any-same, list_any-found, one_of_id, same_bools}
 use Rattle.links.proofs.Tabled.{list_any-map}
 use Rattle.links.proofs.TextLaws.{text_of-settled}
 
@@ -209,3 +210,44 @@ module _ (list : List Drawn) (among : Drawn → Bool) (id : List ℕ) (distinct 
           ≡ option_map (λ e. with_settled_links (settled_texts list) (with_settled_container list e)) o
       same None is = refl
       same (Some e) is = let found = find-Some (has_id id) list e is in ap Some (links-near e found.0 found.1)
+
+-- ---- steps lead back
+step-turned : (e other : Drawn) → is_one_step e other ≡ true → is_one_step other e ≡ true
+step-turned e other h = or_turned (names_id other.id e) (names_id e.id other) ∙ h where
+  or_turned : (a b : Bool) → (b || a) ≡ (a || b)
+  or_turned true true = refl
+  or_turned true false = refl
+  or_turned false true = refl
+  or_turned false false = refl
+
+module _ (list : List Drawn) (distinct : HaveDistinctIds list) where
+  within-first : (n : ℕ) (e c other : Drawn) → Contains list e → Contains list c → Contains list other → is_one_step e c ≡ true
+      → is_within n list c.id other ≡ true → is_within (suc n) list e.id other ≡ true
+  unfolding is_within
+  within-first zero e c other there at' among' step h =
+      let same : c ≡ other = one_of_id list c other distinct at' among' ((bytes_eq-Decides c.id other.id).0 h) in
+      subst (λ x. is_within 1 list e.id x ≡ true) same (within-step list e.id 0 e c there (within-own list e.id e (bytes_eq-refl e.id)) step)
+  within-first (suc n) e c other there at' among' step h =
+      elim (or_cases (is_within n list c.id other) (list_any (λ x. is_within n list c.id x && is_one_step x other) list) h) [
+        | inl sooner ↦ within-more list e.id (suc n) other (within-first n e c other there at' among' step sooner)
+        | inr later ↦
+            let found = list_any-found (λ x. is_within n list c.id x && is_one_step x other) list later in
+            let parts = and_parts (is_within n list c.id found.0) (is_one_step found.0 other) found.2 in
+            within-step list e.id (suc n) found.0 other found.1 (within-first n e c found.0 there at' found.1 step parts.0) parts.1
+      ]
+
+  pub within-turned : (n : ℕ) (e other : Drawn) → Contains list e → Contains list other → is_within n list e.id other ≡ true → is_within n list other.id e ≡ true
+  unfolding is_within
+  within-turned zero e other there at' h = turned e.id other.id h
+  within-turned (suc n) e other there at' h =
+      elim (or_cases (is_within n list e.id other) (list_any (λ x. is_within n list e.id x && is_one_step x other) list) h) [
+        | inl sooner ↦ within-more list other.id n e (within-turned n e other there at' sooner)
+        | inr later ↦
+            let found = list_any-found (λ x. is_within n list e.id x && is_one_step x other) list later in
+            let parts = and_parts (is_within n list e.id found.0) (is_one_step found.0 other) found.2 in
+            within-first n other found.0 e at' found.1 there (step-turned found.0 other parts.1) (within-turned n e found.0 there found.1 parts.0)
+      ]
+
+pub within-both : (list : List Drawn) (n : ℕ) (e other : Drawn) → HaveDistinctIds list → Contains list e → Contains list other → is_within n list e.id other ≡ is_within n list other.id e
+within-both list n e other distinct there at' =
+    same_bools _ _ (within-turned list distinct n e other there at') (within-turned list distinct n other e at' there)

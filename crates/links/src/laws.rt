@@ -1,11 +1,11 @@
 //! Laws on settled links, for all lists of elements. They do nothing when they run.
 
-ghost use Rattle.std.specs.Prelude.{◌≡◌, ℕ, List, Bool, All, IsTrue, find, filter, map};
+ghost use Rattle.std.specs.Prelude.{◌≡◌, ℕ, List, Bool, All, Contains, IsTrue, find, filter, map};
 ghost use Rattle.elem.specs.Drawn.{Drawn};
 ghost use Rattle.links.specs.Arrows.{settled_arrows};
 ghost use Rattle.links.specs.Names.{has_id, HaveDistinctIds};
 ghost use Rattle.links.specs.Settled.{unlinked, unplaced, settled_links, ArrowsAgree, TextsAgree, HaveOneText, NameTargets};
-ghost use Rattle.links.specs.Steps.{near};
+ghost use Rattle.links.specs.Steps.{is_within, near};
 ghost use Rattle.links.specs.Texts.{settled_texts};
 
 /// After texts and then arrows are settled, an arrow names an element exactly if that element lists it, a text names a
@@ -42,4 +42,11 @@ pub fn three_steps_are_enough()
     ensures { (list : List Drawn) (among : Drawn → Bool) (id : List ℕ)
         → HaveDistinctIds list → All (λ e. IsTrue (among e)) (near list id)
         → find (has_id id) (settled_links (filter among list)) ≡ find (has_id id) (settled_links list) }
+{}
+
+/// Steps of naming lead back: an element is as near another one as that is to it.
+pub fn steps_lead_back()
+    ensures { (list : List Drawn) (n : ℕ) (e other : Drawn)
+        → HaveDistinctIds list → Contains list e → Contains list other
+        → is_within n list e.id other ≡ is_within n list other.id e }
 {}

@@ -12,7 +12,7 @@ use Rattle.frames_groups.proofs.FrameLaws.{framed-among}
 use Rattle.links.specs.Arrows.{with_settled_links}
 use Rattle.links.specs.Names.{has_id, is_id, HaveDistinctIds}
 use Rattle.links.specs.Settled.{settled_links, unlinked, unplaced}
-use Rattle.links.specs.Steps.{names_id, is_within, near}
+use Rattle.links.specs.Steps.{names_id, is_within}
 use Rattle.links.specs.Texts.{with_settled_container, settled_texts}
 use Rattle.links.proofs.Members.{bytes_eq-refl, find-map, find-Some, map-map}
 use Rattle.links.proofs.Near.{near-all, links-alone, found-settled, step-to, within-own, within-more, within-step}
@@ -105,13 +105,22 @@ module _ (list : List Drawn) (among : Drawn → Bool) (id : List ℕ) (distinct 
       ∙ ap (λ o. option_map grouped (option_map (framed (has_frame (settled_links list))) o)) (sym of_list)
       ∙ sym (found-framed (settled_links list) id)
 
--- ---- two lists with the same elements near an id, but for their keys
-alike-near : (list : List Drawn) (id : List ℕ) → HaveDistinctIds list → settled_but_for_key list id ≡ element_of (settled (map without_index (near list id))) id
-alike-near list id distinct =
-    ap (option_map without_index) (sym (settled-alone list (is_within 3 list id) id distinct (filter_passes (is_within 3 list id) list)))
-    ∙ sym (find-map (is_of id) without_index (settled (near list id)))
-    ∙ ap (λ es. element_of es id) (sym (settled-keys (near list id)))
+-- ---- two lists whose elements of some kind are the same, but for their keys
+part-keys : (list : List Drawn) (among : Drawn → Bool) (id : List ℕ) → HaveDistinctIds list → HasAllNear among list id
+    → settled_but_for_key list id ≡ element_of (settled (map without_index (filter among list))) id
+part-keys list among id distinct has_near =
+    ap (option_map without_index) (sym (settled-alone list among id distinct has_near))
+    ∙ sym (find-map (is_of id) without_index (settled (filter among list)))
+    ∙ ap (λ es. element_of es id) (sym (settled-keys (filter among list)))
 
+pub settled-unchanged : (list other : List Drawn) (among : Drawn → Bool) (id : List ℕ) → HaveDistinctIds list → HaveDistinctIds other
+    → map without_index (filter among list) ≡ map without_index (filter among other) → HasAllNear among list id → HasAllNear among other id
+    → settled_but_for_key list id ≡ settled_but_for_key other id
+settled-unchanged list other among id distinct apart same has_near has_near' =
+    part-keys list among id distinct has_near ∙ ap (λ es. element_of (settled es) id) same ∙ sym (part-keys other among id apart has_near')
+
+-- ---- two lists with the same elements near an id, but for their keys
 pub settled-alike : (list other : List Drawn) (id : List ℕ) → HaveDistinctIds list → HaveDistinctIds other → AreAlikeNear list other id → settled_but_for_key list id ≡ settled_but_for_key other id
 settled-alike list other id distinct apart same =
-    alike-near list id distinct ∙ ap (λ es. element_of (settled es) id) same ∙ sym (alike-near other id apart)
+    part-keys list (is_within 3 list id) id distinct (filter_passes (is_within 3 list id) list) ∙ ap (λ es. element_of (settled es) id) same
+    ∙ sym (part-keys other (is_within 3 other id) id apart (filter_passes (is_within 3 other id) other))

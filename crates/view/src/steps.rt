@@ -19,6 +19,14 @@ pub fn three_steps_are_enough()
     ensures alone { (list : List Drawn) (among : Drawn → Bool) (id : List ℕ)
         → HaveDistinctIds list → HasAllNear among list id
         → settled_of (filter among list) id ≡ settled_of list id }
+
+    // Where some elements of two lists are the same but for their keys, and in the same order, and those near one are among
+    // them in both lists, settling makes the same of it in both, but for its key.
+    ensures unchanged { (list other : List Drawn) (among : Drawn → Bool) (id : List ℕ)
+        → HaveDistinctIds list → HaveDistinctIds other
+        → map without_index (filter among list) ≡ map without_index (filter among other)
+        → HasAllNear among list id → HasAllNear among other id
+        → settled_but_for_key list id ≡ settled_but_for_key other id }
 {}
 
 /// Keys play no part in settling.
