@@ -1,5 +1,5 @@
 -- Stacks of which the last entries go to the other one, and steps that are planned for them.
-use Rattle.std.proofs.Common.{◌≡◌, ◌⊎◌, ◌↔◌, ℕ, zero, suc, ◌+◌, ◌-◌, ◌<◌, ◌≤◌, length, get_or, take, drop, append_assoc, map, reverse, Bool, true, false, Result, Ok, List, [], ◌∷◌, ◌++◌, Option, Some, None, IfSome, Contains, slice_get, refl, sym, ap, ◌∙◌, subst, subst₂, inl, inr, length-append, arith}
+use Rattle.std.proofs.Common.{◌≡◌, ◌↔◌, ℕ, zero, suc, ◌+◌, ◌-◌, ◌<◌, length, get_or, take, drop, append_assoc, map, reverse, Bool, true, false, Result, Ok, List, [], ◌∷◌, ◌++◌, Option, Some, None, IfSome, Contains, slice_get, refl, sym, ap, ◌∙◌, subst, subst₂, inl, inr, length-append, arith}
 use Rattle.std.proofs.Math.Seq.{take-append_seam}
 use Rattle.std.proofs.lemmas.List.{map-append}
 use Rattle.std.proofs.lemmas.List.Elements.{Contains-append_right, Contains-push_cases}
@@ -13,7 +13,7 @@ use Rattle.history.specs.declared.planned.Plan.{Plan}
 use Rattle.history.specs.declared.step.Step.{Step}
 use Rattle.history.specs.declared.step.Step.TheVariants as steps
 use Rattle.history.specs.Places.{IsSeenAt}
-use Rattle.history.specs.Stacks.{Stacks, AreUnseen, IsTopmostSeen, HasStepped, HasUndone, HasRedone, StopsAt, IsPlanned, FitsIn, noted, put_step, with_entry, redo_left, below_last, last_of, grown_by, side}
+use Rattle.history.specs.Stacks.{Stacks, AreUnseen, IsTopmostSeen, HasStepped, HasUndone, HasRedone, StopsAt, IsPlanned, FitsIn, noted, put_step, with_entry, redo_left, below_last, grown_by, side}
 use Rattle.history.specs.Steps.{IsSeen, IsStep, IsLeastFull}
 
 -- ---- lists

@@ -1,5 +1,5 @@
 -- What can be undone and redone. This project's own, after Excalidraw's history.
-use Rattle.std.specs.Prelude.{◌≡◌, ◌≢◌, ℕ, suc, ◌+◌, ◌-◌, ◌<◌, min, List, [], ◌∷◌, ◌++◌, Bool, true, false, Option, Some, None, IfSome, length, take, drop, map, reverse, Contains, IsSome}
+use Rattle.std.specs.Prelude.{◌≡◌, ℕ, ◌+◌, ◌-◌, ◌<◌, min, List, [], ◌∷◌, ◌++◌, Bool, true, false, Option, Some, None, IfSome, length, take, drop, map, reverse, Contains, IsSome}
 use Rattle.board_io.specs.declared.stop.Stop.{Stop}
 use Rattle.board_io.specs.declared.stop.Stop.TheVariants.{Fault, Memory}
 use Rattle.elem.specs.Drawn.{Drawn}

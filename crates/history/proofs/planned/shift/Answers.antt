@@ -1,5 +1,5 @@
 -- One more entry moves.
-use Rattle.std.proofs.Common.{◌≡◌, ◌+◌, ◌-◌, ◌<◌, ◌++◌, [], ◌∷◌, length, map, reverse, append_assoc, sym, ap, ◌∙◌, arith}
+use Rattle.std.proofs.Common.{◌+◌, ◌<◌, ◌++◌, [], ◌∷◌, length, map, reverse, append_assoc, sym, ap, ◌∙◌, arith}
 use Rattle.delta.specs.Parts.{inverses}
 use Rattle.history.specs.Stacks.{below_last, last_of}
 use Rattle.history.proofs.PlanLaws.{split-last, moved-more}

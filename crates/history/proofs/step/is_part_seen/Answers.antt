@@ -1,5 +1,5 @@
 -- The inverse of a part makes one element alone, but for the stamp.
-use Rattle.std.proofs.Common.{◌≡◌, ◌⊎◌, false, sym, ap, ◌∙◌, inl, inr}
+use Rattle.std.proofs.Common.{◌≡◌, ◌⊎◌, false, ap, ◌∙◌, inl, inr}
 use Rattle.elem.specs.Drawn.{Drawn}
 use Rattle.delta.specs.Parts.{inverse}
 use Rattle.delta.proofs.PartLaws.{applied-apart}

@@ -1,5 +1,5 @@
 -- The plan is that of the topmost entry.
-use Rattle.std.proofs.Common.{◌≡◌, ◌+◌, ◌<◌, Some, IfSome, length, drop, slice_get, length-drop, sym, ap, ◌∙◌, subst, arith}
+use Rattle.std.proofs.Common.{◌≡◌, ◌+◌, ◌<◌, Some, IfSome, length, slice_get, length-drop, sym, ap, ◌∙◌, subst, arith}
 use Rattle.std.proofs.lemmas.Option.{slice_get-get_or, slice_get_within}
 use Rattle.std.proofs.lemmas.Result.{err_from_is_err_and}
 use Rattle.history.specs.Places.{IsSeenAt}

@@ -1,7 +1,7 @@
 -- The plan is that of the other stack, where nothing is pending.
-use Rattle.std.proofs.Common.{◌≡◌, ◌⊎◌, Bool, true, false, not, Ok, None, IfSome, Contains, sym, ap, ◌∙◌, subst}
+use Rattle.std.proofs.Common.{◌≡◌, false, None, IfSome, Contains, sym, ap, ◌∙◌, subst}
 use Rattle.history.specs.declared.planned.Plan.{Plan}
-use Rattle.history.specs.Stacks.{Recorded, AreUnseen, IsPlanned, noted, redo_left}
+use Rattle.history.specs.Stacks.{Recorded, AreUnseen, IsPlanned, noted}
 use Rattle.history.proofs.PlanLaws.{nothing-planned, done-planned, redone-planned, kept-planned, fits-planned, ok-same, left-none}
 use Rattle.history.proofs.history.History.plan_redo.Goals as goal
 use Rattle.history.proofs.history.History.plan_redo.Goals.{In_ok-plan}

@@ -1,5 +1,5 @@
 -- The plan is that of the stack once the pending entry is noted.
-use Rattle.std.proofs.Common.{◌≡◌, true, Ok, None, IfSome, Contains, sym, ap, ◌∙◌, subst}
+use Rattle.std.proofs.Common.{◌≡◌, true, None, IfSome, Contains, ap, subst}
 use Rattle.history.specs.declared.planned.Plan.{Plan}
 use Rattle.history.specs.Stacks.{Recorded, AreUnseen, IsPlanned, noted, with_entry}
 use Rattle.history.proofs.PlanLaws.{nothing-planned, done-planned, undone-planned, kept-planned, fits-planned, ok-same}

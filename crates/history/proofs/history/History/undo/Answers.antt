@@ -2,7 +2,7 @@
 use Rattle.std.proofs.Common.{◌≡◌, ◌↔◌, Ok, Contains, sym, ap, ◌∙◌, subst, subst₂}
 use Rattle.history.specs.declared.step.Step.{Step}
 use Rattle.history.specs.declared.step.Step.TheVariants as steps
-use Rattle.history.specs.Stacks.{Stacks, AreUnseen, HasUndone, HasRedone, noted}
+use Rattle.history.specs.Stacks.{Stacks, AreUnseen, HasUndone, noted}
 use Rattle.history.proofs.PlanLaws.{noted-none, ok-same}
 use Rattle.history.proofs.history.History.undo.Goals as goal
 use Rattle.history.proofs.history.History.undo.Goals.{After-plan_undo}
