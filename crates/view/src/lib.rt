@@ -5,6 +5,7 @@ mod changes;
 mod keys;
 pub mod laws;
 mod order;
+mod redrawing;
 mod view;
 
 pub use keys::with_repaired_keys;
