@@ -1,17 +1,15 @@
 -- What a command comes to, by what was found of it.
-use Rattle.std.proofs.Common.{◌≡◌, ℕ, suc, ◌+◌, Bool, true, false, List, [], ◌∷◌, Option, Some, None, Result, Ok, Err, find, insert, if◌then◌else◌, inl, inr, refl, sym, ap, ◌∙◌, subst, arith}
+use Rattle.std.proofs.Common.{◌≡◌, ℕ, suc, ◌+◌, List, [], ◌∷◌, Option, Some, None, Result, Ok, Err, find, insert, inl, inr, refl, sym, ap, ◌∙◌, subst, arith}
 use Rattle.std.specs.List.{prefix_len}
 use Rattle.std.specs.Option.{option_map, option_or}
-use Rattle.std.proofs.lemmas.Bool.{cases_Bool, false≢true}
+use Rattle.std.proofs.lemmas.Bool.{cases_Bool}
 use Rattle.std.proofs.lemmas.Option.{same_Some}
 use Rattle.frac_keys.specs.Keys.{bytes_less}
 use Rattle.elem.specs.Drawn.{Drawn}
-use Rattle.view.specs.Shown.{with_element}
 use Rattle.effects.specs.declared.command.Command.{Command}
 use Rattle.effects.specs.declared.command.Refusal.{Refusal}
 use Rattle.effects.specs.declared.effect.Effect.{Effect}
 use Rattle.effects.specs.Changed.{is_full, changes_of, created, with_created, outcome, outcome_from, outcome_unless, refusal_at}
-use Rattle.effects.specs.Effects.{effect}
 use Rattle.effects.specs.Prepared.{made_by, Prepares}
 use Rattle.effects.specs.Refusals.{refusal_of}
 

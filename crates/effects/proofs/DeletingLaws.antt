@@ -1,11 +1,11 @@
 -- An element that names nothing that is gone stays as it is.
-use Rattle.std.proofs.Common.{◌≡◌, ℕ, Bool, true, false, not, ◌||◌, List, [], ◌∷◌, Option, Some, None, filter, if◌then◌else◌, refl, sym, ap, ◌∙◌}
+use Rattle.std.proofs.Common.{◌≡◌, ℕ, Bool, false, List, [], ◌∷◌, refl, sym, ap}
 use Rattle.std.specs.List.{list_any}
 use Rattle.std.proofs.lemmas.Bool.{or_parts}
 use Rattle.elem.specs.declared.parts.BoundRef.{BoundRef}
 use Rattle.elem.specs.Drawn.{Drawn}
 use Rattle.links.specs.Names.{target_of}
-use Rattle.effects.specs.Deleting.{kept_name, kept_end, kept_entries, without_names, deleted_from, has_gone_names}
+use Rattle.effects.specs.Deleting.{kept_entries, deleted_from, has_gone_names}
 use Rattle.effects.specs.Naming.{is_some_that}
 
 all-kept : (is_gone : List ℕ → Bool) (entries : List BoundRef) → list_any (λ (entry : BoundRef). is_gone entry.id) entries ≡ false → kept_entries is_gone entries ≡ entries

@@ -1,5 +1,5 @@
 -- No effect changes an element's id, kind, version or file.
-use Rattle.std.proofs.Common.{◌≡◌, ℕ, Bool, true, false, ◌&&◌, List, Option, Some, None, bytes_eq, if◌then◌else◌, nat_cmp, refl, sym, ap, ◌∙◌}
+use Rattle.std.proofs.Common.{◌≡◌, ℕ, Bool, true, false, ◌&&◌, List, Option, Some, None, bytes_eq, if◌then◌else◌, nat_cmp, refl, ◌∙◌}
 use Rattle.std.specs.BTreeSet.{contains}
 use Rattle.std.specs.Cmp.Lexicographic.{slice_cmp}
 use Rattle.elem.specs.declared.kind.Kind.{Kind}
@@ -11,11 +11,10 @@ use Rattle.effects.specs.declared.command.Side.{Side}
 use Rattle.effects.specs.declared.command.Side.TheVariants.{Start, End}
 use Rattle.effects.specs.declared.effect.Effect.{Effect}
 use Rattle.effects.specs.declared.effect.Effect.TheVariants as effects
-use Rattle.effects.specs.Deleting.{deleted_from, without_names}
+use Rattle.effects.specs.Deleting.{without_names}
 use Rattle.effects.specs.Effects.{with_group, without_group}
 use Rattle.effects.specs.Linking.{listed, unlisted, with_entry, without_entry, with_end, with_end_of, with_container_of, with_text_of, with_text_alone, without_container_of}
-use Rattle.effects.specs.Placing.{with_key_of}
-use Rattle.effects.specs.Prepared.{made_by, settled_in, linked, put_in, taken_out}
+use Rattle.effects.specs.Prepared.{made_by, settled_in}
 use Rattle.effects.specs.Settings.{with_member}
 
 -- what an element is

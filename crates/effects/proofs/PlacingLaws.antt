@@ -1,13 +1,11 @@
 -- Keys in the order of a scene: those beside a spot rise, and a map has the keys of elements by their ids.
-use Rattle.std.proofs.Common.{◌≡◌, ℕ, Bool, true, false, cond, not, ◌&&◌, List, [], ◌∷◌, ◌++◌, Option, Some, None, is_some, map, filter, if◌then◌else◌, bytes_eq, nat_cmp, inl, inr, refl, sym, ap, ◌∙◌, subst, Bor}
+use Rattle.std.proofs.Common.{◌≡◌, ℕ, Bool, true, false, cond, not, ◌&&◌, List, [], ◌∷◌, ◌++◌, Option, Some, None, is_some, map, bytes_eq, nat_cmp, inl, inr, refl, sym, ap, ◌∙◌, subst, Bor}
 use Rattle.std.specs.BTreeMap.{BTreeMap, get, Updates}
 use Rattle.std.specs.Cmp.Lexicographic.{slice_cmp, nat_list_eq_equiv, texts_ties}
 use Rattle.std.specs.Option.{option_or, option_map, option_copied}
 use Rattle.std.proofs.lemmas.Bool.{cases_Bool, false≢true}
-use Rattle.std.proofs.lemmas.Option.{same_Some}
 use Rattle.scene_json.proofs.Collapsed.{bytes_eq-true}
-use Rattle.frac_keys.specs.Keys.{bytes_less}
-use Rattle.frac_keys.specs.Rising.{ends_rise, rise_between, are_rising}
+use Rattle.frac_keys.specs.Rising.{ends_rise, rise_between}
 use Rattle.elem.specs.Drawn.{Drawn}
 use Rattle.elem.proofs.Sorting.{bytes_less-trans}
 use Rattle.elem_store.specs.Updates.{is_of, element_of}

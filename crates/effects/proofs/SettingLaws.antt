@@ -1,5 +1,5 @@
 -- A member that gets a value.
-use Rattle.std.proofs.Common.{◌≡◌, ℕ, zero, suc, ◌+◌, ◌<◌, ◌≤◌, Bool, true, false, List, [], ◌∷◌, ◌++◌, ◌||◌, length, take, drop, Option, Some, None, slice_get, slice_set, insert, if◌then◌else◌, bytes_eq, codes, inl, inr, refl, sym, ap, ◌∙◌, arith}
+use Rattle.std.proofs.Common.{◌≡◌, ℕ, suc, ◌+◌, ◌≤◌, Bool, true, false, List, [], ◌∷◌, Some, slice_get, slice_set, insert, bytes_eq, codes, inl, inr, refl, ap, arith}
 use Rattle.std.specs.List.{AllByRecursion, prefix_len, list_any}
 use Rattle.std.specs.Option.{option_map_or}
 use Rattle.std.proofs.lemmas.Bool.{cases_Bool, false≢true, or_parts}
@@ -9,7 +9,7 @@ use Rattle.frac_keys.specs.Keys.{bytes_less}
 use Rattle.elem.specs.Facts.{is_header, header_names, own_names}
 use Rattle.elem.specs.declared.kind.Kind.{Kind}
 use Rattle.elem.specs.declared.kind.Kind.TheVariants as kinds
-use Rattle.delta.specs.Rest.{with_value, without_first}
+use Rattle.delta.specs.Rest.{with_value}
 use Rattle.effects.specs.Settings.{is_protected, protected_names}
 
 abbrev pub below : List ℕ → List Member → ℕ

@@ -1,8 +1,8 @@
 -- What an effect changes, element by element.
-use Rattle.std.proofs.Common.{◌≡◌, ◌≢◌, ℕ, zero, suc, ◌+◌, ◌<◌, Bool, true, false, ◌&&◌, ◌==◌, List, [], ◌∷◌, ◌++◌, length, get_or, take, Option, Some, None, find, filter_map, slice_get, if◌then◌else◌, inl, inr, refl, sym, ap, ◌∙◌, subst, arith}
+use Rattle.std.proofs.Common.{◌≡◌, ◌≢◌, ℕ, zero, suc, ◌+◌, ◌<◌, Bool, true, false, ◌==◌, List, [], ◌∷◌, ◌++◌, length, get_or, take, Option, Some, None, find, slice_get, if◌then◌else◌, inl, inr, refl, sym, ap, ◌∙◌, subst, arith}
 use Rattle.std.specs.List.{cons_option}
 use Rattle.std.specs.Option.{option_map, unwrap_or}
-use Rattle.std.proofs.lemmas.Bool.{cases_Bool, false≢true, eqb-true, eq-eqb}
+use Rattle.std.proofs.lemmas.Bool.{cases_Bool, eqb-true, eq-eqb}
 use Rattle.std.proofs.lemmas.List.{take_more}
 use Rattle.std.proofs.lemmas.List.Elements.{filter_map-append}
 use Rattle.std.proofs.lemmas.Option.{same_Some}
@@ -12,12 +12,12 @@ use Rattle.elem.specs.Order.{unstamped}
 use Rattle.view.specs.Shown.{is_live}
 use Rattle.effects.specs.declared.command.Refusal.{Refusal}
 use Rattle.effects.specs.declared.effect.Effect.{Effect}
-use Rattle.effects.specs.Changed.{stamped, is_changed, is_full, change_of, changes_of, refusal_at}
+use Rattle.effects.specs.Changed.{stamped, is_full, change_of, changes_of, refusal_at}
 use Rattle.effects.specs.Differing.{differs}
 use Rattle.effects.specs.Prepared.{made_by}
 use Rattle.effects.proofs.DifferingLaws.{same-where-not, differs-not}
-use Rattle.effects.proofs.FirstLaws.{first, first-more, first-found}
-use Rattle.effects.proofs.KeepingLaws.{Self, self_of, made_by-keeps}
+use Rattle.effects.proofs.FirstLaws.{first-more, first-found}
+use Rattle.effects.proofs.KeepingLaws.{Self, made_by-keeps}
 
 -- what was made of an element, if it differs
 abbrev pub told : Drawn → Drawn → Option Drawn

@@ -1,5 +1,5 @@
 -- The changed elements of a command, or its refusal. This project's own.
-use Rattle.std.specs.Prelude.{◌≡◌, ℕ, ◌+◌, ◌==◌, List, [], Bool, false, ◌&&◌, Option, Some, None, Result, Ok, Err, find, filter_map, if◌then◌else◌}
+use Rattle.std.specs.Prelude.{ℕ, ◌+◌, ◌==◌, List, Bool, false, ◌&&◌, Option, Some, None, Result, Ok, Err, find, filter_map, if◌then◌else◌}
 use Rattle.board_io.specs.declared.stop.Stop.{Stop}
 use Rattle.board_io.specs.declared.stop.Stop.TheVariants.{Fault, Memory}
 use Rattle.frac_keys.specs.Keys.{bytes_less}

@@ -1,6 +1,5 @@
 -- What each command makes of a live stored element. This project's own.
 use Rattle.std.specs.Prelude.{ℕ, List, [], ◌∷◌, ◌++◌, not, Option, Some, None, filter, bytes_eq, if◌then◌else◌}
-use Rattle.elem.specs.declared.parts.Binding.{Binding}
 use Rattle.elem.specs.Drawn.{Drawn}
 use Rattle.effects.specs.declared.command.Command.{Command}
 use Rattle.effects.specs.declared.command.Command.TheVariants as commands

@@ -1,5 +1,5 @@
 -- Why a command is refused before anything of it is made. This project's own.
-use Rattle.std.specs.Prelude.{ℕ, List, [], ◌∷◌, ◌++◌, Bool, true, false, not, Option, Some, None, is_some, find, bytes_eq, if◌then◌else◌}
+use Rattle.std.specs.Prelude.{ℕ, List, [], ◌∷◌, ◌++◌, Bool, true, false, not, Option, Some, None, is_some, find, bytes_eq}
 use Rattle.std.specs.Option.{option_or, option_map, option_map_or}
 use Rattle.elem.specs.declared.kind.Kind.{Kind}
 use Rattle.elem.specs.Drawn.{Drawn}

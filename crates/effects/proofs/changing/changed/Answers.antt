@@ -1,10 +1,9 @@
-use Rattle.std.proofs.Common.{◌≡◌, Some, None, Ok, Err, ap, ◌∙◌, sym, find, rules}
+use Rattle.std.proofs.Common.{◌≡◌, Some, Err, ◌∙◌, find, rules}
 use Rattle.std.specs.Option.{option_map}
 use Rattle.view.specs.Shown.{shown}
 use Rattle.effects.specs.Changed.{OnFault, outcome, is_full, refusal_at}
 use Rattle.effects.specs.Prepared.{made_by}
 use Rattle.effects.specs.Refusals.{refusal_of, existing, missing, misfit, guarded}
-use Rattle.effects.specs.declared.command.Refusal.{Refusal}
 use Rattle.effects.proofs.ChangedLaws.{outcome-refused, outcome-full, outcome-ok, guarded-none}
 use Rattle.effects.proofs.FirstLaws.{OnFault-weaker}
 use Rattle.effects.proofs.changing.changed.Goals as goal

@@ -1,5 +1,5 @@
 -- The keys beside the element rise, and an element that isn't it is passed over.
-use Rattle.std.proofs.Common.{◌≡◌, ◌∷◌, Some, None, refl, sym, ap, ◌∙◌, subst}
+use Rattle.std.proofs.Common.{◌∷◌, Some, None, refl, sym, ap, ◌∙◌, subst}
 use Rattle.std.specs.Option.{option_copied}
 use Rattle.frac_keys.specs.Rising.{ends_rise}
 use Rattle.elem.specs.Drawn.{Drawn}

@@ -1,8 +1,7 @@
 -- A new id gets its key, and another one keeps its own.
-use Rattle.std.proofs.Common.{◌≡◌, ℕ, List, Option, Some, true, false, is_some, nat_cmp, sym, ap, ◌∙◌, subst}
-use Rattle.std.specs.BTreeMap.{BTreeMap, get, Updates}
+use Rattle.std.proofs.Common.{Some, is_some, nat_cmp, sym, ap, ◌∙◌, subst}
+use Rattle.std.specs.BTreeMap.{get, Updates}
 use Rattle.std.specs.Cmp.Lexicographic.{slice_cmp}
-use Rattle.std.specs.Option.{option_copied}
 use Rattle.elem.specs.Drawn.{Drawn}
 use Rattle.effects.proofs.PlacingLaws.{HasKeys-known, HasKeys-new, copied}
 use Rattle.effects.proofs.placing.note_key.Goals as goal

@@ -1,4 +1,4 @@
-use Rattle.std.proofs.Common.{ap, ◌∙◌, subst}
+use Rattle.std.proofs.Common.{subst}
 use Rattle.effects.specs.Prepared.{HasKeys}
 use Rattle.effects.proofs.PreparingLaws.{settled-in}
 use Rattle.effects.proofs.preparing.settle.Goals as goal

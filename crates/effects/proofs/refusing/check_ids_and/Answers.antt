@@ -1,5 +1,5 @@
 -- The first of the ids that is missing, or else the last one.
-use Rattle.std.proofs.Common.{◌≡◌, ℕ, List, not, sym, ap, ◌∙◌, Some, None, [], ◌∷◌, ◌++◌, rules}
+use Rattle.std.proofs.Common.{◌≡◌, ℕ, List, not, ap, ◌∙◌, Some, None, [], ◌∷◌, ◌++◌, rules}
 use Rattle.std.specs.Option.{option_or}
 use Rattle.board_io.specs.declared.stop.Stop.{Stop}
 use Rattle.elem.specs.Drawn.{Drawn}

@@ -1,5 +1,5 @@
 -- None of the ids so far is a frame's, and then the next one is or isn't.
-use Rattle.std.proofs.Common.{◌≡◌, ◌<◌, not, ap, ◌∙◌, Bool, true, false, length, get_or, sym, refl, Option, Some, None, [], ◌∷◌, arith, rules}
+use Rattle.std.proofs.Common.{◌≡◌, ◌<◌, not, ap, ◌∙◌, length, get_or, sym, Some, arith, rules}
 use Rattle.frames_groups.specs.Frames.{is_frame_kind}
 use Rattle.effects.specs.declared.command.Refusal.TheVariants.{WrongKind}
 use Rattle.effects.specs.Changed.{OnFault}

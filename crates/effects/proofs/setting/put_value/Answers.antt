@@ -1,7 +1,6 @@
 -- The member has its place behind those of lesser names.
-use Rattle.std.proofs.Common.{◌≡◌, Some, sym, ap, ◌∙◌, slice_set, insert}
-use Rattle.scene_json.specs.declared.text.Member.{Member}
-use Rattle.effects.proofs.SettingLaws.{below, has_name, with_value-set, with_value-insert}
+use Rattle.std.proofs.Common.{sym, ◌∙◌}
+use Rattle.effects.proofs.SettingLaws.{with_value-set, with_value-insert}
 use Rattle.effects.proofs.setting.put_value.Goals as goal
 
 pub returns-then-is_named_at : goal.returns-then-is_named_at

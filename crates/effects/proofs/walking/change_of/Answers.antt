@@ -1,4 +1,4 @@
-use Rattle.std.proofs.Common.{◌≡◌, false, true, sym, ◌∙◌, rules}
+use Rattle.std.proofs.Common.{◌≡◌, true, sym, ◌∙◌, rules}
 use Rattle.effects.specs.Changed.{OnFault, is_full, refusal_at}
 use Rattle.effects.specs.Prepared.{made_by}
 use Rattle.effects.specs.declared.command.Refusal.{Refusal}

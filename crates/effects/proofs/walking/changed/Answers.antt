@@ -1,4 +1,4 @@
-use Rattle.std.proofs.Common.{◌≡◌, false, true, sym, ◌∙◌}
+use Rattle.std.proofs.Common.{sym, ◌∙◌}
 use Rattle.std.proofs.lemmas.Bool.{false≢true}
 use Rattle.effects.specs.Prepared.{made_by}
 use Rattle.effects.proofs.WalkingLaws.{told-none, told-same, told-other}

@@ -1,6 +1,6 @@
-use Rattle.std.proofs.Common.{◌≡◌, true, Some, None, find, take_all, ap, ◌∙◌, sym, rules, arith}
+use Rattle.std.proofs.Common.{◌≡◌, true, Some, find, ◌∙◌, rules}
 use Rattle.std.specs.Option.{option_map}
-use Rattle.effects.specs.Changed.{OnFault, changes_of, is_full, refusal_at}
+use Rattle.effects.specs.Changed.{OnFault, is_full, refusal_at}
 use Rattle.effects.specs.Prepared.{made_by}
 use Rattle.effects.specs.declared.command.Refusal.{Refusal}
 use Rattle.effects.proofs.FirstLaws.{OnFault-weaker}
