@@ -36,7 +36,7 @@ pub use named::{has_value, is_one_of, shaped, text_named, truth_named, value_nam
 pub use nesting::{depth_of, nests_at_most};
 pub use parts::{items, members, text_of};
 pub use quote_bytes::QuoteBytes;
-pub use scalar::{GREATEST_WHOLE, is_null, truth_of, whole_of};
+pub use scalar::{GREATEST_WHOLE, is_null, truth_of, whole_in, whole_of};
 pub use scanning::scan;
 pub use text::{Member, Raw, Text};
 pub use texts::texts_of;
