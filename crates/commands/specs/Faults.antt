@@ -55,8 +55,11 @@ HasFixedLine (fault.Text number found) = ⊥
 HasFixedLine (fault.Extra at) = ⊥
 HasFixedLine other = Unit {0}
 
--- The notes gained the line of the fault, or a first part of it where their count of faults rose.
+-- The notes gained the line, or a first part of it where their count of faults rose.
+abbrev pub IsNoted : List ℕ → SinkEnd → SinkEnd → Type 0
+IsNoted line before after =
+    Took before after line ⊎ ((n : ℕ) × (n ≤ length line) × Took before after (take n line) × Rose before.faults after.faults)
+
+-- The notes gained the line of the fault.
 abbrev pub Noted : Fault → SinkEnd → SinkEnd → Type 0
-Noted fault before after =
-    Took before after (line_of fault)
-    ⊎ ((n : ℕ) × (n ≤ length (line_of fault)) × Took before after (take n (line_of fault)) × Rose before.faults after.faults)
+Noted fault before after = IsNoted (line_of fault) before after

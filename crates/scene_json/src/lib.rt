@@ -34,7 +34,7 @@ pub use layout::{Lines, pretty};
 pub use named::{has_value, is_one_of, shaped, text_named, truth_named, value_named, whole_named};
 pub use nesting::{depth_of, nests_at_most};
 pub use parts::{items, members, text_of};
-pub use scalar::{GREATEST_WHOLE, is_null, truth_of, whole_of};
+pub use scalar::{GREATEST_WHOLE, is_null, truth_of, whole_in, whole_of};
 pub use scanning::scan;
 pub use text::{Member, Raw, Text};
 pub use texts::texts_of;

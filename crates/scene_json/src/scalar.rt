@@ -13,7 +13,14 @@ pub fn whole_of(value: &Raw) -> Option<u64>
     ensures found { IfSome result (λ n. (n ≤ GREATEST_WHOLE) × (value.now ≡ decimal n)) }
     ensures only { (n : ℕ) → n ≤ GREATEST_WHOLE → value.now ≡ decimal n → result ≡ Some n }
 {
-    let digits = value.as_bytes();
+    whole_in(value.as_bytes())
+}
+
+/// The whole number that these bytes are in plain decimal, where it is at most 9,007,199,254,740,991. It takes no memory.
+pub fn whole_in(digits: &[u8]) -> Option<u64>
+    ensures found { IfSome result (λ n. (n ≤ GREATEST_WHOLE) × (digits.now ≡ decimal n)) }
+    ensures only { (n : ℕ) → n ≤ GREATEST_WHOLE → digits.now ≡ decimal n → result ≡ Some n }
+{
     if digits.is_empty() || digits.len() > 1 && digits[0] == b'0' {
         return None;
     }

@@ -1,0 +1,145 @@
+//! A room that is served: from the scenes that it begins with to the scene that is written at its end.
+
+ghost use Rattle.std.specs.Prelude.{◌≡◌, ◌≢◌, ◌⊎◌, Some, Ok, [], List as Items, IfOk, IfErr, Err};
+ghost use Rattle.board_io.specs.Counts.{Rose};
+ghost use Rattle.room_core.specs.Serving.{at_start, IsServed};
+ghost use Rattle.room_core.specs.Told.{told_of};
+ghost use Rattle.scene_file.specs.declared.scene.Scene.{Scene};
+ghost use Rattle.commands.specs.Answers.{IsBoardOf, IsRefusal};
+ghost use Rattle.commands.specs.Input.{HasScenes};
+ghost use Rattle.commands.specs.Services.{IsService};
+ghost use Rattle.commands.specs.Serving.{links_seen, end_line, end_status, HasServingCause, IsSceneOfStored, WasHeld, WasServedTo};
+ghost use Rattle.commands.specs.Faults.{IsNoted};
+ghost use Rattle.commands.specs.declared.status.Fault.{Fault};
+
+use crate::answer::{board_of, ended};
+use crate::load::scenes;
+use crate::running::input_of;
+use crate::status::{Fault, Status};
+use crate::words::Service;
+use board_io::{Bytes, Failed, LinkError, Links, Sink, Source, Stop, write_all};
+use elem_store::Store;
+use room_core::{Room, ServeEnd, serve_room};
+use scene_file::{Head, Layout, scene_text};
+use std::alloc::{AllocError, Global};
+use view::view_of;
+
+/// Reads the scenes that a room begins with, serves it to its end, and writes the scene of what it stores then.
+pub(crate) fn serve<S: Source, K: Sink, L: Links>(
+    alloc: Global,
+    service: Service,
+    input: &mut S,
+    output: &mut K,
+    links: &mut L,
+) -> Result<ServeEnd, Fault>
+    requires { IsService service }
+    ensures served { IfOk result (λ end. (end ≢ ServeEnd.Memory) × WasServedTo service end
+        (record { input = S.seen input.old; output = K.seen output.old; links = links_seen L.port L.given L.sent L.lost L.faults links.old })
+        (record { input = S.seen input.new; output = K.seen output.new; links = links_seen L.port L.given L.sent L.lost L.faults links.new })) }
+    ensures rose { result ≡ Ok ServeEnd.LinkFault → Rose (L.faults links.old) (L.faults links.new) }
+    ensures fault { IfErr result (λ fault. HasServingCause fault service
+        (record { input = S.seen input.old; output = K.seen output.old; links = links_seen L.port L.given L.sent L.lost L.faults links.old })
+        (record { input = S.seen input.new; output = K.seen output.new; links = links_seen L.port L.given L.sent L.lost L.faults links.new })) }
+    ensures output_kept { IfErr result (λ fault. fault ≢ Fault.Write → output.new ≡ output.old) }
+    ensures links_kept { IfErr result (λ fault. fault ≢ Fault.Write → fault ≢ Fault.Memory → links.new ≡ links.old) }
+{
+    let bytes = input_of(alloc, input)?;
+    let (head, store) = match begin(alloc, bytes) {
+        Ok(begun) => begun,
+        Err(Stop::Fault(fault)) => return Err(fault),
+        Err(Stop::Memory) => return Err(Fault::Memory),
+    };
+    let (end, text) = hold(alloc, service, &head, store, links)?;
+    match write_all(output, text.as_slice()) {
+        Ok(()) => Ok(end),
+        Err(Failed) => Err(Fault::Write),
+    }
+}
+
+/// The joined head of the scenes of an input, and what is stored of them.
+fn begin(alloc: Global, input: Bytes) -> Result<(Head, Store), Stop<Fault>>
+    ensures begun { IfOk result (λ begun. (scenes : Items Scene) × HasScenes input scenes × IsBoardOf scenes begun.0 begun.1.elements) }
+    ensures fault { (fault : Fault) → result ≡ Err (Stop.Fault fault) → IsRefusal input fault }
+{
+    let scenes = scenes(alloc, input)?;
+    Ok(board_of(alloc, scenes)?)
+}
+
+/// Serves a room that begins with this store to its end, and gives the text of its scene then.
+fn hold<L: Links>(
+    alloc: Global,
+    service: Service,
+    head: &Head,
+    store: Store,
+    links: &mut L,
+) -> Result<(ServeEnd, Bytes), Fault>
+    requires { IsService service }
+    ensures held { IfOk result (λ held. WasHeld service head.now store.elements
+        (told_of L.given L.sent L.lost links.old) (told_of L.given L.sent L.lost links.new) held.0 held.1) }
+    ensures end { IfOk result (λ held. held.0 ≢ ServeEnd.Memory) }
+    ensures rose { IfOk result (λ held. held.0 ≡ ServeEnd.LinkFault → Rose (L.faults links.old) (L.faults links.new)) }
+    ensures port { IfOk result (λ held. (held.0 ≡ ServeEnd.LinkFault) ⊎ (L.port links.new ≡ Some service.port)) }
+    ensures memory { IfErr result (λ fault. fault ≡ Fault.Memory) }
+{
+    let mut room = Room::new(alloc, store);
+    let end = serve_on(alloc, service, &mut room, links);
+    if end == ServeEnd::Memory {
+        return Err(Fault::Memory);
+    }
+    match room_text(alloc, head, &room, service.layout) {
+        Ok(text) => Ok((end, text)),
+        Err(AllocError) => Err(Fault::Memory),
+    }
+}
+
+/// Listens on the port, and serves the room to its end.
+fn serve_on<L: Links>(alloc: Global, service: Service, room: &mut Room, links: &mut L) -> ServeEnd
+    requires service { IsService service }
+    requires fresh { room.old.joined ≡ [] }
+    ensures served { IsServed service.limits (at_start room.old) room.new
+        (told_of L.given L.sent L.lost links.old) (told_of L.given L.sent L.lost links.new) result }
+    ensures fault { result ≡ ServeEnd.LinkFault → Rose (L.faults links.old) (L.faults links.new) }
+    ensures port { (result ≡ ServeEnd.LinkFault) ⊎ ((result ≡ ServeEnd.Memory) ⊎ (L.port links.new ≡ Some service.port)) }
+{
+    match links.listen(service.port) {
+        Ok(()) => serve_room(alloc, room, links, &service.limits),
+        Err(LinkError::Failed) => ServeEnd::LinkFault,
+        Err(LinkError::Memory) => ServeEnd::Memory,
+    }
+}
+
+/// The text of the scene that is shown of what the room stores, and a newline.
+fn room_text(alloc: Global, head: &Head, room: &Room, layout: Layout) -> Result<Bytes, AllocError>
+    ensures { IfOk result (IsSceneOfStored layout head.now room.now.elements) }
+{
+    let view = view_of(alloc, room.store())?;
+    ended(scene_text(alloc, head, &view, layout)?)
+}
+
+/// Notes a room's end, where it is a fault, and gives its status. A fault of the notes changes nothing else.
+pub(crate) fn noted_end<N: Sink>(end: ServeEnd, notes: &mut N) -> Status
+    ensures status { result ≡ end_status end }
+    ensures done { (end ≡ ServeEnd.AllClosed) ⊎ (end ≡ ServeEnd.Idle) → notes.new ≡ notes.old }
+    ensures noted { IsNoted (end_line end) (N.seen notes.old) (N.seen notes.new) }
+{
+    match end {
+        ServeEnd::AllClosed => Status::Done,
+        ServeEnd::Idle => Status::Idle,
+        ServeEnd::LinkFault => {
+            let _ = write_all(notes, b"board: link fault\n");
+            Status::LinkFault
+        }
+        ServeEnd::LinksFull => {
+            let _ = write_all(notes, b"board: room: links full\n");
+            Status::Refused
+        }
+        ServeEnd::EventsFull => {
+            let _ = write_all(notes, b"board: room: events full\n");
+            Status::Refused
+        }
+        ServeEnd::Memory => {
+            let _ = write_all(notes, b"board: out of memory\n");
+            Status::Memory
+        }
+    }
+}

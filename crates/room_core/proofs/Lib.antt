@@ -1,0 +1,5 @@
+mod JoinedLinks
+mod Printed
+mod Steps
+mod Tries
+mod Served

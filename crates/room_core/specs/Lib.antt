@@ -1,0 +1,4 @@
+pub mod Members
+pub mod Rooms
+pub mod Serving
+pub mod Told

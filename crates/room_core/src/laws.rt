@@ -1,0 +1,1 @@
+//! Laws on rooms, for all of them. They do nothing when they run.
