@@ -25,7 +25,7 @@ fn main(rt: HostRuntime) -> ExitCode {
             &mut notes,
             &mut ScriptLinks::new(alloc, List::new(alloc), List::new(alloc), List::new(alloc)),
         ),
-        Err(AllocError) => Fault::Memory.noted(alloc, &mut notes),
+        Err(AllocError) => Fault::Memory.noted(&mut notes),
     };
     exit_of(status)
 }

@@ -1,12 +1,11 @@
--- Which answers are left where no end fails, and what is noted then.
-use Rattle.std.proofs.Common.{◌≡◌, ◌⊎◌, inl, inr, ℕ, List, Option, Some, None, Result, Ok, Err, refl, sym, ap, subst, subst₂, ◌∙◌}
+-- Which answers are left where no end fails.
+use Rattle.std.proofs.Common.{◌≡◌, ◌⊎◌, inl, inr, ℕ, List, Option, Some, None, Result, Ok, Err, refl, sym, subst, subst₂, ◌∙◌}
 use Rattle.board_io.specs.Counts.{Rose}
 use Rattle.board_io.specs.Ends.{SourceEnd, SinkEnd}
 use Rattle.commands.specs.Answers.{IsAnswer, IsOneRefusal, IsRefusal}
 use Rattle.commands.specs.Causes.{HasCause}
 use Rattle.commands.specs.Ends.{WasRead, HasLeft, WasAnswered}
-use Rattle.commands.specs.Faults.{status_of, EndsAs, Noted}
-use Rattle.commands.specs.declared.status.Status.{Status}
+use Rattle.commands.specs.Faults.{status_of}
 use Rattle.commands.specs.declared.status.Status.TheVariants as status
 use Rattle.commands.specs.declared.status.Fault.{Fault}
 use Rattle.commands.specs.declared.status.Fault.TheVariants as fault
@@ -54,42 +53,30 @@ module _ (asked : Option Command) (command : Command) (bytes : List ℕ) (answer
   asks-none none = let no : Some command ≡ None = sym is ∙ none in cc
 
   -- the end of a run with a fault, over an input that is answered with a text
-  pub text-ends : (text : List ℕ) (f told : Fault) (out out_after : SinkEnd) (result : Status) → answer ≡ Ok text → HasCause f asked before after out out_after
-      → EndsAs f told → status_of told ≡ result → (Rose before.faults after.faults → ⊥)
-      → (result ≡ status.Memory) ⊎ ((result ≡ status.WriteFault) × Rose out.faults out_after.faults)
-  text-ends text fault.Memory told out out_after result one cause ends status reads = inl (sym status ∙ ap status_of ends)
-  text-ends text fault.Usage told out out_after result one cause ends status reads = absurd (asks-none cause)
-  text-ends text fault.Read told out out_after result one cause ends status reads = absurd (reads cause.0)
-  text-ends text fault.TooLong told out out_after result one cause ends status reads = absurd (left-excludes bytes before after left cause)
-  text-ends text (fault.Text number found) told out out_after result one cause ends status reads =
+  pub text-ends : (text : List ℕ) (f : Fault) (out out_after : SinkEnd) → answer ≡ Ok text → HasCause f asked before after out out_after
+      → (Rose before.faults after.faults → ⊥) → (status_of f ≡ status.Memory) ⊎ ((status_of f ≡ status.WriteFault) × Rose out.faults out_after.faults)
+  text-ends text fault.Memory out out_after one cause reads = inl refl
+  text-ends text fault.Usage out out_after one cause reads = absurd (asks-none cause)
+  text-ends text fault.Read out out_after one cause reads = absurd (reads cause.0)
+  text-ends text fault.TooLong out out_after one cause reads = absurd (left-excludes bytes before after left cause)
+  text-ends text (fault.Text number found) out out_after one cause reads =
       let same = same-answer cause.0 cause.2 (Err (fault.Text number found)) cause.1 cause.3 cause.4 ∙ one in cc
-  text-ends text (fault.Extra at) told out out_after result one cause ends status reads =
+  text-ends text (fault.Extra at) out out_after one cause reads =
       let same = same-answer cause.0 cause.2 (Err (fault.Extra at)) cause.1 cause.3 cause.4 ∙ one in cc
-  text-ends text fault.Write told out out_after result one cause ends status reads = inr (sym status ∙ ap status_of ends, cause.1)
+  text-ends text fault.Write out out_after one cause reads = inr (refl, cause.1)
 
-  module _ (notes notes_after : SinkEnd) where
-    abbrev EndsRefused : Status → Fault → Type 0
-    EndsRefused result f = (result ≡ status.Memory) ⊎ ((result ≡ status.Refused) × Noted f notes notes_after)
-
-    noted : (f told : Fault) (result : Status) → status_of f ≡ status.Refused → (told ≡ f) ⊎ (told ≡ fault.Memory) → status_of told ≡ result → Noted told notes notes_after
-        → EndsRefused result f
-    noted f told result refused (inl same) status note = inr (sym status ∙ (ap status_of same ∙ refused), subst (λ g. Noted g notes notes_after) same note)
-    noted f told result refused (inr memory) status note = inl (sym status ∙ ap status_of memory)
-
-    -- the end of a run with a fault, over an input that is answered with a fault
-    pub fault-ends : (why f told : Fault) (out out_after : SinkEnd) (result : Status) → answer ≡ Err why → HasCause f asked before after out out_after
-        → EndsAs f told → status_of told ≡ result → Noted told notes notes_after → (Rose before.faults after.faults → ⊥) → EndsRefused result why
-    fault-ends why fault.Memory told out out_after result one cause ends status note reads = inl (sym status ∙ ap status_of ends)
-    fault-ends why fault.Usage told out out_after result one cause ends status note reads = absurd (asks-none cause)
-    fault-ends why fault.Read told out out_after result one cause ends status note reads = absurd (reads cause.0)
-    fault-ends why fault.TooLong told out out_after result one cause ends status note reads = absurd (left-excludes bytes before after left cause)
-    fault-ends why (fault.Text number found) told out out_after result one cause ends status note reads =
-        let both = same-answer cause.0 cause.2 (Err (fault.Text number found)) cause.1 cause.3 cause.4 ∙ one in
-        let same : fault.Text number found ≡ why = cc in
-        subst (EndsRefused result) same (noted (fault.Text number found) told result refl ends status note)
-    fault-ends why (fault.Extra at) told out out_after result one cause ends status note reads =
-        let both = same-answer cause.0 cause.2 (Err (fault.Extra at)) cause.1 cause.3 cause.4 ∙ one in
-        let same : fault.Extra at ≡ why = cc in
-        subst (EndsRefused result) same (noted (fault.Extra at) told result refl ends status note)
-    fault-ends why fault.Write told out out_after result one cause ends status note reads =
-        let both = done-answer out out_after _ cause.0.1 ∙ one in cc
+  -- the end of a run with a fault, over an input that is answered with a fault: that one
+  pub fault-ends : (why f : Fault) (out out_after : SinkEnd) → answer ≡ Err why → HasCause f asked before after out out_after
+      → (Rose before.faults after.faults → ⊥) → (status_of f ≡ status.Memory) ⊎ ((status_of f ≡ status.Refused) × (f ≡ why))
+  fault-ends why fault.Memory out out_after one cause reads = inl refl
+  fault-ends why fault.Usage out out_after one cause reads = absurd (asks-none cause)
+  fault-ends why fault.Read out out_after one cause reads = absurd (reads cause.0)
+  fault-ends why fault.TooLong out out_after one cause reads = absurd (left-excludes bytes before after left cause)
+  fault-ends why (fault.Text number found) out out_after one cause reads =
+      let both = same-answer cause.0 cause.2 (Err (fault.Text number found)) cause.1 cause.3 cause.4 ∙ one in
+      inr (refl, cc)
+  fault-ends why (fault.Extra at) out out_after one cause reads =
+      let both = same-answer cause.0 cause.2 (Err (fault.Extra at)) cause.1 cause.3 cause.4 ∙ one in
+      inr (refl, cc)
+  fault-ends why fault.Write out out_after one cause reads =
+      let both = done-answer out out_after _ cause.0.1 ∙ one in cc

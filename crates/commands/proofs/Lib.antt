@@ -1,5 +1,6 @@
 pub mod Again
 pub mod Answering
+pub mod Asking
 pub mod Blanks
 pub mod Existing
 pub mod ById

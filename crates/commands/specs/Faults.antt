@@ -43,18 +43,6 @@ line_of (fault.Text number found) = codes "board: text " ++ (decimal number ++ (
 line_of (fault.Extra at) = codes "board: extra text at byte " ++ (decimal at ++ newline)
 line_of fault.Write = codes "board: write fault" ++ newline
 
--- How a run with this fault ends: as it says, but that a line with a number may want memory.
-abbrev pub EndsAs : Fault → Fault → Type 0
-EndsAs (fault.Text number found) as_fault = (as_fault ≡ fault.Text number found) ⊎ (as_fault ≡ fault.Memory)
-EndsAs (fault.Extra at) as_fault = (as_fault ≡ fault.Extra at) ⊎ (as_fault ≡ fault.Memory)
-EndsAs other as_fault = as_fault ≡ other
-
--- The line of this fault has no number, and wants no memory.
-abbrev pub HasFixedLine : Fault → Type 0
-HasFixedLine (fault.Text number found) = ⊥
-HasFixedLine (fault.Extra at) = ⊥
-HasFixedLine other = Unit {0}
-
 -- The notes gained the line, or a first part of it where their count of faults rose.
 abbrev pub IsNoted : List ℕ → SinkEnd → SinkEnd → Type 0
 IsNoted line before after =

@@ -40,3 +40,12 @@ abbrev pub asked : List (List ℕ) → Option Request
 asked [] = None
 asked (word ∷ options) =
     if bytes_eq word (codes "serve") then option_map Serve (asked_service options) else option_map Answer (asked_command word options)
+
+-- The words that ask for each command. This project's own.
+abbrev pub words_of : Command → List (List ℕ)
+words_of (Restore Compact) = codes "restore" ∷ []
+words_of (Restore Pretty) = codes "restore" ∷ codes "--pretty" ∷ []
+words_of (Merge Compact) = codes "merge" ∷ []
+words_of (Merge Pretty) = codes "merge" ∷ codes "--pretty" ∷ []
+words_of State = codes "state" ∷ []
+words_of Pictures = codes "pictures" ∷ []

@@ -72,7 +72,7 @@ fn pictures_text(alloc: Global, scenes: List<Scene>) -> Result<Bytes, AllocError
 }
 
 /// The joined head of these scenes, and what is stored of their elements.
-fn board_of(alloc: Global, scenes: List<Scene>) -> Result<(Head, Store), AllocError>
+pub(crate) fn board_of(alloc: Global, scenes: List<Scene>) -> Result<(Head, Store), AllocError>
     ensures { IfOk result (λ board. IsBoardOf scenes board.0 board.1.elements) }
 {
     let (head, updates) = joined(alloc, scenes)?;
@@ -99,7 +99,7 @@ fn joined(alloc: Global, scenes: List<Scene>) -> Result<(Head, List<Element>), A
 }
 
 /// The text and a newline.
-fn ended(text: Bytes) -> Result<Bytes, AllocError>
+pub(crate) fn ended(text: Bytes) -> Result<Bytes, AllocError>
     ensures { IfOk result (λ ended. ended ≡ text ++ newline) }
 {
     let mut text = text;

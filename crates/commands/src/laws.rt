@@ -1,6 +1,6 @@
 //! Laws on what inputs are answered with, for all inputs. They do nothing when they run.
 
-ghost use Rattle.std.specs.Prelude.{◌≡◌, ℕ, List, ◌++◌, Result, Ok};
+ghost use Rattle.std.specs.Prelude.{◌≡◌, ◌↔◌, ℕ, List, ◌++◌, Result, Ok, Some};
 ghost use Rattle.elem.specs.Drawn.{Drawn};
 ghost use Rattle.elem_store.specs.Updates.{AreBest, IsFreeOfClashes};
 ghost use Rattle.scene_file.specs.Heads.{Heading, IsJoinedHead};
@@ -10,8 +10,14 @@ ghost use Rattle.scene_file.specs.declared.scene.Scene.{Scene};
 ghost use Rattle.commands.specs.Answers.{IsAnswer, heads_of, updates_of, shown_of};
 ghost use Rattle.commands.specs.Faults.{newline};
 ghost use Rattle.commands.specs.Input.{HasScenes};
+ghost use Rattle.commands.specs.Words.{asked, words_of};
 ghost use Rattle.commands.specs.declared.status.Fault.{Fault};
 ghost use Rattle.commands.specs.declared.words.Command.{Command};
+
+/// A command is asked for by its words, and by no others.
+pub fn words_ask()
+    ensures { (command : Command) (words : List (List ℕ)) → (asked words ≡ Some command) ↔ (words ≡ words_of command) }
+{}
 
 /// Each command has an answer to each input, whatever its bytes.
 pub fn answer_exists()

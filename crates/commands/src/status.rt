@@ -1,12 +1,15 @@
 //! How a run ends, and the line that says why it didn't do what it was asked for.
 
-ghost use Rattle.std.specs.Prelude.{◌≡◌, IfOk, OnErr, MatchOption, string_bytes};
-ghost use Rattle.commands.specs.Faults.{code_of, status_of, line_of, EndsAs, HasFixedLine, Noted};
+ghost use Rattle.std.specs.Prelude.{◌≡◌};
+ghost use Rattle.board_io.specs.Pieces.{line_text};
+ghost use Rattle.commands.specs.Faults.{code_of, status_of, line_of, Noted};
 ghost use Rattle.commands.specs.declared.status.Fault.{Fault};
 
-use board_io::{Sink, write_all};
+use board_io::{Piece, Sink, write_pieces};
 use scene_file::SceneFault;
-use std::alloc::{AllocError, Global};
+
+/// A piece that says nothing.
+const NONE: Piece = Piece::Words("");
 
 /// How a run ends.
 #[derive(Clone, Copy, Debug, PartialEq, Eq)]
@@ -80,53 +83,66 @@ impl Fault {
         }
     }
 
-    /// Notes the line of this fault, and gives its status; or those of want of memory, where a line with a number wants
-    /// memory. A fault of the notes changes nothing else.
-    pub fn noted<N: Sink>(self, alloc: Global, notes: &mut N) -> Status
-        ensures { (fault : Fault) × EndsAs self fault × (status_of fault ≡ result)
-            × Noted fault (N.seen notes.old) (N.seen notes.new) }
+    /// Notes the line of this fault, and gives its status. A fault of the notes changes nothing else.
+    pub fn noted<N: Sink>(self, notes: &mut N) -> Status
+        ensures status { result ≡ status_of self }
+        ensures noted { Noted self (N.seen notes.old) (N.seen notes.new) }
     {
-        let fault = match self.numbered_line(alloc) {
-            Ok(Some(line)) => {
-                let _ = write_all(notes, line.as_bytes());
-                return self.status();
-            }
-            Ok(None) => self,
-            Err(AllocError) => Fault::Memory,
-        };
-        let _ = write_all(notes, fault.fixed_line().as_bytes());
-        fault.status()
+        let _ = write_pieces(notes, &self.pieces());
+        self.status()
     }
 
-    /// The line that tells this fault, where it has a number.
-    fn numbered_line(self, alloc: Global) -> Result<Option<String>, AllocError>
-        ensures line { IfOk result (λ found. MatchOption found (HasFixedLine self) (λ line. string_bytes line ≡ line_of self)) }
-        ensures memory { OnErr result (EndsAs self Fault.Memory) }
+    /// The pieces of the line that tells this fault.
+    fn pieces(self) -> [Piece; 8]
+        ensures { line_text result ≡ line_of self }
     {
         match self {
+            Fault::Memory => line("board: out of memory\n"),
+            Fault::Usage => line(
+                "board: usage: restore, merge, state, replay, pictures, drill SEED EVENTS, serve PORT LINKS IDLE\n",
+            ),
+            Fault::Read => line("board: read fault\n"),
+            Fault::TooLong => line("board: input is longer than 67108864 bytes\n"),
             Fault::Text(number, found) => {
-                let words = found.words(alloc)?;
-                Ok(Some(format!(in alloc; "board: text {number}: {words}\n")?))
+                let [first, second, third, fourth] = found.pieces();
+                [
+                    Piece::Words("board: text "),
+                    Piece::Number(number as u64),
+                    Piece::Words(": "),
+                    first,
+                    second,
+                    third,
+                    fourth,
+                    Piece::Words("\n"),
+                ]
             }
-            Fault::Extra(at) => Ok(Some(format!(in alloc; "board: extra text at byte {at}\n")?)),
-            _ => Ok(None),
+            Fault::Extra(at) => [
+                Piece::Words("board: extra text at byte "),
+                Piece::Number(at as u64),
+                Piece::Words("\n"),
+                NONE,
+                NONE,
+                NONE,
+                NONE,
+                NONE,
+            ],
+            Fault::Write => line("board: write fault\n"),
         }
     }
+}
 
-    /// The line that tells this fault, which has no number.
-    fn fixed_line(self) -> &'static str
-        requires { HasFixedLine self }
-        ensures { result.now ≡ line_of self }
-    {
-        match self {
-            Fault::Memory => "board: out of memory\n",
-            Fault::Usage => {
-                "board: usage: restore, merge, state, replay, pictures, drill SEED EVENTS, serve PORT LINKS IDLE\n"
-            }
-            Fault::Read => "board: read fault\n",
-            Fault::TooLong => "board: input is longer than 67108864 bytes\n",
-            Fault::Text(_, _) | Fault::Extra(_) => unreachable!(),
-            Fault::Write => "board: write fault\n",
-        }
-    }
+/// The line of these words alone.
+fn line(words: &'static str) -> [Piece; 8]
+    ensures { line_text result ≡ words.now }
+{
+    [
+        Piece::Words(words),
+        NONE,
+        NONE,
+        NONE,
+        NONE,
+        NONE,
+        NONE,
+        NONE,
+    ]
 }

@@ -1,11 +1,12 @@
 //! Why a text is no scene.
 
-ghost use Rattle.std.specs.Prelude.{◌≡◌, IfOk, string_bytes};
+ghost use Rattle.std.specs.Prelude.{◌≡◌};
+ghost use Rattle.board_io.specs.Pieces.{line_text};
 ghost use Rattle.scene_file.specs.Faults.{fault_words};
 
+use board_io::Piece;
 use elem_read::ElemFault;
 use scene_json::JsonFault;
-use std::alloc::{AllocError, Global};
 
 /// Why a text is no scene. Of several faults the first in this order counts.
 #[derive(Clone, Copy, Debug, PartialEq, Eq, Drop)]
@@ -27,21 +28,38 @@ pub enum SceneFault {
 }
 
 impl SceneFault {
-    /// What is told of this fault.
-    pub fn words(self, alloc: Global) -> Result<String, AllocError>
-        ensures { IfOk result (λ words. string_bytes words ≡ fault_words self) }
+    /// What is told of this fault, in pieces.
+    pub fn pieces(self) -> [Piece; 4]
+        ensures { line_text result ≡ fault_words self }
     {
         match self {
-            SceneFault::Json(fault) => fault.words(alloc),
-            SceneFault::NotObject => String::from_str(alloc, "not an object"),
-            SceneFault::NotScene => String::from_str(alloc, "type"),
-            SceneFault::Elements => String::from_str(alloc, "elements"),
-            SceneFault::AppState => String::from_str(alloc, "appState"),
-            SceneFault::Files => String::from_str(alloc, "files"),
-            SceneFault::Element(place, fault) => {
-                let word = fault.word();
-                format!(in alloc; "element {place}: {word}")
+            SceneFault::Json(fault) => {
+                let [words, number] = fault.pieces();
+                [words, number, Piece::Words(""), Piece::Words("")]
             }
+            SceneFault::NotObject => told("not an object"),
+            SceneFault::NotScene => told("type"),
+            SceneFault::Elements => told("elements"),
+            SceneFault::AppState => told("appState"),
+            SceneFault::Files => told("files"),
+            SceneFault::Element(place, fault) => [
+                Piece::Words("element "),
+                Piece::Number(place),
+                Piece::Words(": "),
+                Piece::Words(fault.word()),
+            ],
         }
     }
+}
+
+/// These words alone.
+fn told(words: &'static str) -> [Piece; 4]
+    ensures { line_text result ≡ words.now }
+{
+    [
+        Piece::Words(words),
+        Piece::Words(""),
+        Piece::Words(""),
+        Piece::Words(""),
+    ]
 }

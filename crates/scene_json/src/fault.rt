@@ -1,5 +1,6 @@
 //! What is wrong with a text or a value.
 
+use board_io::Piece;
 use std::alloc::{AllocError, Global};
 
 /// The first fault of a JSON text, with the offset of its byte.
@@ -15,6 +16,7 @@ pub enum JsonFault {
 
 impl JsonFault {
     ghost use Rattle.std.specs.Prelude.{◌≡◌, IfOk, string_bytes};
+    ghost use Rattle.board_io.specs.Pieces.{line_text};
     ghost use Rattle.scene_json.specs.Faults.{json_words};
 
     /// What is told of this fault.
@@ -25,6 +27,23 @@ impl JsonFault {
             JsonFault::Syntax(place) => format!(in alloc; "syntax at byte {place}"),
             JsonFault::Depth(place) => format!(in alloc; "depth at byte {place}"),
             JsonFault::Utf8(place) => format!(in alloc; "utf8 at byte {place}"),
+        }
+    }
+
+    /// The same, in pieces.
+    pub fn pieces(self) -> [Piece; 2]
+        ensures { line_text result ≡ json_words self }
+    {
+        match self {
+            JsonFault::Syntax(place) => [
+                Piece::Words("syntax at byte "),
+                Piece::Number(place as u64),
+            ],
+            JsonFault::Depth(place) => [
+                Piece::Words("depth at byte "),
+                Piece::Number(place as u64),
+            ],
+            JsonFault::Utf8(place) => [Piece::Words("utf8 at byte "), Piece::Number(place as u64)],
         }
     }
 }

@@ -1,10 +1,10 @@
-use Rattle.std.proofs.Common.{◌≡◌, ◌⊎◌, inl, inr, ℕ, List, Option, Some, Result, Ok, Err, refl, sym, subst₂, ◌∙◌}
+use Rattle.std.proofs.Common.{◌≡◌, ◌⊎◌, inl, inr, ℕ, List, Option, Some, Result, Ok, Err, refl, sym, subst, subst₂, ◌∙◌}
 use Rattle.board_io.specs.Counts.{Rose}
 use Rattle.board_io.specs.Ends.{SourceEnd, SinkEnd}
 use Rattle.commands.specs.Answers.{IsAnswer}
 use Rattle.commands.specs.Causes.{HasCause}
 use Rattle.commands.specs.Ends.{EndsWith, HasLeft, WasDone}
-use Rattle.commands.specs.Faults.{status_of, EndsAs, Noted}
+use Rattle.commands.specs.Faults.{status_of, Noted}
 use Rattle.commands.specs.Words.{asked}
 use Rattle.commands.specs.declared.status.Fault.{Fault}
 use Rattle.commands.specs.declared.status.Status.{Status}
@@ -30,18 +30,18 @@ module _ (asks : Option Command) (command : Command) (bytes : List ℕ) (before 
       let one : w.asked ≡ command = cc in
       inr (Ok w.text, subst₂ (λ c b. IsAnswer c b (Ok w.text)) one (read-whole bytes w.bytes before after left w.read) w.answer, inl (done, w.took))
 
-  complete-fault : (f told : Fault) → HasCause f asks before after out out_after → EndsAs f told → status_of told ≡ result → Noted told notes notes_after
+  complete-fault : (f : Fault) → HasCause f asks before after out out_after → result ≡ status_of f → Noted f notes notes_after
       → (Rose before.faults after.faults → ⊥) → IsComplete
-  complete-fault f told cause ends ended note reads = by (answer-exists command bytes)
+  complete-fault f cause ended note reads = by (answer-exists command bytes)
     where
       by : (answer : Result (List ℕ) Fault) × IsAnswer command bytes answer → IsComplete
-      by (Ok text, answered) = elim (text-ends asks command bytes (Ok text) before after is left answered text f told out out_after result refl cause ends ended reads) [
-        | inl memory ↦ inl memory
-        | inr failed ↦ inr (Ok text, answered, inr failed)
+      by (Ok text, answered) = elim (text-ends asks command bytes (Ok text) before after is left answered text f out out_after refl cause reads) [
+        | inl memory ↦ inl (ended ∙ memory)
+        | inr (failed, rose) ↦ inr (Ok text, answered, inr (ended ∙ failed, rose))
       ]
-      by (Err why, answered) = elim (fault-ends asks command bytes (Err why) before after is left answered notes notes_after why f told out out_after result refl cause ends ended note reads) [
-        | inl memory ↦ inl memory
-        | inr refused ↦ inr (Err why, answered, refused)
+      by (Err why, answered) = elim (fault-ends asks command bytes (Err why) before after is left answered why f out out_after refl cause reads) [
+        | inl memory ↦ inl (ended ∙ memory)
+        | inr (refused, same) ↦ inr (Err why, answered, (ended ∙ refused, subst (λ g. Noted g notes notes_after) same note))
       ]
 
 pub returns-in-Ok-clause-complete : goal.returns-in-Ok-clause-complete
@@ -62,8 +62,7 @@ returns-in-Ok-clause-states_stand_for g c = states-stand_for
 
 pub returns-in-Err-clause-complete : goal.returns-in-Err-clause-complete
 returns-in-Err-clause-complete g c command bytes is left reads =
-    let ends = c.noted.ensures in
-    complete-fault (asked c.args.words.now) command bytes _ _ _ _ _ _ _ is left c.in-Err.fault ends.0 c.in-Err.ensures.fault ends.1 ends.2 ends.3 reads
+    complete-fault (asked c.args.words.now) command bytes _ _ _ _ _ _ _ is left c.in-Err.fault c.in-Err.ensures.fault c.noted.ensures.status c.noted.ensures.noted reads
 
 pub returns-in-Err-clause-converges : goal.returns-in-Err-clause-converges
 returns-in-Err-clause-converges g c = merges-converge
