@@ -197,6 +197,8 @@ pub(crate) fn input_of<S: Source>(alloc: Global, input: &mut S) -> Result<Bytes,
     ensures read_fault { result ≡ Err Fault.Read → Rose (S.seen input.old).faults (S.seen input.new).faults
         × GaveWithin (S.seen input.old) (S.seen input.new) }
     ensures too_long { result ≡ Err Fault.TooLong → GaveTooMuch (S.seen input.old) (S.seen input.new) }
+    ensures long { IsSome (S.seen input.old).left → GaveTooMuch (S.seen input.old) (S.seen input.new)
+        → (result ≡ Err Fault.Memory) ⊎ (result ≡ Err Fault.TooLong) }
     ensures only { IfErr result (λ fault. (fault ≡ Fault.Memory) ⊎ ((fault ≡ Fault.Read) ⊎ (fault ≡ Fault.TooLong))) }
 {
     match read_all(alloc, input, LIMIT) {
