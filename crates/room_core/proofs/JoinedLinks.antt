@@ -1,5 +1,5 @@
 -- A link's place among rising links.
-use Rattle.std.proofs.Common.{◌≡◌, ℕ, zero, suc, ◌+◌, ◌-◌, ◌<◌, ◌≤◌, Bool, true, false, nat_lt, List, [], ◌∷◌, ◌++◌, length, get_or, take, drop, insert, filter, ◌⊎◌, inl, inr, ⊎_elim, refl, sym, ap, ap₂, ◌∙◌, append_assoc, arith}
+use Rattle.std.proofs.Common.{◌≡◌, ℕ, zero, suc, ◌+◌, ◌-◌, ◌<◌, ◌≤◌, Bool, true, false, nat_lt, List, [], ◌∷◌, ◌++◌, length, get_or, take, drop, insert, filter, inl, inr, refl, sym, ap, ap₂, ◌∙◌, append_assoc, arith}
 use Rattle.std.specs.List.Sorted.{IsStrictlyIncreasing}
 use Rattle.std.proofs.lemmas.Bool.{lt-ltb, le-ltb, cases_lt}
 use Rattle.std.proofs.lemmas.List.{take_more, take-append-drop}
@@ -50,8 +50,14 @@ module _ (xs : List ℕ) (x i : ℕ) (within : i ≤ length xs) (below : (k : �
           | inr b ↦ elim (cases_lt i k) [
             | inl c ↦ let same : (k - 1) + 1 ≡ k = omega arith in
                 let next : get_or xs (k - 1) 0 < get_or xs ((k - 1) + 1) 0 = rise (k - 1) (omega (arith, long, l)) in
-                omega (arith, get_or-insert_above xs i x 0 (k - 1) (omega arith) within, ap (λ j. get_or more j 0) same, get_or-insert_above xs i x 0 k b within,
-                ap (λ j. get_or xs j 0) same, next)
+                omega (
+                  arith,
+                  get_or-insert_above xs i x 0 (k - 1) (omega arith) within,
+                  ap (λ j. get_or more j 0) same,
+                  get_or-insert_above xs i x 0 k b within,
+                  ap (λ j. get_or xs j 0) same,
+                  next,
+                )
             | inr c ↦ let same : k ≡ i = omega arith in
                 omega (arith, ap (λ j. get_or more j 0) same, at, get_or-insert_above xs i x 0 k b within, above k b (omega (arith, long, l)))
           ]

@@ -3,3 +3,4 @@ mod Printed
 mod Steps
 mod Tries
 mod Served
+mod MemberLaws

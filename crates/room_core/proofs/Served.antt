@@ -1,5 +1,5 @@
 -- How a room that is served ends, event by event.
-use Rattle.std.proofs.Common.{◌≡◌, ℕ, ◌+◌, ◌-◌, ◌*◌, ◌<◌, ◌≤◌, Bool, true, false, cond, ◌&&◌, List, [], ◌∷◌, ◌++◌, Option, Some, None, map, flat_map, nat_lt, nat_le, refl, sym, ap, ap₂, subst, ◌∙◌, append_assoc, append-nil, arith}
+use Rattle.std.proofs.Common.{◌≡◌, ℕ, ◌+◌, ◌-◌, ◌*◌, ◌<◌, ◌≤◌, Bool, true, false, cond, ◌&&◌, [], ◌∷◌, Option, Some, None, nat_lt, nat_le, refl, ap, subst, append_assoc, Result, Ok, Err, is_err, OnOk, OnErr, arith}
 use Rattle.std.proofs.lemmas.Bool.{leb-false}
 use Rattle.std.proofs.lemmas.Nat.{mul-add-lt}
 use Rattle.board_io.specs.Events.{opening_of}
@@ -7,7 +7,7 @@ use Rattle.board_io.specs.declared.links.LinkEvent.{LinkEvent}
 use Rattle.board_io.specs.declared.links.LinkEvent.TheVariants.{Opened, Text, Closed, Idle}
 use Rattle.room_core.specs.Rooms.{RoomState}
 use Rattle.room_core.specs.Told.{Told, Tells}
-use Rattle.room_core.specs.Serving.{Serving, Round, AreRounds, EndsBy, IsServed, IsServedEvent, IsServedRound, IsCutEvent, end_of, end_by, serving_of, serving_at, serving_after, step_count, idles_after, is_none_joined}
+use Rattle.room_core.specs.Serving.{Serving, AreRounds, EndsBy, IsServed, IsServedEvent, IsServedRound, IsCutEvent, end_of, serving_of, serving_at, step_count, idles_after, is_none_joined}
 use Rattle.room_core.specs.declared.limits.RoomLimits.{RoomLimits}
 use Rattle.room_core.specs.declared.limits.ServeEnd.{ServeEnd}
 use Rattle.room_core.specs.declared.limits.ServeEnd.TheVariants.{AllClosed, Idle as IdleEnd, LinkFault, LinksFull, EventsFull, Memory}
@@ -109,14 +109,30 @@ served-round limits room new old tally event a b c within opened stepped idles t
 abbrev pub left_of : RoomLimits → Serving → ℕ
 left_of limits now = (limits.idle + 1) * (limits.events - now.stepped) + (limits.idle - now.idles)
 
+fewer-idles : (events idle stepped idles : ℕ) → idles < idle → (idle + 1) * (events - stepped) + (idle - (idles + 1)) < (idle + 1) * (events - stepped) + (idle - idles)
+fewer-idles events idle stepped idles i = omega arith
+
+fewer-steps : (events idle stepped idles : ℕ) → stepped < events → (idle + 1) * (events - (stepped + 1)) + (idle - 0) < (idle + 1) * (events - stepped) + (idle - idles)
+fewer-steps events idle stepped idles s = omega (arith, mul-add-lt (events - (stepped + 1)) (idle + 1) idle (events - stepped) (omega arith) (omega arith))
+
 fewer : (events idle stepped idles : ℕ) (event : LinkEvent) → stepped < events → idles < idle
     → (idle + 1) * (events - (stepped + step_count event)) + (idle - idles_after idles event) < (idle + 1) * (events - stepped) + (idle - idles)
-fewer events idle stepped idles Idle s i = omega arith
-fewer events idle stepped idles (Opened link) s i = omega (arith, mul-add-lt (events - (stepped + 1)) (idle + 1) idle (events - stepped) (omega arith) (omega arith))
-fewer events idle stepped idles (Text link text) s i = omega (arith, mul-add-lt (events - (stepped + 1)) (idle + 1) idle (events - stepped) (omega arith) (omega arith))
-fewer events idle stepped idles (Closed link) s i = omega (arith, mul-add-lt (events - (stepped + 1)) (idle + 1) idle (events - stepped) (omega arith) (omega arith))
+fewer events idle stepped idles Idle s i =
+    let same : stepped ≡ stepped + 0 = omega arith in
+    subst (λ n. (idle + 1) * (events - n) + (idle - (idles + 1)) < (idle + 1) * (events - stepped) + (idle - idles)) same (fewer-idles events idle stepped idles i)
+fewer events idle stepped idles (Opened link) s i = fewer-steps events idle stepped idles s
+fewer events idle stepped idles (Text link text) s i = fewer-steps events idle stepped idles s
+fewer events idle stepped idles (Closed link) s i = fewer-steps events idle stepped idles s
 
 pub left-falls : (limits : RoomLimits) (now next : Serving) (a b : Told) → end_of limits now ≡ None → IsServedRound limits now next a b → left_of limits next < left_of limits now
 left-falls limits now next a b running one =
     let below = below_limits limits now running in
     rw one.follows (fewer limits.events limits.idle now.stepped now.idles one.round.event below.0 below.1)
+
+pub err_part : {A E P : Type 0} (r : Result A E) → is_err r ≡ true → OnErr r P → P
+err_part (Ok a) e p = absurd cc
+err_part (Err x) e p = p
+
+pub ok_part : {A E P : Type 0} (r : Result A E) → is_err r ≡ false → OnOk r P → P
+ok_part (Ok a) e p = p
+ok_part (Err x) e p = absurd cc

@@ -1,8 +1,7 @@
 -- What an event gives a room, from what each part of a step gives.
-use Rattle.std.proofs.Common.{◌≡◌, ℕ, Bool, true, false, List, [], ◌∷◌, ◌++◌, Result, Ok, Err, IfOk, OnOk, filter, refl, sym, ap, subst, append-nil}
+use Rattle.std.proofs.Common.{◌≡◌, ℕ, true, false, List, [], ◌∷◌, Result, Ok, Err, IfOk, OnOk, refl, ap, append-nil}
 use Rattle.std.specs.declared.alloc.AllocError.{AllocError}
 use Rattle.elem.specs.Drawn.{Drawn}
-use Rattle.elem_store.specs.Updates.{AreStored}
 use Rattle.reconcile.specs.Ids.{free_elements}
 use Rattle.board_io.specs.declared.links.LinkEvent.TheVariants.{Opened, Text, Closed}
 use Rattle.room_msg.specs.Messages.{IsReadAs}

@@ -1,7 +1,7 @@
 -- A room that is served over links: what comes of each event, and what ends it. This project's own.
 use Rattle.std.specs.Prelude.{◌≡◌, ◌⊎◌, ℕ, ◌+◌, ◌≤◌, nat_lt, nat_le, List, [], ◌∷◌, ◌++◌, Bool, true, false, ◌&&◌, map, flat_map, option_to_list, Option, Some, None, if◌then◌else◌}
 use Rattle.board_io.specs.declared.links.LinkEvent.{LinkEvent}
-use Rattle.board_io.specs.declared.links.LinkEvent.TheVariants.{Opened, Text, Closed, Idle}
+use Rattle.board_io.specs.declared.links.LinkEvent.TheVariants.{Opened, Idle}
 use Rattle.board_io.specs.Events.{opening_of}
 use Rattle.room_core.specs.Rooms.{RoomState, Happening, Left, IsHeardAs, IsAfter, texts_of, without}
 use Rattle.room_core.specs.Members.{Step}

@@ -31,9 +31,11 @@ pub(crate) fn remove_links(joined: &mut Vec<u64>, gone: &[u64])
     ensures left { joined.new.items ≡ without joined.old.items gone.now }
     ensures rising { IsStrictlyIncreasing joined.old.items → IsStrictlyIncreasing joined.new.items }
 {
-    joined.retain(|link: &u64| -> bool
-        ensures { result ≡ not (is_among gone.entry.now link.now) }
-    { !has_link(gone, *link) });
+    joined.retain(
+        |link: &u64| -> bool
+            ensures { result ≡ not (is_among gone.entry.now link.now) }
+        { !has_link(gone, *link) },
+    );
 }
 
 /// These links but one.

@@ -1,1 +1,38 @@
 //! Laws on rooms, for all of them. They do nothing when they run.
+
+ghost use Rattle.std.specs.Prelude.{◌≡◌, ℕ, List, [], true};
+ghost use Rattle.frac_keys.specs.Rising.{are_rising};
+ghost use Rattle.elem.specs.Drawn.{Drawn};
+ghost use Rattle.elem_store.specs.Updates.{ids_of, AreStored, IsFreeOfClashes, HaveSameUpdates};
+ghost use Rattle.board_io.specs.declared.links.LinkEvent.{LinkEvent};
+ghost use Rattle.room_core.specs.Rooms.{RoomState, Happening, IsHeardAs, is_among};
+ghost use Rattle.room_core.specs.Members.{Step, AreSteps, member_updates};
+ghost use Rattle.room_core.specs.Serving.{Serving, Round, AreRounds, serving_at, steps_of};
+ghost use Rattle.room_core.specs.declared.limits.RoomLimits.{RoomLimits};
+
+/// An event is one thing to a room.
+pub fn hearing_is_unique()
+    ensures { (joined : List ℕ) (event : LinkEvent) (happening other : Happening)
+        → IsHeardAs joined event happening → IsHeardAs joined event other → happening ≡ other }
+{}
+
+/// What the updates of a joined link store is what the room stores, after steps from a room without links on.
+pub fn member_stores_the_room()
+    ensures { (link : ℕ) (room last : RoomState) (steps : List Step) → room.joined ≡ []
+        → are_rising (ids_of room.elements) ≡ true → AreSteps room steps last → is_among last.joined link ≡ true
+        → AreStored (member_updates link room [] steps) last.elements }
+{}
+
+/// Any list of the same updates stores what the room stores.
+pub fn members_agree()
+    ensures { (link : ℕ) (room last : RoomState) (steps : List Step) (others news : List Drawn) → room.joined ≡ []
+        → are_rising (ids_of room.elements) ≡ true → AreSteps room steps last → is_among last.joined link ≡ true
+        → IsFreeOfClashes (member_updates link room [] steps)
+        → HaveSameUpdates (member_updates link room [] steps) others → AreStored others news → news ≡ last.elements }
+{}
+
+/// The rounds of a room that is served are steps of it.
+pub fn rounds_are_steps()
+    ensures { (limits : RoomLimits) (now : Serving) (rounds : List Round)
+        → AreRounds limits now rounds → AreSteps now.room (steps_of rounds) (serving_at now rounds).room }
+{}

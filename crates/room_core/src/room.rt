@@ -91,11 +91,7 @@ impl Room {
 }
 
 /// Joins the link, and gives it the text with all stored elements.
-fn join(
-    store: &Store,
-    joined: &mut Vec<u64>,
-    link: u64,
-) -> Result<List<(u64, Bytes)>, AllocError>
+fn join(store: &Store, joined: &mut Vec<u64>, link: u64) -> Result<List<(u64, Bytes)>, AllocError>
     requires { IsStrictlyIncreasing joined.old.items }
     ensures joined { OnOk result (joined.new.items ≡ with_link joined.old.items link) }
     ensures told { IfOk result (λ told. told ≡ (link, texts.message_text (Message.Init store.now.elements)) ∷ []) }

@@ -1,6 +1,6 @@
 //! A room that is served over links.
 
-ghost use Rattle.std.specs.Prelude.{◌≡◌, ℕ, ◌<◌, ◌≤◌, ◌+◌, ◌^◌, IsTrue, IsFalse, IsSome, IfErr, OnOk, OnErr, Err, None, []};
+ghost use Rattle.std.specs.Prelude.{◌≡◌, ℕ, ◌<◌, ◌≤◌, ◌+◌, IsTrue, IsFalse, IsSome, IfErr, OnOk, OnErr, Err, None, []};
 ghost use Rattle.board_io.specs.Counts.{Rose};
 ghost use Rattle.board_io.specs.Events.{opening_of};
 ghost use Rattle.room_core.specs.Rooms.{RoomState};
@@ -56,23 +56,23 @@ struct Tally {
 
 impl Tally {
     /// Counts an event that is stepped.
-    fn count(&mut self, event: &LinkEvent)
-        requires opened { self.old.opened + opening_of event.now < 2 ^ 64 }
-        requires stepped { self.old.stepped + 1 < 2 ^ 64 }
-        requires idles { self.old.idles + 1 < 2 ^ 64 }
+    fn count(&mut self, event: &LinkEvent, limits: &RoomLimits)
+        requires opened { self.old.opened + opening_of event.now ≤ limits.now.links }
+        requires stepped { self.old.stepped < limits.now.events }
+        requires idles { self.old.idles < limits.now.idle }
         ensures opened { self.new.opened ≡ self.old.opened + opening_of event.now }
         ensures stepped { self.new.stepped ≡ self.old.stepped + step_count event.now }
         ensures idles { self.new.idles ≡ idles_after self.old.idles event.now }
     {
         match event {
-            LinkEvent::Idle => self.idles += 1,
+            LinkEvent::Idle => self.idles = one_more(self.idles, limits.idle),
             LinkEvent::Opened(_) => {
-                self.opened += 1;
-                self.stepped += 1;
+                self.opened = one_more(self.opened, limits.links);
+                self.stepped = one_more(self.stepped, limits.events);
                 self.idles = 0;
             }
             LinkEvent::Text(..) | LinkEvent::Closed(_) => {
-                self.stepped += 1;
+                self.stepped = one_more(self.stepped, limits.events);
                 self.idles = 0;
             }
         }
@@ -92,6 +92,14 @@ impl Tally {
             None
         }
     }
+}
+
+/// One more than a count that is below its limit.
+fn one_more(count: u64, limit: u64) -> u64
+    requires { count < limit }
+    ensures { result ≡ count + 1 }
+{
+    count + 1
 }
 
 /// One event: it is stepped, its texts are tried, and what comes of it is counted.
@@ -127,7 +135,7 @@ fn serve_round<L: Links>(
     if serve_event(alloc, room, links, &event).is_err() {
         return Err(ServeEnd::Memory);
     }
-    tally.count(&event);
+    tally.count(&event, limits);
     match tally.end(limits, room.joined()) {
         Some(end) => Err(end),
         None => Ok(()),

@@ -1,5 +1,5 @@
 -- The links that the test keeps are those that aren't gone.
-use Rattle.std.proofs.Common.{◌≡◌, ℕ, not, filter, rules}
+use Rattle.std.proofs.Common.{◌≡◌, not, rules}
 use Rattle.std.proofs.lemmas.Fn.{filter_same}
 use Rattle.std.proofs.lemmas.List.Kept.{IsStrictlyIncreasing-filter}
 use Rattle.room_core.specs.Rooms.{is_among, without}

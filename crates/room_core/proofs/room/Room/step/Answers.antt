@@ -10,14 +10,14 @@ pub returns-then-has_link-clause-stepped : goal.returns-then-has_link-clause-ste
 returns-then-has_link-clause-stepped c =
     let member : is_among c.self.inside.joined.items c.in-Text.link ≡ true =
     ap (λ links. is_among links c.in-Text.link) (sym c.deref.ensures.value) ∙ sym c.has_link.ensures ∙ c.if-has_link.true in
-    rw (← c.self.view_is, c.in-Text.is) (step-text _ _ c.in-Text.link c.in-Text.bytes.now _ member refl c.hear.ensures.heard)
+    rw (← c.self.view_is, c.in-Text.is) (step-text _ _ c.in-Text.link c.in-Text.bytes _ member refl c.hear.ensures.heard)
 
 pub returns-else-has_link-clause-stepped : goal.returns-else-has_link-clause-stepped
 returns-else-has_link-clause-stepped c =
     let other : is_among c.args.self.now.joined c.in-Text.link ≡ false =
     ap (λ (room : RoomState). is_among room.joined c.in-Text.link) (sym c.self.view_is)
     ∙ ap (λ links. is_among links c.in-Text.link) (sym c.deref.ensures.value) ∙ sym c.has_link.ensures ∙ c.if-has_link.false in
-    rw c.in-Text.is (step-ignored c.args.self.now c.in-Text.link c.in-Text.bytes.now c.new.result other c.new.ensures)
+    rw c.in-Text.is (step-ignored c.args.self.now c.in-Text.link c.in-Text.bytes c.new.result other c.new.ensures)
 
 pub returns-in-Closed-clause-stepped : goal.returns-in-Closed-clause-stepped
 returns-in-Closed-clause-stepped c =
