@@ -7,6 +7,7 @@ pub mod ById
 pub mod Given
 pub mod Inputs
 pub mod Lines
+pub mod Opening
 pub mod Reread
 pub mod Scenes
 pub mod States

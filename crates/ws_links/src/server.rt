@@ -139,20 +139,20 @@ impl<R: Net + Clock + Drop> Server<R> {
             if self.turn >= self.links.len() {
                 self.turn = 0;
             }
-            let index = self.turn;
-            let Some(link) = self.links.get_mut(index) else {
+            let Some(link) = self.links.get_mut(self.turn) else {
                 return Ok(None);
             };
             match link.take_turn(&mut self.piece) {
-                Ok(None) => self.turn = index + 1,
+                Ok(None) => self.turn += 1,
                 Ok(Some(text)) => {
-                    let number = link.number;
-                    self.turn = index + 1;
-                    return Ok(Some(LinkEvent::Text(number, text)));
+                    let event = LinkEvent::Text(link.number, text);
+                    self.turn += 1;
+                    return Ok(Some(event));
                 }
                 Err(Stop::Fault(Failed)) => {
-                    let link = self.links.remove(index);
-                    return Ok(Some(LinkEvent::Closed(link.number)));
+                    let number = link.number;
+                    self.close(number);
+                    return Ok(Some(LinkEvent::Closed(number)));
                 }
                 Err(Stop::Memory) => return Err(Stop::Memory),
             }
@@ -171,26 +171,25 @@ impl<R: Net + Clock + Drop> Server<R> {
 
     /// Sends a text over a link. `Fault` where the link is gone, or keeps too much; it is closed then.
     pub(crate) fn send(&mut self, number: u64, text: &Bytes) -> Result<(), Stop<Failed>> {
-        let all_kept = self.kept();
-        let Some(index) = self.links.iter().position(|link| link.number == number) else {
-            return Err(Stop::Fault(Failed));
-        };
-        let Some(link) = self.links.get_mut(index) else {
+        let is_full = self.kept() > ALL_KEPT;
+        let Some(link) = self.links.iter_mut().find(|link| link.number == number) else {
             return Err(Stop::Fault(Failed));
         };
         let keeps = link.kept();
-        let sent = if keeps > KEPT || (keeps > 0 && all_kept > ALL_KEPT) {
+        let sent = if keeps > KEPT || (keeps > 0 && is_full) {
             Err(Stop::Fault(Failed))
         } else {
             link.send(text)
         };
         if let Err(Stop::Fault(Failed)) = sent {
-            self.links.remove(index);
-            if index < self.turn {
-                self.turn -= 1;
-            }
+            self.close(number);
         }
         sent
+    }
+
+    /// Closes a link.
+    fn close(&mut self, number: u64) {
+        self.links.retain(|link| link.number != number);
     }
 
     /// How many bytes are kept for all links.
