@@ -22,8 +22,8 @@ use Rattle.commands.specs.Faults.{newline}
 use Rattle.commands.specs.Input.{ScenesLead, HasScenes, HasFaultyText}
 use Rattle.commands.specs.Pictures.{AreLines, IsTold}
 use Rattle.commands.specs.Pictures.IsTold.{size, not_base64, no_data_url}
-use Rattle.commands.specs.declared.status.Fault.{Fault}
-use Rattle.commands.specs.declared.status.Fault.TheVariants as fault
+use Rattle.commands.specs.declared.status.Refusal.{Refusal}
+use Rattle.commands.specs.declared.status.Refusal.TheVariants as refusal
 use Rattle.commands.specs.declared.words.Command.{Command}
 use Rattle.commands.specs.declared.words.Command.TheVariants.{Restore, Merge, State, Pictures}
 use Rattle.commands.proofs.Blanks.{Runs-either}
@@ -120,13 +120,13 @@ pictures-exist scenes read =
 
 -- ---- answers
 abbrev IsAnswered : Command → List ℕ → Type 0
-IsAnswered command bytes = (answer : Result (List ℕ) Fault) × IsAnswer command bytes answer
+IsAnswered command bytes = (answer : Result (List ℕ) Refusal) × IsAnswer command bytes answer
 
 made-or-refused : (IsOf : List Scene → List ℕ → Type 0) (bytes : List ℕ) → ((scenes : List Scene) → AllByRecursion HasText scenes → (text : List ℕ) × IsOf scenes text)
-    → ((text : List ℕ) × IsMadeOf IsOf bytes text) ⊎ ((found : Fault) × IsRefusal bytes found)
+    → ((text : List ℕ) × IsMadeOf IsOf bytes text) ⊎ ((found : Refusal) × IsRefusal bytes found)
 made-or-refused IsOf bytes make = elim (held bytes) [
   | inl (scenes, has) ↦ let made = make scenes (held-texts bytes scenes has) in inl (made.0, (scenes, has, made.1))
-  | inr (number, found, faulty) ↦ inr (fault.Text number found, faulty)
+  | inr (number, found, faulty) ↦ inr (refusal.Text number found, faulty)
 ]
 
 restored : (layout : Layout) (bytes : List ℕ) (scene : Scene) (end : ℕ) → StandsAt bytes 0 scene end → IsAnswered (Restore layout) bytes
@@ -136,7 +136,7 @@ restored layout bytes scene end s = elim (Runs-either is_space (drop end bytes))
       let made = shown-exists layout (scene ∷ []) (held-texts bytes (scene ∷ []) has) in
       (Ok made.0, (scene, has, made.1))
   | inr more ↦ (
-    Err (fault.Extra (end + prefix_len is_space (drop end bytes))),
+    Err (refusal.Extra (end + prefix_len is_space (drop end bytes))),
     record {
       scene = scene;
       after = end;
@@ -150,7 +150,7 @@ restored layout bytes scene end s = elim (Runs-either is_space (drop end bytes))
 pub answer-exists : (command : Command) (bytes : List ℕ) → IsAnswered command bytes
 answer-exists (Restore layout) bytes = elim (scene-or-fault bytes 0 (omega arith)) [
   | inl (scene, end, s) ↦ restored layout bytes scene end s
-  | inr (found, is) ↦ (Err (fault.Text 1 found), (refl, is))
+  | inr (found, is) ↦ (Err (refusal.Text 1 found), (refl, is))
 ]
 answer-exists (Merge layout) bytes = elim (made-or-refused (λ scenes. IsShownAs scenes layout) bytes (shown-exists layout)) [
   | inl (text, made) ↦ (Ok text, made)

@@ -2,7 +2,7 @@
 use Rattle.std.proofs.Common.{◌≡◌, ℕ, ◌≤◌, List, [], ◌++◌, length, Option, Some, None, IsSome, IfSome, refl, sym, ap, arith, ◌∙◌, length-append, append-nil}
 use Rattle.std.specs.Option.{option_map}
 use Rattle.board_io.specs.Ends.{SourceEnd}
-use Rattle.commands.specs.Ends.{GaveWithin, GaveTooMuch, WasRead, HasLeft}
+use Rattle.commands.specs.Ends.{span, GaveWithin, GaveTooMuch, WasRead, HasLeft}
 
 -- Where the content is told, what was given has one length.
 one-length : (before after : Option (List ℕ)) (x y : List ℕ) → IsSome before → before ≡ option_map (λ rest. x ++ rest) after → before ≡ option_map (λ rest. y ++ rest) after → length x ≡ length y
@@ -13,7 +13,7 @@ one-length (Some all) (Some rest) x y told first second =
     omega (arith, ap length e, length-append x rest, length-append y rest)
 
 -- Where the content is told, no more than the limit isn't more than the limit.
-pub within-excludes : (before after : SourceEnd) → IsSome before.left → GaveTooMuch before after → GaveWithin before after → ⊥
+pub within-excludes : (before after : SourceEnd) → IsSome before.left → GaveTooMuch (span before after) → GaveWithin (span before after) → ⊥
 within-excludes before after told (x, long, first) (y, short, second) =
     omega (arith, one-length before.left after.left x y told first second)
 
@@ -22,7 +22,7 @@ gave-none None = refl
 gave-none (Some rest) = refl
 
 -- Where the content is told and nothing was given, that isn't more than the limit.
-pub nothing-excludes : (before : SourceEnd) → IsSome before.left → GaveTooMuch before before → ⊥
+pub nothing-excludes : (before : SourceEnd) → IsSome before.left → GaveTooMuch (span before before) → ⊥
 nothing-excludes before told long = within-excludes before before told long ([], omega arith, gave-none before.left)
 
 given-less : (bytes given : List ℕ) (before after : Option (List ℕ)) → before ≡ Some bytes → before ≡ option_map (λ rest. given ++ rest) after → length given ≤ length bytes
@@ -33,7 +33,7 @@ given-less bytes given before (Some rest) told gave =
     omega (arith, ap length all, length-append given rest)
 
 -- What is left within the limit isn't more than the limit.
-pub left-excludes : (bytes : List ℕ) (before after : SourceEnd) → HasLeft before bytes → GaveTooMuch before after → ⊥
+pub left-excludes : (bytes : List ℕ) (before after : SourceEnd) → HasLeft before bytes → GaveTooMuch (span before after) → ⊥
 left-excludes bytes before after has (given, more, gave) = omega (arith, has.within, given-less bytes given before.left after.left has.told gave)
 
 all-given : (bytes given : List ℕ) (before after : Option (List ℕ)) → before ≡ Some bytes → before ≡ option_map (λ rest. given ++ rest) after
@@ -45,5 +45,5 @@ all-given bytes given before (Some rest) told gave ended =
     sym (all ∙ (ap (λ r. given ++ r) ended ∙ append-nil given))
 
 -- What was read to the end is what was left.
-pub read-whole : (bytes given : List ℕ) (before after : SourceEnd) → HasLeft before bytes → WasRead before after given → given ≡ bytes
+pub read-whole : (bytes given : List ℕ) (before after : SourceEnd) → HasLeft before bytes → WasRead (span before after) given → given ≡ bytes
 read-whole bytes given before after has read = all-given bytes given before.left after.left has.told read.given read.at_end

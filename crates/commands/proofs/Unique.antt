@@ -26,8 +26,8 @@ use Rattle.commands.specs.Faults.{newline}
 use Rattle.commands.specs.Input.{HasScenes, HasFaultyText, HasExtraText}
 use Rattle.commands.specs.Pictures.{AreLines, IsTold}
 use Rattle.commands.specs.Pictures.IsTold.{size, not_base64, no_data_url}
-use Rattle.commands.specs.declared.status.Fault.{Fault}
-use Rattle.commands.specs.declared.status.Fault.TheVariants as fault
+use Rattle.commands.specs.declared.status.Refusal.{Refusal}
+use Rattle.commands.specs.declared.status.Refusal.TheVariants as refusal
 use Rattle.commands.specs.declared.words.Command.{Command}
 use Rattle.commands.specs.declared.words.Command.TheVariants.{Restore, Merge, State, Pictures}
 use Rattle.commands.proofs.Inputs.{input-once, faulty-once, faulty-scenes, extra-scene, extra-once}
@@ -96,49 +96,33 @@ pictures-once {other = other} a b =
     lines-once _ _ _ a.lines (subst (λ fs. AreLines fs other) (sym files) b.lines)
 
 -- ---- faults
--- what a refusal names
-is-text : (bytes : List ℕ) (f : Fault) → IsRefusal bytes f → (number : ℕ) × (found : SceneFault) × (f ≡ fault.Text number found) × HasFaultyText bytes number found
-is-text bytes (fault.Text number found) is = (number, found, refl, is)
-is-text bytes fault.Memory is = absurd is
-is-text bytes fault.Usage is = absurd is
-is-text bytes fault.Read is = absurd is
-is-text bytes fault.TooLong is = absurd is
-is-text bytes (fault.Extra at) is = absurd is
-is-text bytes fault.Write is = absurd is
-
-refusal-once : (bytes : List ℕ) (f g : Fault) → IsRefusal bytes f → IsRefusal bytes g → f ≡ g
-refusal-once bytes f g is also =
-    let (number, found, named, faulty) = is-text bytes f is in
-    let (other, why, told, wrong) = is-text bytes g also in
+refusal-once : (bytes : List ℕ) (f g : Refusal) → IsRefusal bytes f → IsRefusal bytes g → f ≡ g
+refusal-once bytes (refusal.Text number found) (refusal.Text other why) faulty wrong =
     let same = faulty-once bytes number other found why faulty wrong in
-    named ∙ (ap₂ fault.Text same.0 same.1 ∙ sym told)
+    ap₂ refusal.Text same.0 same.1
+refusal-once bytes (refusal.Text number found) (refusal.Extra at) faulty none = absurd none
+refusal-once bytes (refusal.Extra at) g none also = absurd none
 
-refusal-none : (bytes : List ℕ) (f : Fault) (scenes : List Scene) → IsRefusal bytes f → HasScenes bytes scenes → ⊥
-refusal-none bytes f scenes is has =
-    let (number, found, named, faulty) = is-text bytes f is in
-    faulty-scenes bytes number found scenes faulty has
+refusal-none : (bytes : List ℕ) (f : Refusal) (scenes : List Scene) → IsRefusal bytes f → HasScenes bytes scenes → ⊥
+refusal-none bytes (refusal.Text number found) scenes faulty has = faulty-scenes bytes number found scenes faulty has
+refusal-none bytes (refusal.Extra at) scenes none has = none
 
 -- a refusal of what is to be one scene: for its text, or for what follows it
-data Refused (bytes : List ℕ) : Fault → Type 0 where
-  in_text : (found : SceneFault) → IsFaultAt bytes 0 found → Refused bytes (fault.Text 1 found)
-  behind : (at : ℕ) → HasExtraText bytes at → Refused bytes (fault.Extra at)
+data Refused (bytes : List ℕ) : Refusal → Type 0 where
+  in_text : (found : SceneFault) → IsFaultAt bytes 0 found → Refused bytes (refusal.Text 1 found)
+  behind : (at : ℕ) → HasExtraText bytes at → Refused bytes (refusal.Extra at)
 
-refused : (bytes : List ℕ) (f : Fault) → IsOneRefusal bytes f → Refused bytes f
-refused bytes (fault.Text number found) (one, is) = subst (λ n. Refused bytes (fault.Text n found)) (sym one) (in_text found is)
-refused bytes (fault.Extra at) is = behind at is
-refused bytes fault.Memory is = absurd is
-refused bytes fault.Usage is = absurd is
-refused bytes fault.Read is = absurd is
-refused bytes fault.TooLong is = absurd is
-refused bytes fault.Write is = absurd is
+refused : (bytes : List ℕ) (f : Refusal) → IsOneRefusal bytes f → Refused bytes f
+refused bytes (refusal.Text number found) (one, is) = subst (λ n. Refused bytes (refusal.Text n found)) (sym one) (in_text found is)
+refused bytes (refusal.Extra at) is = behind at is
 
-refused-once : (bytes : List ℕ) (f g : Fault) → Refused bytes f → Refused bytes g → f ≡ g
-refused-once bytes f g (in_text found is) (in_text other also) = ap (fault.Text 1) (fault-once bytes 0 found other is also)
+refused-once : (bytes : List ℕ) (f g : Refusal) → Refused bytes f → Refused bytes g → f ≡ g
+refused-once bytes f g (in_text found is) (in_text other also) = ap (refusal.Text 1) (fault-once bytes 0 found other is also)
 refused-once bytes f g (in_text found is) (behind at e) = absurd (fault-none bytes 0 found is e.lead)
 refused-once bytes f g (behind at e) (in_text found is) = absurd (fault-none bytes 0 found is e.lead)
-refused-once bytes f g (behind at e) (behind other also) = ap fault.Extra (extra-once bytes at other e also)
+refused-once bytes f g (behind at e) (behind other also) = ap refusal.Extra (extra-once bytes at other e also)
 
-refused-none : (bytes : List ℕ) (f : Fault) (scene : Scene) → Refused bytes f → HasScenes bytes (scene ∷ []) → ⊥
+refused-none : (bytes : List ℕ) (f : Refusal) (scene : Scene) → Refused bytes f → HasScenes bytes (scene ∷ []) → ⊥
 refused-none bytes f scene (in_text found is) has = fault-none bytes 0 found is has.lead.1
 refused-none bytes f scene (behind at e) has = extra-scene bytes at scene e has
 
@@ -148,10 +132,10 @@ made-once : (IsOf : List Scene → List ℕ → Type 0) (bytes text other : List
 made-once IsOf bytes text other once (scenes, has, is) (others, also, too) =
     once scenes is (subst (λ s. IsOf s other) (input-once bytes others scenes also has) too)
 
-made-none : (IsOf : List Scene → List ℕ → Type 0) (bytes text : List ℕ) (f : Fault) → IsMadeOf IsOf bytes text → IsRefusal bytes f → ⊥
+made-none : (IsOf : List Scene → List ℕ → Type 0) (bytes text : List ℕ) (f : Refusal) → IsMadeOf IsOf bytes text → IsRefusal bytes f → ⊥
 made-none IsOf bytes text f (scenes, has, is) refused = refusal-none bytes f scenes refused has
 
-pub answer-once : (command : Command) (bytes : List ℕ) (answer other : Result (List ℕ) Fault) → IsAnswer command bytes answer → IsAnswer command bytes other → answer ≡ other
+pub answer-once : (command : Command) (bytes : List ℕ) (answer other : Result (List ℕ) Refusal) → IsAnswer command bytes answer → IsAnswer command bytes other → answer ≡ other
 answer-once (Restore layout) bytes (Ok a) (Ok b) (scene, has, is) (next, also, too) =
     ap Ok (shown-once is (subst (λ s. IsShownAs s layout b) (input-once bytes (next ∷ []) (scene ∷ []) also has) too))
 answer-once (Restore layout) bytes (Ok a) (Err g) (scene, has, is) also = absurd (refused-none bytes g scene (refused bytes g also) has)

@@ -15,8 +15,8 @@ use Rattle.scene_file.specs.declared.scene.Scene.{Scene}
 use Rattle.commands.specs.Faults.{newline}
 use Rattle.commands.specs.Input.{HasScenes, HasFaultyText, HasExtraText}
 use Rattle.commands.specs.Pictures.{AreLines}
-use Rattle.commands.specs.declared.status.Fault.{Fault}
-use Rattle.commands.specs.declared.status.Fault.TheVariants as fault
+use Rattle.commands.specs.declared.status.Refusal.{Refusal}
+use Rattle.commands.specs.declared.status.Refusal.TheVariants as refusal
 use Rattle.commands.specs.declared.words.Command.{Command}
 use Rattle.commands.specs.declared.words.Command.TheVariants.{Restore, Merge, State, Pictures}
 
@@ -63,22 +63,21 @@ pub record HasPictures (scenes : List Scene) (text : List ℕ) : Type 0 where
   pub lines : AreLines (referred_files head.files (shown_of stored)) text
 
 -- The first fault of an input that is to be one scene: its first text has it, or a further byte follows the scene.
-abbrev pub IsOneRefusal : List ℕ → Fault → Type 0
-IsOneRefusal bytes (fault.Text number found) = (number ≡ 1) × IsFaultAt bytes 0 found
-IsOneRefusal bytes (fault.Extra at) = HasExtraText bytes at
-IsOneRefusal bytes other = ⊥
+abbrev pub IsOneRefusal : List ℕ → Refusal → Type 0
+IsOneRefusal bytes (refusal.Text number found) = (number ≡ 1) × IsFaultAt bytes 0 found
+IsOneRefusal bytes (refusal.Extra at) = HasExtraText bytes at
 
 -- The first fault of an input that is to be one scene at least: the first text with a fault has it.
-abbrev pub IsRefusal : List ℕ → Fault → Type 0
-IsRefusal bytes (fault.Text number found) = HasFaultyText bytes number found
-IsRefusal bytes other = ⊥
+abbrev pub IsRefusal : List ℕ → Refusal → Type 0
+IsRefusal bytes (refusal.Text number found) = HasFaultyText bytes number found
+IsRefusal bytes (refusal.Extra at) = ⊥
 
 -- The input is scenes, one at least, of which this text is made.
 abbrev pub IsMadeOf : (List Scene → List ℕ → Type 0) → List ℕ → List ℕ → Type 0
 IsMadeOf IsOf bytes text = (scenes : List Scene) × HasScenes bytes scenes × IsOf scenes text
 
 -- What a command answers an input with: this text, or this first fault.
-abbrev pub IsAnswer : Command → List ℕ → Result (List ℕ) Fault → Type 0
+abbrev pub IsAnswer : Command → List ℕ → Result (List ℕ) Refusal → Type 0
 IsAnswer (Restore layout) bytes (Ok text) = (scene : Scene) × HasScenes bytes (scene ∷ []) × IsShownAs (scene ∷ []) layout text
 IsAnswer (Restore layout) bytes (Err found) = IsOneRefusal bytes found
 IsAnswer (Merge layout) bytes (Ok text) = IsMadeOf (λ scenes. IsShownAs scenes layout) bytes text

@@ -7,6 +7,7 @@ use Rattle.commands.specs.declared.status.Status.{Status}
 use Rattle.commands.specs.declared.status.Status.TheVariants as status
 use Rattle.commands.specs.declared.status.Fault.{Fault}
 use Rattle.commands.specs.declared.status.Fault.TheVariants as fault
+use Rattle.commands.specs.declared.status.Refusal.TheVariants as refusal
 
 -- the end of a line, U+000A
 abbrev pub newline : List ℕ
@@ -29,8 +30,7 @@ status_of fault.Memory = status.Memory
 status_of fault.Usage = status.Usage
 status_of fault.Read = status.ReadFault
 status_of fault.TooLong = status.Refused
-status_of (fault.Text number found) = status.Refused
-status_of (fault.Extra at) = status.Refused
+status_of (fault.Refused found) = status.Refused
 status_of fault.Write = status.WriteFault
 
 -- the line that tells a fault
@@ -39,8 +39,8 @@ line_of fault.Memory = codes "board: out of memory" ++ newline
 line_of fault.Usage = codes "board: usage: restore, merge, state, replay, pictures, drill SEED EVENTS, serve PORT LINKS IDLE" ++ newline
 line_of fault.Read = codes "board: read fault" ++ newline
 line_of fault.TooLong = codes "board: input is longer than 67108864 bytes" ++ newline
-line_of (fault.Text number found) = codes "board: text " ++ (decimal number ++ (codes ": " ++ (fault_words found ++ newline)))
-line_of (fault.Extra at) = codes "board: extra text at byte " ++ (decimal at ++ newline)
+line_of (fault.Refused (refusal.Text number found)) = codes "board: text " ++ (decimal number ++ (codes ": " ++ (fault_words found ++ newline)))
+line_of (fault.Refused (refusal.Extra at)) = codes "board: extra text at byte " ++ (decimal at ++ newline)
 line_of fault.Write = codes "board: write fault" ++ newline
 
 -- The notes gained the line, or a first part of it where their count of faults rose.

@@ -16,7 +16,7 @@ use Rattle.room_core.specs.Told.{Told, told_of}
 use Rattle.room_core.specs.declared.limits.ServeEnd.{ServeEnd}
 use Rattle.room_core.specs.declared.limits.ServeEnd.TheVariants.{AllClosed, Idle as IdleEnd, LinkFault as LinkEnd, LinksFull, EventsFull, Memory as MemoryEnd}
 use Rattle.commands.specs.Answers.{IsBoardOf, IsRefusal, shown_of}
-use Rattle.commands.specs.Ends.{GaveWithin, GaveTooMuch, WasRead}
+use Rattle.commands.specs.Ends.{Span, span, GaveWithin, GaveTooMuch, WasRead}
 use Rattle.commands.specs.Faults.{newline, status_of, Noted, IsNoted}
 use Rattle.commands.specs.Input.{HasScenes}
 use Rattle.commands.specs.declared.status.Fault.{Fault}
@@ -75,7 +75,7 @@ ListensOn service end links = (end ≡ LinkEnd) ⊎ (links.port ≡ Some service
 -- The input, read to its end, is scenes; their room was served to this end; and so much was written of the scene at its end.
 pub record WasServed (service : Service) (end : ServeEnd) (before after : Ends) (part : List ℕ → List ℕ) : Type 0 where
   pub bytes : List ℕ
-  pub read : WasRead before.input after.input bytes
+  pub read : WasRead (span before.input after.input) bytes
   pub scenes : List Scene
   pub has_scenes : HasScenes bytes scenes
   pub text : List ℕ
@@ -89,8 +89,9 @@ WasServedTo service end before after = WasServed service end before after (λ te
 
 -- The input was refused: it is too long, or no scenes, with this first fault.
 abbrev pub WasInputRefused : Fault → Ends → Ends → Type 0
-WasInputRefused fault.TooLong before after = GaveTooMuch before.input after.input
-WasInputRefused found before after = (bytes : List ℕ) × WasRead before.input after.input bytes × IsRefusal bytes found
+WasInputRefused fault.TooLong before after = GaveTooMuch (span before.input after.input)
+WasInputRefused (fault.Refused found) before after = (bytes : List ℕ) × WasRead (span before.input after.input) bytes × IsRefusal bytes found
+WasInputRefused other before after = ⊥
 
 -- the status that a room's end gives
 abbrev pub end_status : ServeEnd → Status
@@ -115,7 +116,7 @@ end_line MemoryEnd = codes "board: out of memory" ++ newline
 abbrev pub HasServingCause : Fault → Service → Ends → Ends → Type 0
 HasServingCause fault.Memory service before after = Unit {0}
 HasServingCause fault.Usage service before after = ⊥
-HasServingCause fault.Read service before after = Rose before.input.faults after.input.faults × GaveWithin before.input after.input
+HasServingCause fault.Read service before after = Rose before.input.faults after.input.faults × GaveWithin (span before.input after.input)
 HasServingCause fault.Write service before after =
     ((end : ServeEnd) × (n : ℕ) × WasServed service end before after (take n)) × Rose before.output.faults after.output.faults
 HasServingCause found service before after = WasInputRefused found before after
@@ -131,7 +132,7 @@ EndsServing service before after notes notes_after status.Refused =
     ((found : Fault) × (status_of found ≡ status.Refused) × WasInputRefused found before after × Noted found notes notes_after)
     ⊎ ((end : ServeEnd) × (end_status end ≡ status.Refused) × WasServedTo service end before after × IsNoted (end_line end) notes notes_after)
 EndsServing service before after notes notes_after status.ReadFault =
-    Rose before.input.faults after.input.faults × GaveWithin before.input after.input × Noted fault.Read notes notes_after
+    Rose before.input.faults after.input.faults × GaveWithin (span before.input after.input) × Noted fault.Read notes notes_after
 EndsServing service before after notes notes_after status.WriteFault =
     ((end : ServeEnd) × (n : ℕ) × WasServed service end before after (take n))
     × Rose before.output.faults after.output.faults × Noted fault.Write notes notes_after

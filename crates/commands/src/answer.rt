@@ -4,11 +4,11 @@ ghost use Rattle.std.specs.Prelude.{◌≡◌, ◌++◌, [], ◌∷◌, Ok, Err,
 ghost use Rattle.scene_file.specs.Heads.{IsJoinedHead};
 ghost use Rattle.commands.specs.Answers.{IsAnswer, IsBoardOf, IsShownAs, IsStoredAs, HasPictures, heads_of, updates_of};
 ghost use Rattle.commands.specs.Faults.{newline};
-ghost use Rattle.commands.specs.declared.status.Fault.{Fault};
+ghost use Rattle.commands.specs.declared.status.Refusal.{Refusal};
 
 use crate::load::{one_scene, scenes};
 use crate::pictures::picture_lines;
-use crate::status::Fault;
+use crate::status::Refusal;
 use crate::words::Command;
 use board_io::{Bytes, List, Stop};
 use elem::Element;
@@ -18,9 +18,9 @@ use std::alloc::{AllocError, Global};
 use view::view_of;
 
 /// The text that the command answers these bytes with, or the fault that they are refused for.
-pub(crate) fn answer(alloc: Global, command: Command, bytes: Bytes) -> Result<Bytes, Stop<Fault>>
+pub(crate) fn answer(alloc: Global, command: Command, bytes: Bytes) -> Result<Bytes, Stop<Refusal>>
     ensures text { IfOk result (λ text. IsAnswer command bytes (Ok text)) }
-    ensures fault { (fault : Fault) → result ≡ Err (Stop.Fault fault) → IsAnswer command bytes (Err fault) }
+    ensures fault { (fault : Refusal) → result ≡ Err (Stop.Fault fault) → IsAnswer command bytes (Err fault) }
 {
     match command {
         Command::Restore(layout) => {

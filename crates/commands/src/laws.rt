@@ -11,7 +11,7 @@ ghost use Rattle.commands.specs.Answers.{IsAnswer, heads_of, updates_of, shown_o
 ghost use Rattle.commands.specs.Faults.{newline};
 ghost use Rattle.commands.specs.Input.{HasScenes};
 ghost use Rattle.commands.specs.Words.{asked, words_of};
-ghost use Rattle.commands.specs.declared.status.Fault.{Fault};
+ghost use Rattle.commands.specs.declared.status.Refusal.{Refusal};
 ghost use Rattle.commands.specs.declared.words.Command.{Command};
 ghost use Rattle.commands.specs.declared.words.Request.{Request};
 
@@ -22,12 +22,12 @@ pub fn words_ask()
 
 /// Each command has an answer to each input, whatever its bytes.
 pub fn answer_exists()
-    ensures { (command : Command) (bytes : List ℕ) → (answer : Result (List ℕ) Fault) × IsAnswer command bytes answer }
+    ensures { (command : Command) (bytes : List ℕ) → (answer : Result (List ℕ) Refusal) × IsAnswer command bytes answer }
 {}
 
 /// An input has one answer alone.
 pub fn answer_is_unique()
-    ensures { (command : Command) (bytes : List ℕ) (answer other : Result (List ℕ) Fault)
+    ensures { (command : Command) (bytes : List ℕ) (answer other : Result (List ℕ) Refusal)
         → IsAnswer command bytes answer → IsAnswer command bytes other → answer ≡ other }
 {}
 

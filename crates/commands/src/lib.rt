@@ -11,5 +11,5 @@ mod status;
 mod words;
 
 pub use running::board;
-pub use status::{Fault, Status};
+pub use status::{Fault, Refusal, Status};
 pub use words::{Command, Request, Service};

@@ -5,12 +5,13 @@ ghost use Rattle.board_io.specs.Counts.{Rose};
 ghost use Rattle.commands.specs.Again.{RestoresOnce, RestoresMerges, StatesStandFor};
 ghost use Rattle.commands.specs.Answers.{IsAnswer, Converges};
 ghost use Rattle.commands.specs.Causes.{HasCause};
-ghost use Rattle.commands.specs.Ends.{EndsWith, GaveWithin, GaveTooMuch, HasLeft, WasDone, WasDoneInPart, WasRead, WasRefused};
+ghost use Rattle.commands.specs.Ends.{span, EndsWith, GaveWithin, GaveTooMuch, HasLeft, WasDone, WasDoneInPart, WasRead, WasRefused};
 ghost use Rattle.commands.specs.Faults.{status_of, Noted};
 ghost use Rattle.commands.specs.Services.{IsService};
 ghost use Rattle.commands.specs.Serving.{links_seen, EndsServing};
 ghost use Rattle.commands.specs.Words.{asked};
 ghost use Rattle.commands.specs.declared.status.Fault.{Fault};
+ghost use Rattle.commands.specs.declared.status.Refusal.{Refusal};
 ghost use Rattle.commands.specs.declared.words.Command.{Command};
 ghost use Rattle.commands.specs.declared.words.Request.{Request};
 ghost use Rattle.commands.specs.declared.words.Service.{Service};
@@ -44,28 +45,28 @@ pub fn board<S: Source, K: Sink, N: Sink, L: Links>(
 
     // A command that answers an input. Done: the input, read to its end, is answered with a text, and that is written.
     ensures done { (command : Command) → asked words.now ≡ Some (Request.Answer command) → result ≡ Status.Done
-        → WasDone (Some command) (S.seen input.old) (S.seen input.new) (K.seen output.old) (K.seen output.new) }
+        → WasDone (Some command) (span (S.seen input.old) (S.seen input.new)) (span (K.seen output.old) (K.seen output.new)) }
 
     // Refused: the input is too long, or answered with a fault, and the notes tell it.
     ensures refused { (command : Command) → asked words.now ≡ Some (Request.Answer command) → result ≡ Status.Refused → (fault : Fault)
-        × WasRefused (Some command) fault (S.seen input.old) (S.seen input.new)
+        × WasRefused (Some command) fault (span (S.seen input.old) (S.seen input.new))
         × Noted fault (N.seen notes.old) (N.seen notes.new) }
 
     // ReadFault and WriteFault: the count of faults rose; what was read was within the limit, and a first part was written.
     ensures read_fault { (command : Command) → asked words.now ≡ Some (Request.Answer command) → result ≡ Status.ReadFault
-        → Rose (S.seen input.old).faults (S.seen input.new).faults × GaveWithin (S.seen input.old) (S.seen input.new) }
+        → Rose (S.seen input.old).faults (S.seen input.new).faults × GaveWithin (span (S.seen input.old) (S.seen input.new)) }
     ensures write_fault { (command : Command) → asked words.now ≡ Some (Request.Answer command) → result ≡ Status.WriteFault
-        → WasDoneInPart (Some command) (S.seen input.old) (S.seen input.new) (K.seen output.old) (K.seen output.new) }
+        → WasDoneInPart (Some command) (span (S.seen input.old) (S.seen input.new)) (span (K.seen output.old) (K.seen output.new)) }
 
     // Where the input tells its bytes and doesn't fail: Done with the one text that the command answers these bytes with,
     // unless the output fails, or Refused with the one fault; or memory is wanted.
     ensures complete { (command : Command) (bytes : List ℕ) → asked words.now ≡ Some (Request.Answer command)
         → HasLeft (S.seen input.old) bytes
         → ¬ Rose (S.seen input.old).faults (S.seen input.new).faults
-        → (result ≡ Status.Memory) ⊎ ((answer : Result (List ℕ) Fault) × IsAnswer command bytes answer
-        × EndsWith answer result (K.seen output.old) (K.seen output.new) (N.seen notes.old) (N.seen notes.new)) }
+        → (result ≡ Status.Memory) ⊎ ((answer : Result (List ℕ) Refusal) × IsAnswer command bytes answer
+        × EndsWith answer result (span (K.seen output.old) (K.seen output.new)) (span (N.seen notes.old) (N.seen notes.new))) }
     ensures too_long { (command : Command) → asked words.now ≡ Some (Request.Answer command)
-        → IsSome (S.seen input.old).left → GaveTooMuch (S.seen input.old) (S.seen input.new)
+        → IsSome (S.seen input.old).left → GaveTooMuch (span (S.seen input.old) (S.seen input.new))
         → (result ≡ Status.Memory)
         ⊎ ((result ≡ Status.Refused) × Noted Fault.TooLong (N.seen notes.old) (N.seen notes.new)) }
 
@@ -111,19 +112,19 @@ fn answer_run<S: Source, K: Sink, N: Sink>(
     notes: &mut N,
 ) -> Status
     ensures done { result ≡ Status.Done
-        → WasDone (Some command) (S.seen input.old) (S.seen input.new) (K.seen output.old) (K.seen output.new) }
+        → WasDone (Some command) (span (S.seen input.old) (S.seen input.new)) (span (K.seen output.old) (K.seen output.new)) }
     ensures refused { result ≡ Status.Refused → (fault : Fault)
-        × WasRefused (Some command) fault (S.seen input.old) (S.seen input.new)
+        × WasRefused (Some command) fault (span (S.seen input.old) (S.seen input.new))
         × Noted fault (N.seen notes.old) (N.seen notes.new) }
     ensures read_fault { result ≡ Status.ReadFault → Rose (S.seen input.old).faults (S.seen input.new).faults
-        × GaveWithin (S.seen input.old) (S.seen input.new) }
+        × GaveWithin (span (S.seen input.old) (S.seen input.new)) }
     ensures write_fault { result ≡ Status.WriteFault
-        → WasDoneInPart (Some command) (S.seen input.old) (S.seen input.new) (K.seen output.old) (K.seen output.new) }
+        → WasDoneInPart (Some command) (span (S.seen input.old) (S.seen input.new)) (span (K.seen output.old) (K.seen output.new)) }
     ensures complete { (bytes : List ℕ) → HasLeft (S.seen input.old) bytes
         → ¬ Rose (S.seen input.old).faults (S.seen input.new).faults
-        → (result ≡ Status.Memory) ⊎ ((answer : Result (List ℕ) Fault) × IsAnswer command bytes answer
-        × EndsWith answer result (K.seen output.old) (K.seen output.new) (N.seen notes.old) (N.seen notes.new)) }
-    ensures too_long { IsSome (S.seen input.old).left → GaveTooMuch (S.seen input.old) (S.seen input.new)
+        → (result ≡ Status.Memory) ⊎ ((answer : Result (List ℕ) Refusal) × IsAnswer command bytes answer
+        × EndsWith answer result (span (K.seen output.old) (K.seen output.new)) (span (N.seen notes.old) (N.seen notes.new))) }
+    ensures too_long { IsSome (S.seen input.old).left → GaveTooMuch (span (S.seen input.old) (S.seen input.new))
         → (result ≡ Status.Memory)
         ⊎ ((result ≡ Status.Refused) × Noted Fault.TooLong (N.seen notes.old) (N.seen notes.new)) }
     ensures used { result ≢ Status.Usage }
@@ -172,17 +173,17 @@ fn run<S: Source, K: Sink>(
 ) -> Result<(), Fault>
     ensures used { result ≢ Err Fault.Usage }
     ensures done { OnOk result
-        (WasDone (Some command) (S.seen input.old) (S.seen input.new) (K.seen output.old) (K.seen output.new)) }
+        (WasDone (Some command) (span (S.seen input.old) (S.seen input.new)) (span (K.seen output.old) (K.seen output.new))) }
     ensures fault { IfErr result (λ fault. HasCause fault (Some command)
-        (S.seen input.old) (S.seen input.new) (K.seen output.old) (K.seen output.new)) }
-    ensures too_long { IsSome (S.seen input.old).left → GaveTooMuch (S.seen input.old) (S.seen input.new)
+        (span (S.seen input.old) (S.seen input.new)) (span (K.seen output.old) (K.seen output.new))) }
+    ensures too_long { IsSome (S.seen input.old).left → GaveTooMuch (span (S.seen input.old) (S.seen input.new))
         → (result ≡ Err Fault.Memory) ⊎ (result ≡ Err Fault.TooLong) }
     ensures output_kept { IfErr result (λ fault. fault ≢ Fault.Write → output.new ≡ output.old) }
 {
     let bytes = input_of(alloc, input)?;
     let text = match answer(alloc, command, bytes) {
         Ok(text) => text,
-        Err(Stop::Fault(fault)) => return Err(fault),
+        Err(Stop::Fault(refusal)) => return Err(Fault::Refused(refusal)),
         Err(Stop::Memory) => return Err(Fault::Memory),
     };
     match write_all(output, text.as_slice()) {
@@ -193,11 +194,11 @@ fn run<S: Source, K: Sink>(
 
 /// The whole input, within the limit.
 pub(crate) fn input_of<S: Source>(alloc: Global, input: &mut S) -> Result<Bytes, Fault>
-    ensures read { IfOk result (WasRead (S.seen input.old) (S.seen input.new)) }
+    ensures read { IfOk result (WasRead (span (S.seen input.old) (S.seen input.new))) }
     ensures read_fault { result ≡ Err Fault.Read → Rose (S.seen input.old).faults (S.seen input.new).faults
-        × GaveWithin (S.seen input.old) (S.seen input.new) }
-    ensures too_long { result ≡ Err Fault.TooLong → GaveTooMuch (S.seen input.old) (S.seen input.new) }
-    ensures long { IsSome (S.seen input.old).left → GaveTooMuch (S.seen input.old) (S.seen input.new)
+        × GaveWithin (span (S.seen input.old) (S.seen input.new)) }
+    ensures too_long { result ≡ Err Fault.TooLong → GaveTooMuch (span (S.seen input.old) (S.seen input.new)) }
+    ensures long { IsSome (S.seen input.old).left → GaveTooMuch (span (S.seen input.old) (S.seen input.new))
         → (result ≡ Err Fault.Memory) ⊎ (result ≡ Err Fault.TooLong) }
     ensures only { IfErr result (λ fault. (fault ≡ Fault.Memory) ⊎ ((fault ≡ Fault.Read) ⊎ (fault ≡ Fault.TooLong))) }
 {

@@ -11,13 +11,16 @@ ghost use Rattle.commands.specs.Services.{IsService};
 ghost use Rattle.commands.specs.Serving.{links_seen, end_line, end_status, HasServingCause, IsSceneOfStored, WasHeld, WasServedTo};
 ghost use Rattle.commands.specs.Faults.{IsNoted};
 ghost use Rattle.commands.specs.declared.status.Fault.{Fault};
+ghost use Rattle.commands.specs.declared.status.Refusal.{Refusal};
 
 use crate::answer::{board_of, ended};
 use crate::load::scenes;
 use crate::running::input_of;
-use crate::status::{Fault, Status};
+use crate::status::{Fault, Refusal, Status};
 use crate::words::Service;
-use board_io::{Bytes, Failed, LinkError, Links, Sink, Source, Stop, write_all};
+use board_io::{
+    Bytes, Failed, LinkError, Links, Piece, Sink, Source, Stop, write_all, write_pieces,
+};
 use elem_store::Store;
 use room_core::{Room, ServeEnd, serve_room};
 use scene_file::{Head, Layout, scene_text};
@@ -46,7 +49,7 @@ pub(crate) fn serve<S: Source, K: Sink, L: Links>(
     let bytes = input_of(alloc, input)?;
     let (head, store) = match begin(alloc, bytes) {
         Ok(begun) => begun,
-        Err(Stop::Fault(fault)) => return Err(fault),
+        Err(Stop::Fault(refusal)) => return Err(Fault::Refused(refusal)),
         Err(Stop::Memory) => return Err(Fault::Memory),
     };
     let (end, text) = hold(alloc, service, &head, store, links)?;
@@ -57,9 +60,9 @@ pub(crate) fn serve<S: Source, K: Sink, L: Links>(
 }
 
 /// The joined head of the scenes of an input, and what is stored of them.
-fn begin(alloc: Global, input: Bytes) -> Result<(Head, Store), Stop<Fault>>
+fn begin(alloc: Global, input: Bytes) -> Result<(Head, Store), Stop<Refusal>>
     ensures begun { IfOk result (λ begun. (scenes : Items Scene) × HasScenes input scenes × IsBoardOf scenes begun.0 begun.1.elements) }
-    ensures fault { (fault : Fault) → result ≡ Err (Stop.Fault fault) → IsRefusal input fault }
+    ensures refusal { (refusal : Refusal) → result ≡ Err (Stop.Fault refusal) → IsRefusal input refusal }
 {
     let scenes = scenes(alloc, input)?;
     Ok(board_of(alloc, scenes)?)
@@ -120,26 +123,29 @@ fn room_text(alloc: Global, head: &Head, room: &Room, layout: Layout) -> Result<
 pub(crate) fn noted_end<N: Sink>(end: ServeEnd, notes: &mut N) -> Status
     ensures status { result ≡ end_status end }
     ensures done { (end ≡ ServeEnd.AllClosed) ⊎ (end ≡ ServeEnd.Idle) → notes.new ≡ notes.old }
-    ensures noted { IsNoted (end_line end) (N.seen notes.old) (N.seen notes.new) }
+    ensures noted { end ≢ ServeEnd.AllClosed → end ≢ ServeEnd.Idle → IsNoted (end_line end) (N.seen notes.old) (N.seen notes.new) }
 {
     match end {
         ServeEnd::AllClosed => Status::Done,
         ServeEnd::Idle => Status::Idle,
-        ServeEnd::LinkFault => {
-            let _ = write_all(notes, b"board: link fault\n");
-            Status::LinkFault
+        fault => {
+            let (words, status) = told(fault);
+            let _ = write_pieces(notes, &[Piece::Words(words)]);
+            status
         }
-        ServeEnd::LinksFull => {
-            let _ = write_all(notes, b"board: room: links full\n");
-            Status::Refused
-        }
-        ServeEnd::EventsFull => {
-            let _ = write_all(notes, b"board: room: events full\n");
-            Status::Refused
-        }
-        ServeEnd::Memory => {
-            let _ = write_all(notes, b"board: out of memory\n");
-            Status::Memory
-        }
+    }
+}
+
+/// The line that tells a room's end, which is a fault, and its status.
+fn told(end: ServeEnd) -> (&'static str, Status)
+    requires { (end ≢ ServeEnd.AllClosed) × (end ≢ ServeEnd.Idle) }
+    ensures line { result.0.now ≡ end_line end }
+    ensures status { result.1 ≡ end_status end }
+{
+    match end {
+        ServeEnd::LinkFault => ("board: link fault\n", Status::LinkFault),
+        ServeEnd::LinksFull => ("board: room: links full\n", Status::Refused),
+        ServeEnd::EventsFull => ("board: room: events full\n", Status::Refused),
+        _ => ("board: out of memory\n", Status::Memory),
     }
 }

@@ -50,6 +50,15 @@ impl Status {
     }
 }
 
+/// Why an input is refused that was read to its end.
+#[derive(Clone, Copy, Debug, PartialEq, Eq)]
+pub enum Refusal {
+    /// The text with this number, counted from 1, has this fault.
+    Text(usize, SceneFault),
+    /// One scene was asked for, and behind it a further text begins at this byte.
+    Extra(usize),
+}
+
 /// Why a run didn't do what it was asked for.
 #[derive(Clone, Copy, Debug, PartialEq, Eq)]
 pub enum Fault {
@@ -61,10 +70,8 @@ pub enum Fault {
     Read,
     /// The input has more bytes than the limit.
     TooLong,
-    /// The text with this number, counted from 1, has this fault.
-    Text(usize, SceneFault),
-    /// One scene was asked for, and behind it a further text begins at this byte.
-    Extra(usize),
+    /// The input was read and is refused.
+    Refused(Refusal),
     /// The output could not be written.
     Write,
 }
@@ -78,7 +85,7 @@ impl Fault {
             Fault::Memory => Status::Memory,
             Fault::Usage => Status::Usage,
             Fault::Read => Status::ReadFault,
-            Fault::TooLong | Fault::Text(_, _) | Fault::Extra(_) => Status::Refused,
+            Fault::TooLong | Fault::Refused(_) => Status::Refused,
             Fault::Write => Status::WriteFault,
         }
     }
@@ -103,7 +110,7 @@ impl Fault {
             ),
             Fault::Read => line("board: read fault\n"),
             Fault::TooLong => line("board: input is longer than 67108864 bytes\n"),
-            Fault::Text(number, found) => {
+            Fault::Refused(Refusal::Text(number, found)) => {
                 let [first, second, third, fourth] = found.pieces();
                 [
                     Piece::Words("board: text "),
@@ -116,7 +123,7 @@ impl Fault {
                     Piece::Words("\n"),
                 ]
             }
-            Fault::Extra(at) => [
+            Fault::Refused(Refusal::Extra(at)) => [
                 Piece::Words("board: extra text at byte "),
                 Piece::Number(at as u64),
                 Piece::Words("\n"),

@@ -111,7 +111,7 @@ fn service_of(
 
 /// The number that the word is in plain decimal, if it is one at least the one number and at most the other.
 fn number_within(least: u64, most: u64, word: &Bytes) -> Option<u64>
-    requires { most ≤ GREATEST_WHOLE }
+    requires { most ≤ 9007199254740991 }
     ensures number { result ≡ number_within least most word.now }
     ensures bound { IfSome result (λ number. number ≤ most) }
 {

@@ -1,8 +1,8 @@
 use Rattle.std.proofs.Common.{◌≡◌, ◌+◌, Err, drop, inl, inr, refl, sym, ap, subst, ◌∙◌, arith}
 use Rattle.commands.specs.Answers.{IsRefusal}
 use Rattle.commands.specs.Input.{HasScenes}
-use Rattle.commands.specs.declared.status.Fault.{Fault}
-use Rattle.commands.specs.declared.status.Fault.TheVariants as fault
+use Rattle.commands.specs.declared.status.Refusal.{Refusal}
+use Rattle.commands.specs.declared.status.Refusal.TheVariants as refusal
 use Rattle.commands.proofs.Blanks.{blank-at_end, blank-before_end}
 use Rattle.commands.proofs.Scenes.{ScenesLead-more, one-more}
 use Rattle.commands.proofs.load.scenes_in.Goals as goal
@@ -16,7 +16,7 @@ loop-found-init c = record {
 
 pub returns-in-Err-Fault-clause-fault : goal.returns-in-Err-Fault-clause-fault
 returns-in-Err-Fault-clause-fault c why is =
-    let found : Fault = fault.Text (c.len.result + 1) c.in-Err-Fault.fault in
+    let found : Refusal = refusal.Text (c.len.result + 1) c.in-Err-Fault.fault in
     let same : found ≡ why = cc in
     subst (IsRefusal c.args.bytes.now) same (record {
       scenes = c.loop-found.scenes.items;

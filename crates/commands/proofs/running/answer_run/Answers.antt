@@ -3,9 +3,10 @@ use Rattle.board_io.specs.Counts.{Rose}
 use Rattle.board_io.specs.Ends.{SourceEnd, SinkEnd}
 use Rattle.commands.specs.Answers.{IsAnswer}
 use Rattle.commands.specs.Causes.{HasCause}
-use Rattle.commands.specs.Ends.{EndsWith, HasLeft, WasDone}
+use Rattle.commands.specs.Ends.{span, EndsWith, HasLeft, WasDone}
 use Rattle.commands.specs.Faults.{status_of, Noted}
 use Rattle.commands.specs.declared.status.Fault.{Fault}
+use Rattle.commands.specs.declared.status.Refusal.{Refusal}
 use Rattle.commands.specs.declared.status.Status.{Status}
 use Rattle.commands.specs.declared.status.Status.TheVariants as status
 use Rattle.commands.specs.declared.words.Command.{Command}
@@ -18,19 +19,19 @@ use Rattle.commands.proofs.running.answer_run.Goals as goal
 module _ (asks : Option Command) (command : Command) (bytes : List ℕ) (before after : SourceEnd) (out out_after notes notes_after : SinkEnd) (result : Status)
     (is : asks ≡ Some command) (left : HasLeft before bytes) where
   abbrev IsComplete : Type 0
-  IsComplete = (result ≡ status.Memory) ⊎ ((answer : Result (List ℕ) Fault) × IsAnswer command bytes answer × EndsWith answer result out out_after notes notes_after)
+  IsComplete = (result ≡ status.Memory) ⊎ ((answer : Result (List ℕ) Refusal) × IsAnswer command bytes answer × EndsWith answer result (span out out_after) (span notes notes_after))
 
-  complete-done : result ≡ status.Done → WasDone asks before after out out_after → IsComplete
+  complete-done : result ≡ status.Done → WasDone asks (span before after) (span out out_after) → IsComplete
   complete-done done w =
       let both : Some w.asked ≡ Some command = sym w.is_asked ∙ is in
       let one : w.asked ≡ command = cc in
       inr (Ok w.text, subst₂ (λ c b. IsAnswer c b (Ok w.text)) one (read-whole bytes w.bytes before after left w.read) w.answer, inl (done, w.took))
 
-  complete-fault : (f : Fault) → HasCause f asks before after out out_after → result ≡ status_of f → Noted f notes notes_after
+  complete-fault : (f : Fault) → HasCause f asks (span before after) (span out out_after) → result ≡ status_of f → Noted f notes notes_after
       → (Rose before.faults after.faults → ⊥) → IsComplete
   complete-fault f cause ended note reads = by (answer-exists command bytes)
     where
-      by : (answer : Result (List ℕ) Fault) × IsAnswer command bytes answer → IsComplete
+      by : (answer : Result (List ℕ) Refusal) × IsAnswer command bytes answer → IsComplete
       by (Ok text, answered) = elim (text-ends asks command bytes (Ok text) before after is left answered text f out out_after refl cause reads) [
         | inl memory ↦ inl (ended ∙ memory)
         | inr (failed, rose) ↦ inr (Ok text, answered, inr (ended ∙ failed, rose))
