@@ -3,11 +3,15 @@ use Rattle.std.proofs.Common.{◌≡◌, Bool, ℕ, List, [], ◌∷◌, ◌++�
 use Rattle.std.specs.List.Sorted.{IsPermutation}
 use Rattle.std.specs.Cmp.Lexicographic.{nat_list_eq_equiv}
 use Rattle.std.proofs.lemmas.List.{append-nil}
-use Rattle.std.proofs.lemmas.List.Elements.{All-nil, All-cons, All-head, All-tail, All-append, All-filter}
+use Rattle.std.proofs.lemmas.List.Elements.{All-nil, All-cons, All-head, All-tail, All-append, All-filter, All-weaker}
 use Rattle.std.proofs.lemmas.List.Sums.{AllPass-from_list_all, list_all-from_AllPass}
 use Rattle.std.proofs.lemmas.Map.Keys.{IsDistinct-IsPermutation}
 use Rattle.scene_json.specs.Members.{pairs}
 use Rattle.elem.specs.Drawn.{Drawn}
+use Rattle.elem.specs.Facts.{IsElement}
+use Rattle.elem.specs.Said.{IsWritten as IsWrittenElement, AreElements}
+use Rattle.elem.specs.Texts.{element_text}
+use Rattle.elem_read.proofs.Whole.{IsSound-read}
 use Rattle.elem_read.specs.Reading.{IsWhole}
 use Rattle.elem_store.specs.Updates.{AreStored, ids_of}
 use Rattle.elem_store.proofs.StoreLaws.{store-unique}
@@ -42,7 +46,7 @@ leading-whole bytes (scene ∷ scenes) rest (next, at, lead) = All-cons IsWholeS
 pub scenes-whole : (bytes : List ℕ) (scenes : List Scene) → HasScenes bytes scenes → All IsWholeScene scenes
 scenes-whole bytes scenes has = leading-whole bytes scenes has.rest has.lead
 
-heads-whole : (scenes : List Scene) → All IsWholeScene scenes → All IsWholeHead (heads_of scenes)
+pub heads-whole : (scenes : List Scene) → All IsWholeScene scenes → All IsWholeHead (heads_of scenes)
 heads-whole [] whole = All-nil IsWholeHead
 heads-whole (scene ∷ scenes) whole =
     All-cons IsWholeHead scene.head (heads_of scenes) (All-head IsWholeScene scene scenes whole).head (heads-whole scenes (All-tail IsWholeScene scene scenes whole))
@@ -51,6 +55,13 @@ updates-all : (P : Drawn → Type 0) (scenes : List Scene) → ((scene : Scene) 
 updates-all P [] each whole = All-nil P
 updates-all P (scene ∷ scenes) each whole =
     All-append P scene.elements (updates_of scenes) (each scene (All-head IsWholeScene scene scenes whole)) (updates-all P scenes each (All-tail IsWholeScene scene scenes whole))
+
+-- the updates of an input are elements
+pub updates-elements : (bytes : List ℕ) (scenes : List Scene) → HasScenes bytes scenes → AreElements (updates_of scenes)
+updates-elements bytes scenes has =
+    All-weaker IsWhole (λ e. IsElement e × IsWrittenElement e)
+    (λ e whole. let sound = IsSound-read (element_text e) e whole in (sound.is_element, sound.written)) (updates_of scenes)
+    (updates-all IsWhole scenes (λ scene is. is.elements) (scenes-whole bytes scenes has))
 
 -- whether an element has a key
 abbrev has_key : Drawn → Bool

@@ -1,4 +1,4 @@
--- An input has one answer alone, and inputs with the same updates, free of clashes, are merged to one text.
+-- An input has one answer alone, and inputs with the same updates and heads are merged to one text.
 use Rattle.std.proofs.Common.{◌≡◌, ℕ, List, [], ◌∷◌, ◌++◌, length, Result, Ok, Err, Some, codes, decimal, refl, sym, ap, ap₂, subst, ◌∙◌}
 use Rattle.base64.specs.GeneralPurpose.{decode_of}
 use Rattle.base64.specs.Engines.{standard}
@@ -7,7 +7,7 @@ use Rattle.scene_json.specs.Compact.{Member as Pair}
 use Rattle.scene_json.specs.Named.{value_at}
 use Rattle.elem.specs.Drawn.{Drawn}
 use Rattle.elem.proofs.Once.{object-once, quote-once}
-use Rattle.elem_store.specs.Updates.{AreBest, IsFreeOfClashes}
+use Rattle.elem_store.specs.Updates.{AreBest}
 use Rattle.elem_store.proofs.StoreLaws.{store-unique, stores-converge, AreStored-from_best}
 use Rattle.file_table.specs.Picture.{HasData, HasUrl, IsDataUrl, IsPictureSize}
 use Rattle.file_table.specs.References.{referred_files}
@@ -20,8 +20,9 @@ use Rattle.scene_file.specs.declared.layout.Layout.{Layout}
 use Rattle.scene_file.specs.declared.scene.Scene.{Scene}
 use Rattle.scene_file.specs.declared.fault.SceneFault.{SceneFault}
 use Rattle.scene_file.proofs.Once.{fault-once, fault-none, head-once}
+use Rattle.scene_file.proofs.SameHeads.{joined-moved}
 use Rattle.scene_file.proofs.SceneTexts.{text-once}
-use Rattle.commands.specs.Answers.{IsAnswer, IsBoardOf, IsShownAs, IsStoredAs, HasPictures, IsOneRefusal, IsRefusal, IsMadeOf, heads_of, updates_of, shown_of, HaveSameUpdatesFreeOfClashes}
+use Rattle.commands.specs.Answers.{IsAnswer, IsBoardOf, IsShownAs, IsStoredAs, HasPictures, IsOneRefusal, IsRefusal, IsMadeOf, heads_of, updates_of, shown_of, HaveSameUpdatesAndHeads}
 use Rattle.commands.specs.Faults.{newline}
 use Rattle.commands.specs.Input.{HasScenes, HasFaultyText, HasExtraText}
 use Rattle.commands.specs.Pictures.{AreLines, IsTold}
@@ -30,6 +31,7 @@ use Rattle.commands.specs.declared.status.Refusal.{Refusal}
 use Rattle.commands.specs.declared.status.Refusal.TheVariants as refusal
 use Rattle.commands.specs.declared.words.Command.{Command}
 use Rattle.commands.specs.declared.words.Command.TheVariants.{Restore, Merge, State, Pictures}
+use Rattle.commands.proofs.Reread.{scenes-whole, heads-whole, updates-elements}
 use Rattle.commands.proofs.Inputs.{input-once, faulty-once, faulty-scenes, extra-scene, extra-once}
 
 -- ---- the board of scenes
@@ -155,20 +157,21 @@ answer-once Pictures bytes (Err f) (Ok b) is also = absurd (made-none HasPicture
 answer-once Pictures bytes (Err f) (Err g) is also = ap Err (refusal-once bytes f g is also)
 
 -- ---- convergence
-pub merges-converge : (layout : Layout) (bytes others text other_text : List ℕ) → HaveSameUpdatesFreeOfClashes bytes others
+pub merges-converge : (layout : Layout) (bytes others text other_text : List ℕ) → HaveSameUpdatesAndHeads bytes others
     → IsAnswer (Merge layout) bytes (Ok text) → IsAnswer (Merge layout) others (Ok other_text) → other_text ≡ text
 merges-converge layout bytes others text other_text h (scenes, has, a) (news, also, b) =
     let mine = subst (λ s. IsShownAs s layout text) (input-once bytes scenes h.scenes has h.bytes_hold) a in
     let theirs = subst (λ s. IsShownAs s layout other_text) (input-once others news h.other_scenes also h.others_hold) b in
-    let head = head-once theirs.board.joined h.other_joined ∙ head-once h.joined mine.board.joined in
-    let kept = sym (stores-converge (updates_of h.scenes) (updates_of h.other_scenes) mine.stored theirs.stored h.same h.free mine.board.stores theirs.board.stores) in
+    let heads = heads-whole h.scenes (scenes-whole bytes h.scenes h.bytes_hold) in
+    let head = head-once theirs.board.joined (joined-moved (heads_of h.scenes) (heads_of h.other_scenes) mine.head heads h.same_heads mine.board.joined) in
+    let kept = sym (stores-converge (updates_of h.scenes) (updates_of h.other_scenes) mine.stored theirs.stored h.same (updates-elements bytes h.scenes h.bytes_hold) mine.board.stores theirs.board.stores) in
     theirs.ended ∙ (ap (λ t. t ++ newline) (scene-same layout theirs.head mine.head theirs.stored mine.stored theirs.written mine.written head kept theirs.scene mine.scene) ∙ sym mine.ended)
 
 pub merge-of-best : (layout : Layout) (bytes text : List ℕ) (scenes : List Scene) (head : Heading) (chosen : List Drawn)
-    → HasScenes bytes scenes → IsFreeOfClashes (updates_of scenes) → IsJoinedHead (heads_of scenes) head → AreBest (updates_of scenes) chosen
+    → HasScenes bytes scenes → IsJoinedHead (heads_of scenes) head → AreBest (updates_of scenes) chosen
     → IsAnswer (Merge layout) bytes (Ok text) → (written : List ℕ) × IsSceneText layout head (shown_of chosen) written × (text ≡ written ++ newline)
-merge-of-best layout bytes text scenes head chosen has free joined best (others, also, a) =
+merge-of-best layout bytes text scenes head chosen has joined best (others, also, a) =
     let mine = subst (λ s. IsShownAs s layout text) (input-once bytes others scenes also has) a in
-    let kept = store-unique _ mine.stored chosen mine.board.stores (AreStored-from_best (updates_of scenes) chosen free best) in
+    let kept = store-unique _ mine.stored chosen mine.board.stores (AreStored-from_best (updates_of scenes) chosen (updates-elements bytes scenes has) best) in
     let same = head-once mine.board.joined joined in
     (mine.written, subst (λ h. IsSceneText layout h (shown_of chosen) mine.written) same (subst (λ s. IsSceneText layout mine.head (shown_of s) mine.written) kept mine.scene), mine.ended)

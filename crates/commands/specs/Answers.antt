@@ -2,11 +2,11 @@
 -- texts are after its JSON schema.
 use Rattle.std.specs.Prelude.{◌≡◌, ℕ, List, [], ◌∷◌, ◌++◌, Result, Ok, Err, flat_map, map}
 use Rattle.elem.specs.Drawn.{Drawn}
-use Rattle.elem_store.specs.Updates.{AreStored, HaveSameUpdates, IsFreeOfClashes}
+use Rattle.elem_store.specs.Updates.{AreStored, HaveSameUpdates}
 use Rattle.file_table.specs.References.{referred_files}
 use Rattle.view.specs.Settled.{AreSettled}
 use Rattle.view.specs.Shown.{live_elements, shown, HaveRisingKeys}
-use Rattle.scene_file.specs.Heads.{Heading, IsJoinedHead}
+use Rattle.scene_file.specs.Heads.{Heading, IsJoinedHead, HaveSameHeads}
 use Rattle.scene_file.specs.Reading.{IsFaultAt}
 use Rattle.scene_file.specs.Scenes.{state_text}
 use Rattle.scene_file.specs.Texts.{IsSceneText}
@@ -87,21 +87,17 @@ IsAnswer State bytes (Err found) = IsRefusal bytes found
 IsAnswer Pictures bytes (Ok text) = IsMadeOf HasPictures bytes text
 IsAnswer Pictures bytes (Err found) = IsRefusal bytes found
 
--- Two inputs are scenes with the same updates, in whatever order, grouping and repetition, none of which clash, and with
--- one joined head.
-pub record HaveSameUpdatesFreeOfClashes (bytes others : List ℕ) : Type 0 where
+-- Two inputs are scenes with the same updates and the same heads, in whatever order, grouping and repetition.
+pub record HaveSameUpdatesAndHeads (bytes others : List ℕ) : Type 0 where
   pub scenes : List Scene
   pub other_scenes : List Scene
   pub bytes_hold : HasScenes bytes scenes
   pub others_hold : HasScenes others other_scenes
   pub same : HaveSameUpdates (updates_of scenes) (updates_of other_scenes)
-  pub free : IsFreeOfClashes (updates_of scenes)
-  pub head : Heading
-  pub joined : IsJoinedHead (heads_of scenes) head
-  pub other_joined : IsJoinedHead (heads_of other_scenes) head
+  pub same_heads : HaveSameHeads (heads_of scenes) (heads_of other_scenes)
 
--- Inputs with the same updates, free of clashes, are merged to one text.
+-- Inputs with the same updates and the same heads are merged to one text.
 abbrev pub Converges : Type 0
 Converges =
-    (layout : Layout) (bytes others text other_text : List ℕ) → HaveSameUpdatesFreeOfClashes bytes others
+    (layout : Layout) (bytes others text other_text : List ℕ) → HaveSameUpdatesAndHeads bytes others
     → IsAnswer (Merge layout) bytes (Ok text) → IsAnswer (Merge layout) others (Ok other_text) → other_text ≡ text

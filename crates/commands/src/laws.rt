@@ -2,7 +2,7 @@
 
 ghost use Rattle.std.specs.Prelude.{◌≡◌, ◌↔◌, ℕ, List, ◌++◌, Result, Ok, Some};
 ghost use Rattle.elem.specs.Drawn.{Drawn};
-ghost use Rattle.elem_store.specs.Updates.{AreBest, IsFreeOfClashes};
+ghost use Rattle.elem_store.specs.Updates.{AreBest};
 ghost use Rattle.scene_file.specs.Heads.{Heading, IsJoinedHead};
 ghost use Rattle.scene_file.specs.Texts.{IsSceneText};
 ghost use Rattle.scene_file.specs.declared.layout.Layout.{Layout};
@@ -31,10 +31,10 @@ pub fn answer_is_unique()
         → IsAnswer command bytes answer → IsAnswer command bytes other → answer ≡ other }
 {}
 
-/// Where no updates clash, one of the best updates of each id, whichever is chosen, makes the text of a merge.
+/// The best update of each id makes the text of a merge.
 pub fn merge_is_of_the_best()
     ensures { (layout : Layout) (bytes text : List ℕ) (scenes : List Scene) (head : Heading) (chosen : List Drawn)
-        → HasScenes bytes scenes → IsFreeOfClashes (updates_of scenes) → IsJoinedHead (heads_of scenes) head
+        → HasScenes bytes scenes → IsJoinedHead (heads_of scenes) head
         → AreBest (updates_of scenes) chosen → IsAnswer (Command.Merge layout) bytes (Ok text)
         → (written : List ℕ) × IsSceneText layout head (shown_of chosen) written × (text ≡ written ++ newline) }
 {}

@@ -17,7 +17,7 @@ use Rattle.delta.specs.declared.change.Change.TheVariants.{Scalar, Groups, Bound
 use Rattle.delta.specs.declared.header.Header.{Header}
 use Rattle.delta.specs.Applied.{Changes, scalar_after, groups_after, bound_after}
 use Rattle.delta.specs.Delta.{Delta}
-use Rattle.delta.specs.Facts.{IsPart, IsChange, name_of, change_names}
+use Rattle.delta.specs.Facts.{IsPart, IsChange, AreParts, name_of, change_names, part_ids}
 use Rattle.delta.specs.Headers.{header_named, value_named, scalar_at, scalar_of}
 use Rattle.delta.specs.Kept.{IsScalarSet}
 use Rattle.delta.specs.Parts.{change_of, inverted, inverse}
@@ -129,54 +129,55 @@ Changes-more cs c a b d first next none = record {
         chosen after nothing x (change_of cs n) (bytes_eq n (name_of c)) (λ t. ap (change_of cs) (bytes_eq-true n (name_of c) t) ∙ none)
         ∙ sym (ap (λ o. after o x) (find-append (λ change. bytes_eq n (name_of change)) cs (c ∷ [])))
 
--- no earlier change is of the same member
-pub distinct-before : (cs : List Change) (i : ℕ) (c : Change) → IsDistinct bytes_eq (change_names cs) → i < length cs → c ≡ get_or cs i c → change_of (take i cs) (name_of c) ≡ None
-unfolding IsDistinct
-distinct-before [] i c distinct l here = absurd (omega arith)
-distinct-before (d ∷ ds) zero c distinct l here = refl
-distinct-before (d ∷ ds) (suc i) c distinct l here =
-    ap (λ b. cond b (Some d) (change_of (take i ds) (name_of c)))
-    (bytes_eq-apart (name_of c) (name_of d) (λ e. false≢true (sym (at ds i c distinct.0 (omega arith) here) ∙ ap (bytes_eq (name_of d)) e ∙ bytes_eq-same (name_of d))))
-    ∙ distinct-before ds i c distinct.1 (omega arith) here
-  where
-    at : (es : List Change) (j : ℕ) (c : Change) → AllByRecursion (λ y. bytes_eq (name_of d) y ≡ false) (change_names es) → j < length es → c ≡ get_or es j c → bytes_eq (name_of d) (name_of c) ≡ false
-    at [] j c h l here = absurd (omega arith)
-    at (e ∷ es) zero c h l here = ap (λ x. bytes_eq (name_of d) (name_of x)) here ∙ h.0
-    at (e ∷ es) (suc j) c h l here = at es j c h.1 (omega arith) here
-
 pub each-change : (P : Change → Type 0) (cs : List Change) (i : ℕ) (c : Change) → AllByRecursion P cs → i < length cs → c ≡ get_or cs i c → P c
 each-change P [] i c h l here = absurd (omega arith)
 each-change P (d ∷ ds) zero c h l here = subst P (sym here) h.0
 each-change P (d ∷ ds) (suc i) c h l here = each-change P ds i c h.1 (omega arith) here
 
 -- ---- the inverse of a part
--- the first changes with before and after exchanged
-abbrev pub partly : ℕ → List Change → List Change
-partly i cs = map inverted (take i cs) ++ drop i cs
+-- a part without changes is one
+pub IsPart-none : (part : Delta) → part.changes ≡ [] → IsPart part
+IsPart-none part none = record {
+  rise = ap (λ cs. are_rising (change_names cs)) none;
+  each = subst (AllByRecursion (IsChange part.kind)) (sym none) tt;
+}
 
-pub partly-more : (cs : List Change) (i : ℕ) (d new : Change) → i < length cs → new ≡ inverted (get_or (partly i cs) i d) → set (partly i cs) i new ≡ partly (suc i) cs
-partly-more [] i d new l is = absurd (omega arith)
-partly-more (c ∷ cs) zero d new l is = ap (λ x. x ∷ cs) is
-partly-more (c ∷ cs) (suc i) d new l is = ap (λ xs. inverted c ∷ xs) (partly-more cs i d new (omega arith) is)
+-- the first items in the form that they get
+abbrev pub partly : {X : Type 0} → (X → X) → ℕ → List X → List X
+partly f i xs = map f (take i xs) ++ drop i xs
 
-pub partly-all : (cs : List Change) (i : ℕ) → length cs ≤ i → partly i cs ≡ map inverted cs
-partly-all [] zero l = refl
-partly-all [] (suc i) l = refl
-partly-all (c ∷ cs) zero l = absurd (omega arith)
-partly-all (c ∷ cs) (suc i) l = ap (λ xs. inverted c ∷ xs) (partly-all cs i (omega arith))
+module _ {X : Type 0} (f : X → X) where
+  pub partly-more : (xs : List X) (i : ℕ) (d new : X) → i < length xs → new ≡ f (get_or (partly f i xs) i d) → set (partly f i xs) i new ≡ partly f (suc i) xs
+  partly-more [] i d new l is = absurd (omega arith)
+  partly-more (x ∷ xs) zero d new l is = ap (λ y. y ∷ xs) is
+  partly-more (x ∷ xs) (suc i) d new l is = ap (λ ys. f x ∷ ys) (partly-more xs i d new (omega arith) is)
+
+  pub partly-all : (xs : List X) (i : ℕ) → length xs ≤ i → partly f i xs ≡ map f xs
+  partly-all [] zero l = refl
+  partly-all [] (suc i) l = refl
+  partly-all (x ∷ xs) zero l = absurd (omega arith)
+  partly-all (x ∷ xs) (suc i) l = ap (λ ys. f x ∷ ys) (partly-all xs i (omega arith))
 
 name-inverted : (c : Change) → name_of (inverted c) ≡ name_of c
 name-inverted (Scalar name before after) = refl
 name-inverted (Groups before after) = refl
 name-inverted (Bound before after) = refl
 
-names-inverted : (cs : List Change) → change_names (map inverted cs) ≡ change_names cs
+pub names-inverted : (cs : List Change) → change_names (map inverted cs) ≡ change_names cs
 names-inverted [] = refl
 names-inverted (c ∷ cs) = λ i. name-inverted c i ∷ names-inverted cs i
 
+ids-inverted : (parts : List Delta) → part_ids (map inverse parts) ≡ part_ids parts
+ids-inverted [] = refl
+ids-inverted (part ∷ parts) = ap (λ ids. part.id ∷ ids) (ids-inverted parts)
+
+-- the ids of inverted parts rise as those of the parts
+pub AreParts-inverse : (parts : List Delta) → AreParts parts → AreParts (map inverse parts)
+AreParts-inverse parts rising = ap are_rising (ids-inverted parts) ∙ rising
+
 pub IsPart-inverse : (part : Delta) → IsPart part → IsPart (inverse part)
 IsPart-inverse part is = record {
-  distinct = subst (IsDistinct bytes_eq) (sym (names-inverted part.changes)) is.distinct;
+  rise = ap are_rising (names-inverted part.changes) ∙ is.rise;
   each = all part.changes is.each;
 }
   where

@@ -4,6 +4,7 @@ pub mod Injective
 pub mod JoinLaws
 pub mod PairLaws
 pub mod PartLaws
+pub mod Placing
 pub mod RestLaws
 pub mod RisingIds
 pub mod ToldLaws

@@ -27,10 +27,18 @@ use Rattle.delta.specs.Undone.{undone_scalar, undone_list, IsUndone}
 use Rattle.delta.proofs.HeaderLaws.{header_name, named, own-named}
 use Rattle.delta.proofs.Injective.{text-same, truth-same, binding-same}
 use Rattle.delta.proofs.JoinLaws.{are_same-exact, are_same-same}
+use Rattle.delta.proofs.Placing.{same_items}
 use Rattle.delta.proofs.RestLaws.{risen, same_values, each-list_any, list_any-each}
 use Rattle.delta.proofs.ToldLaws.{not-named}
 
 -- ---- inverting
+bytes_eq-turned : (a b : List ℕ) → bytes_eq a b ≡ bytes_eq b a
+bytes_eq-turned a b =
+    elim (cases_Bool (bytes_eq a b)) [
+      | inl t ↦ t ∙ sym (ap (bytes_eq b) (bytes_eq-true a b t) ∙ bytes_eq-same b)
+      | inr f ↦ f ∙ sym (bytes_eq-apart b a (λ e. false≢true (sym f ∙ ap (bytes_eq a) e ∙ bytes_eq-same a)))
+    ]
+
 inverted-twice : (c : Change) → inverted (inverted c) ≡ c
 inverted-twice (Scalar name before after) = refl
 inverted-twice (Groups before after) = refl
@@ -43,7 +51,7 @@ all-twice (c ∷ cs) = λ i. inverted-twice c i ∷ all-twice cs i
 pub inverse-twice : (part : Delta) → inverse (inverse part) ≡ part
 inverse-twice part = ap (λ changes. let whole : Delta = record part { changes = changes } in whole) (all-twice part.changes)
 
-turned : Option Change → Option Change
+pub turned : Option Change → Option Change
 turned None = None
 turned (Some c) = Some (inverted c)
 
@@ -52,7 +60,7 @@ name-kept (Scalar name before after) = refl
 name-kept (Groups before after) = refl
 name-kept (Bound before after) = refl
 
-change-inverted : (cs : List Change) (n : List ℕ) → change_of (map inverted cs) n ≡ turned (change_of cs n)
+pub change-inverted : (cs : List Change) (n : List ℕ) → change_of (map inverted cs) n ≡ turned (change_of cs n)
 unfolding turned
 change-inverted [] n = refl
 change-inverted (c ∷ cs) n =
@@ -61,6 +69,67 @@ change-inverted (c ∷ cs) n =
       | true ↦ refl
       | false ↦ change-inverted cs n
     ])
+
+scalars_same-turned : (a b : Option (List ℕ)) → scalars_same a b ≡ scalars_same b a
+scalars_same-turned None None = refl
+scalars_same-turned None (Some b) = refl
+scalars_same-turned (Some a) None = refl
+scalars_same-turned (Some a) (Some b) = bytes_eq-turned a b
+
+lists_same-turned : {T : Type 0} (same : T → T → Bool) → ((a b : T) → same a b ≡ true → a ≡ b) → ((a : T) → same a a ≡ true) → (a b : List T) → are_same same a b ≡ are_same same b a
+lists_same-turned same exact itself a b =
+    elim (cases_Bool (are_same same a b)) [
+      | inl t ↦
+          let e = are_same-exact same exact a b t in
+          t ∙ sym (ap (are_same same b) e ∙ are_same-same same itself b)
+      | inr f ↦ elim (cases_Bool (are_same same b a)) [
+        | inl t ↦
+            let e = are_same-exact same exact b a t in
+            absurd (false≢true (sym f ∙ ap (are_same same a) e ∙ are_same-same same itself a))
+        | inr g ↦ f ∙ sym g
+      ]
+    ]
+
+pub scalar-turned : (name : List ℕ) (b a : Option (List ℕ)) → turned (scalar_change name b a) ≡ scalar_change name a b
+unfolding turned
+scalar-turned name b a =
+    (elim (scalars_same b a) as (λ same. turned (if same then None else Some (Scalar name b a)) ≡ (if same then None else Some (Scalar name a b))) [ true ↦ refl | false ↦ refl ])
+    ∙ ap (λ same. if same then None else Some (Scalar name a b)) (scalars_same-turned b a)
+
+pub groups-turned : (b a : List (List ℕ)) → turned (groups_change b a) ≡ groups_change a b
+unfolding turned
+groups-turned b a =
+    (elim (are_same bytes_eq b a) as (λ same. turned (if same then None else Some (Groups b a)) ≡ (if same then None else Some (Groups a b))) [ true ↦ refl | false ↦ refl ])
+    ∙ ap (λ same. if same then None else Some (Groups a b)) (lists_same-turned bytes_eq bytes_eq-true bytes_eq-same b a)
+
+pub bound-turned : (b a : List BoundRef) → turned (bound_change b a) ≡ bound_change a b
+unfolding turned
+bound-turned b a =
+    (elim (are_same entries_same b a) as (λ same. turned (if same then None else Some (Bound b a)) ≡ (if same then None else Some (Bound a b))) [ true ↦ refl | false ↦ refl ])
+    ∙ ap (λ same. if same then None else Some (Bound a b)) (lists_same-turned entries_same entries_same-exact entries_same-same b a)
+
+-- a part of two elements is one alone
+pub part-once : (p q : Delta) (before after : Drawn) → StandsFor p before after → StandsFor q before after → p ≡ q
+part-once p q before after first second =
+    let id = first.id ∙ sym second.id in
+    let kind = first.kind ∙ sym second.kind in
+    let changes = same_items name_of p.changes q.changes first.rise second.rise each in
+    λ i. record { id = id i; kind = kind i; changes = changes i }
+  where
+    each : (n : List ℕ) → change_of p.changes n ≡ change_of q.changes n
+    each n = elim (cases_Bool (bytes_eq n (codes "groupIds"))) [
+      | inl t ↦
+          let is = bytes_eq-true n (codes "groupIds") t in
+          ap (change_of p.changes) is ∙ first.groups ∙ sym (ap (change_of q.changes) is ∙ second.groups)
+      | inr f ↦ elim (cases_Bool (bytes_eq n (codes "boundElements"))) [
+        | inl t ↦
+            let is = bytes_eq-true n (codes "boundElements") t in
+            ap (change_of p.changes) is ∙ first.bound ∙ sym (ap (change_of q.changes) is ∙ second.bound)
+        | inr g ↦
+            let scalar = ap (λ b. b || bytes_eq n (codes "boundElements")) f ∙ g in
+            first.scalars n scalar ∙ sym (second.scalars n scalar)
+      ]
+    ]
 
 -- ---- the scalars tell an element of an id and a kind, with its lists
 some-same : {X : Type 0} (a b : X) → Some a ≡ Some b → a ≡ b

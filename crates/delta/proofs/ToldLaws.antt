@@ -23,33 +23,11 @@ use Rattle.delta.specs.Joined.{are_same, entries_same}
 use Rattle.delta.specs.Parts.{change_of, scalar_change, groups_change, bound_change, scalars_same}
 use Rattle.delta.specs.Told.{change_between, with_change, Told, AreChanges}
 use Rattle.delta.proofs.HeaderLaws.{header_name, named}
+use Rattle.delta.proofs.Placing.{item-put, rising-put, each-put}
 
 -- a change, if it is one, is of the member of this name in elements of the kind
 abbrev pub IsOf : Drawn → List ℕ → Option Change → Type 0
 IsOf e name o = IfSome o (λ c. (name_of c ≡ name) × IsChange e.kind c)
-
-not-found : {X : Type 0} (p : X → Bool) (xs : List X) → list_any p xs ≡ false → find p xs ≡ None
-not-found p [] h = refl
-not-found p (x ∷ xs) h = let parts = or_parts (p x) (list_any p xs) h in ap (λ b. cond b (Some x) (find p xs)) parts.0 ∙ not-found p xs parts.1
-
-is-found : {X : Type 0} (p : X → Bool) (xs : List X) → list_any p xs ≡ true → find p xs ≡ None → ⊥
-is-found p [] h e = false≢true h
-is-found p (x ∷ xs) h e =
-    elim (cases_Bool (p x)) [
-      | inl t ↦ some-none x (sym (ap (λ b. cond b (Some x) (find p xs)) t) ∙ e)
-      | inr f ↦ is-found p xs (sym (ap (λ b. b || list_any p xs) f) ∙ h) (sym (ap (λ b. cond b (Some x) (find p xs)) f) ∙ e)
-    ]
-  where
-    some-none : {X : Type 0} (x : X) → Some x ≡ None → ⊥
-    some-none x e = cc
-
-named-any : (name : List ℕ) (cs : List Change) → list_any (bytes_eq name) (change_names cs) ≡ list_any (λ c. bytes_eq name (name_of c)) cs
-named-any name [] = refl
-named-any name (c ∷ cs) = ap (λ b. bytes_eq name (name_of c) || b) (named-any name cs)
-
-each-push : {X : Type 0} (P : X → Type 0) (xs : List X) (x : X) → AllByRecursion P xs → P x → AllByRecursion P (xs ++ x ∷ [])
-each-push P [] x h p = (p, tt)
-each-push P (y ∷ ys) x h p = (h.0, each-push P ys x h.1 p)
 
 or_false : (b : Bool) → (b || false) ≡ b
 or_false true = refl
@@ -62,10 +40,6 @@ or_true false = refl
 nothing : (b : Bool) (o : Option Change) → o ≡ None → (if b then o else None) ≡ None
 nothing true o e = e
 nothing false o e = refl
-
-option_or-None : {X : Type 0} (o : Option X) → option_or o None ≡ o
-option_or-None None = refl
-option_or-None (Some x) = refl
 
 -- what the names tell with one more
 module _ (before after : Drawn) (known : List (List ℕ)) (cs : List Change) (name : List ℕ) (told : Told before after known cs) where
@@ -90,47 +64,34 @@ module _ (before after : Drawn) (known : List (List ℕ)) (cs : List Change) (na
     | inr f ↦ apart n f ∙ told.told n ∙ others n f
   ]
 
-  known-is : (c : Change) → change_between before after name ≡ Some c → (change_of cs name ≡ None → ⊥) → change_of cs name ≡ change_between before after name
-  known-is c e some = elim (cases_Bool (list_any (bytes_eq name) known)) [
-    | inl t ↦ told.told name ∙ ap (λ b. if b then change_between before after name else None) t
-    | inr f ↦ absurd (some (told.told name ∙ ap (λ b. if b then change_between before after name else None) f))
-  ]
-
   none-told : change_between before after name ≡ None → change_of cs name ≡ change_between before after name
   none-told e = told.told name ∙ nothing (list_any (bytes_eq name) known) (change_between before after name) e ∙ sym e
 
+  chosen : (n : List ℕ) (c : Change) → name_of c ≡ name → Some c ≡ change_between before after name → cond (bytes_eq n (name_of c)) (Some c) (change_of cs n) ≡ wanted n
+  unfolding wanted
+  chosen n c of is = elim (cases_Bool (bytes_eq n name)) [
+    | inl t ↦
+        ap (λ m. cond (bytes_eq n m) (Some c) (change_of cs n)) of ∙ ap (λ b. cond b (Some c) (change_of cs n)) t
+        ∙ is ∙ sym itself ∙ ap wanted (sym (bytes_eq-true n name t))
+    | inr f ↦
+        ap (λ m. cond (bytes_eq n m) (Some c) (change_of cs n)) of ∙ ap (λ b. cond b (Some c) (change_of cs n)) f
+        ∙ told.told n ∙ others n f
+  ]
+
   with_told : (o : Option Change) → o ≡ change_between before after name → IsOf after name o → Told before after (known ++ name ∷ []) (with_change cs o)
   unfolding wanted
-  with_told None is of = record { told = by-name cs (λ n f. refl) (none-told (sym is)); distinct = told.distinct; each = told.each }
-  with_told (Some c) is of =
-      let any = list_any (λ other. bytes_eq (name_of c) (name_of other)) cs in
-      elim any as (λ b. any ≡ b → Told before after (known ++ name ∷ []) (if b then cs else cs ++ c ∷ [])) [
-        | true ↦ λ t. record {
-          told = by-name cs (λ n f. refl) (known-is c (sym is) (λ e. is-found (λ other. bytes_eq name (name_of other)) cs (ap (λ m. list_any (λ other. bytes_eq m (name_of other)) cs) (sym of.0) ∙ t) e));
-          distinct = told.distinct;
-          each = told.each;
-        }
-        | false ↦ λ f. record {
-          told = by-name (cs ++ c ∷ [])
-              (λ n g. find-append (λ other. bytes_eq n (name_of other)) cs (c ∷ []) ∙ ap (λ b. option_or (change_of cs n) (cond b (Some c) None)) (ap (bytes_eq n) of.0 ∙ g) ∙ option_or-None (change_of cs n))
-              (find-append (λ other. bytes_eq name (name_of other)) cs (c ∷ [])
-              ∙ ap (λ o. option_or o (cond (bytes_eq name (name_of c)) (Some c) None)) (not-found (λ other. bytes_eq name (name_of other)) cs (ap (λ m. list_any (λ other. bytes_eq m (name_of other)) cs) (sym of.0) ∙ f))
-              ∙ ap (λ b. option_or None (cond b (Some c) None)) (ap (bytes_eq name) of.0 ∙ bytes_eq-same name) ∙ is);
-          distinct = subst (IsDistinct bytes_eq) (sym (map-push cs)) (IsDistinct-push nat_list_eq_equiv (change_names cs) (name_of c) told.distinct (named-any (name_of c) cs ∙ f));
-          each = each-push (IsChange after.kind) cs c told.each of.1;
-        }
-      ] refl
-    where
-      map-push : (ds : List Change) → change_names (ds ++ c ∷ []) ≡ change_names ds ++ name_of c ∷ []
-      map-push [] = refl
-      map-push (d ∷ ds) = ap (λ ns. name_of d ∷ ns) (map-push ds)
+  with_told None is of = record { told = by-name cs (λ n f. refl) (none-told (sym is)); rise = told.rise; each = told.each }
+  with_told (Some c) is of = record {
+    told = λ n. item-put name_of c cs n told.rise ∙ chosen n c of.0 is;
+    rise = rising-put name_of c cs told.rise;
+    each = each-put name_of (IsChange after.kind) c cs of.1 told.each;
+  }
 
   pub Told-more : (o : Option Change) (new : List Change) → o ≡ change_between before after name → IsOf after name o → new ≡ with_change cs o → Told before after (known ++ name ∷ []) new
   Told-more o new is of made = subst (Told before after (known ++ name ∷ [])) (sym made) (with_told o is of)
 
 pub Told-none : (before after : Drawn) → Told before after [] []
-unfolding IsDistinct
-Told-none before after = record { told = λ n. refl; distinct = tt; each = tt }
+Told-none before after = record { told = λ n. refl; rise = refl; each = tt }
 
 -- ---- changes of scalars and lists
 pub scalar-between : (before after : Drawn) (name : List ℕ) → list_any (bytes_eq name) other_names ≡ false → scalar_change name (scalar_of before name) (scalar_of after name) ≡ change_between before after name
@@ -182,7 +143,7 @@ AreChanges-from before after cs kind told = record {
     | inl t ↦ told.told n ∙ ap (λ b. if b then change_between before after n else None) t
     | inr f ↦ told.told n ∙ ap (λ b. if b then change_between before after n else None) f ∙ sym (none n f)
   ];
-  distinct = told.distinct;
+  rise = told.rise;
   each = told.each;
 }
   where

@@ -1,6 +1,6 @@
 -- What holds of every part and of every entry.
 use Rattle.std.specs.Prelude.{◌≡◌, ℕ, List, [], ◌∷◌, Bool, true, false, Option, Some, None, IfSome, IsSomeAnd, IsTrue, map, codes, bytes_eq}
-use Rattle.std.specs.List.{AllByRecursion, IsDistinct, list_any}
+use Rattle.std.specs.List.{AllByRecursion, list_any}
 use Rattle.scene_json.specs.Value.{IsCompact}
 use Rattle.frac_keys.specs.Keys.{is_key}
 use Rattle.frac_keys.specs.Rising.{are_rising}
@@ -54,9 +54,9 @@ IsChange kind (Bound before after) = Unit {0}
 abbrev pub change_names : List Change → List (List ℕ)
 change_names changes = map name_of changes
 
--- No member is changed twice, and each change is one.
+-- The changes stand in the order of their members' names, no member is changed twice, and each change is one.
 pub record IsPart (part : Delta) : Type 0 where
-  pub distinct : IsDistinct bytes_eq (change_names part.changes)
+  pub rise : are_rising (change_names part.changes) ≡ true
   pub each : AllByRecursion (IsChange part.kind) part.changes
 
 -- The ids of an entry's parts rise.

@@ -7,6 +7,7 @@ pub mod Joined
 pub mod Kept
 pub mod Pairs
 pub mod Parts
+pub mod Placed
 pub mod Rest
 pub mod Told
 pub mod Undone

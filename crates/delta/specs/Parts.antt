@@ -1,11 +1,12 @@
 -- The part of two elements: the members outside the stamp in which they differ. This project's own, after Excalidraw's deltas.
 use Rattle.std.specs.Prelude.{◌≡◌, ℕ, List, Bool, true, false, ◌||◌, Option, Some, None, find, map, codes, bytes_eq, if◌then◌else◌}
+use Rattle.frac_keys.specs.Rising.{are_rising}
 use Rattle.elem.specs.declared.parts.BoundRef.{BoundRef}
 use Rattle.elem.specs.Drawn.{Drawn}
 use Rattle.delta.specs.declared.change.Change.{Change}
 use Rattle.delta.specs.declared.change.Change.TheVariants.{Scalar, Groups, Bound}
 use Rattle.delta.specs.Delta.{Delta}
-use Rattle.delta.specs.Facts.{name_of}
+use Rattle.delta.specs.Facts.{name_of, change_names}
 use Rattle.delta.specs.Headers.{scalar_of}
 use Rattle.delta.specs.Joined.{are_same, entries_same}
 
@@ -34,10 +35,12 @@ bound_change before after = if are_same entries_same before after then None else
 abbrev pub is_list : List ℕ → Bool
 is_list name = bytes_eq name (codes "groupIds") || bytes_eq name (codes "boundElements")
 
--- The part stands for a pair of elements: it has the change of each member in which they differ, and no other one.
+-- The part stands for a pair of elements: it has the change of each member in which they differ, and no other one, in the
+-- order of the members' names.
 pub record StandsFor (part : Delta) (before after : Drawn) : Type 0 where
   pub id : part.id ≡ after.id
   pub kind : part.kind ≡ after.kind
+  pub rise : are_rising (change_names part.changes) ≡ true
   pub scalars : (name : List ℕ) → is_list name ≡ false
       → change_of part.changes name ≡ scalar_change name (scalar_of before name) (scalar_of after name)
   pub groups : change_of part.changes (codes "groupIds") ≡ groups_change before.groups after.groups
@@ -56,3 +59,6 @@ inverted (Bound before after) = Bound after before
 
 abbrev pub inverse : Delta → Delta
 inverse part = record part { changes = map inverted part.changes }
+
+abbrev pub inverses : List Delta → List Delta
+inverses parts = map inverse parts

@@ -1,10 +1,12 @@
 -- Changes of two elements, name by name. This project's own.
-use Rattle.std.specs.Prelude.{◌≡◌, ℕ, List, [], ◌∷◌, ◌++◌, Option, Some, None, codes, bytes_eq, if◌then◌else◌}
-use Rattle.std.specs.List.{AllByRecursion, IsDistinct, list_any}
+use Rattle.std.specs.Prelude.{◌≡◌, ℕ, List, true, Option, Some, None, codes, bytes_eq, if◌then◌else◌}
+use Rattle.std.specs.List.{AllByRecursion, list_any}
+use Rattle.frac_keys.specs.Rising.{are_rising}
 use Rattle.elem.specs.Drawn.{Drawn}
 use Rattle.delta.specs.declared.change.Change.{Change}
 use Rattle.delta.specs.Facts.{IsChange, name_of, change_names}
 use Rattle.delta.specs.Headers.{scalar_of}
+use Rattle.delta.specs.Placed.{with_item}
 use Rattle.delta.specs.Parts.{change_of, scalar_change, groups_change, bound_change}
 
 -- the change of the member of this name, if it differs
@@ -14,20 +16,19 @@ change_between before after name =
     else (if bytes_eq name (codes "boundElements") then bound_change before.bound after.bound
     else scalar_change name (scalar_of before name) (scalar_of after name))
 
--- the changes with one more, unless its member has changed
+-- the changes with one more, if there is one
 abbrev pub with_change : List Change → Option Change → List Change
 with_change changes None = changes
-with_change changes (Some change) =
-    if list_any (λ other. bytes_eq (name_of change) (name_of other)) changes then changes else changes ++ change ∷ []
+with_change changes (Some change) = with_item name_of change changes
 
 -- The changes tell of these names and of no other one.
 pub record Told (before after : Drawn) (names : List (List ℕ)) (changes : List Change) : Type 0 where
   pub told : (name : List ℕ) → change_of changes name ≡ (if list_any (bytes_eq name) names then change_between before after name else None)
-  pub distinct : IsDistinct bytes_eq (change_names changes)
+  pub rise : are_rising (change_names changes) ≡ true
   pub each : AllByRecursion (IsChange after.kind) changes
 
 -- The changes tell of all names.
 pub record AreChanges (before after : Drawn) (changes : List Change) : Type 0 where
   pub told : (name : List ℕ) → change_of changes name ≡ change_between before after name
-  pub distinct : IsDistinct bytes_eq (change_names changes)
+  pub rise : are_rising (change_names changes) ≡ true
   pub each : AllByRecursion (IsChange after.kind) changes

@@ -1,7 +1,8 @@
 //! What a part makes of an element.
 
 ghost use Rattle.std.specs.Prelude.{◌≡◌, [], ◌∷◌, true, false, None, bytes_eq, IfOk, OnOk};
-ghost use Rattle.std.specs.List.{AllByRecursion, IsDistinct, list_any};
+ghost use Rattle.std.specs.List.{AllByRecursion, list_any};
+ghost use Rattle.frac_keys.specs.Rising.{are_rising};
 ghost use Rattle.elem.specs.declared.parts.BoundRef.{BoundRef};
 ghost use Rattle.elem.specs.Facts.{IsElement};
 ghost use Rattle.delta.specs.Applied.{Changes, IsApplied, KeepsStamp};
@@ -39,7 +40,7 @@ pub fn apply(alloc: Global, part: &Part, now: &Element) -> Result<Element, Alloc
 
 /// Applies each of the changes.
 fn apply_all(alloc: Global, e: &mut Element, changes: &List<Change>) -> Result<(), AllocError>
-    requires distinct { IsDistinct bytes_eq (change_names changes.now) }
+    requires rise { are_rising (change_names changes.now) ≡ true }
     requires each { AllByRecursion (IsChange e.old.kind) changes.now }
     ensures { OnOk result (Changes changes.now e.old e.new) }
 {

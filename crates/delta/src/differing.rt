@@ -1,10 +1,13 @@
 //! The part of two elements.
 
-ghost use Rattle.std.specs.Prelude.{◌≡◌, ℕ, List as Items, [], ◌∷◌, ◌++◌, Option, Some, true, false, codes, bytes_eq, option_copied, IfOk, IfSome, OnOk};
+ghost use Rattle.std.specs.Prelude.{◌≡◌, ◌≤◌, length, take, drop, All, slice_get, ℕ, List as Items, [], ◌∷◌, ◌++◌, Option, Some, true, false, codes, bytes_eq, option_copied, IfOk, IfSome, OnOk};
 ghost use Rattle.std.specs.List.{list_any};
 ghost use Rattle.frac_keys.specs.Rising.{are_rising};
 ghost use Rattle.elem.specs.Facts.{names};
-ghost use Rattle.delta.specs.Facts.{IsScalar, name_of, other_names};
+ghost use Rattle.frac_keys.specs.Keys.{bytes_less};
+ghost use Rattle.delta.specs.Facts.{IsScalar, name_of, change_names, other_names};
+ghost use Rattle.delta.specs.Placed.{with_item};
+ghost use Rattle.std.specs.Option.{option_map_or};
 ghost use Rattle.delta.specs.Headers.{header_named, scalar_of, value_named};
 ghost use Rattle.delta.specs.Parts as parts;
 ghost use Rattle.delta.specs.Parts.{StandsFor, counted, groups_change, bound_change};
@@ -231,33 +234,57 @@ fn rest_raw(rest: &List<Member>, name: &Text) -> Result<Option<Raw>, AllocError>
     }
 }
 
-/// Adds the change, if there is one, unless its member has changed.
+/// Puts the change, if there is one, where the name of its member belongs.
 fn add(changes: &mut Vec<Change>, change: Option<Change>) -> Result<(), AllocError>
-    ensures { OnOk result (changes.new.items ≡ with_change changes.old.items change) }
+    ensures { are_rising (change_names changes.old.items) ≡ true
+        → OnOk result (changes.new.items ≡ with_change changes.old.items change) }
 {
     match change {
-        Some(change) => add_new(changes, change),
+        Some(change) => put(changes, change),
         None => Ok(()),
     }
 }
 
-/// Adds the change, unless its member has changed.
-fn add_new(changes: &mut Vec<Change>, change: Change) -> Result<(), AllocError>
-    ensures { OnOk result (changes.new.items ≡ with_change changes.old.items (Some change)) }
+/// Puts the change where the name of its member belongs, in the place of the one of this member, if there is one.
+fn put(changes: &mut Vec<Change>, change: Change) -> Result<(), AllocError>
+    ensures { are_rising (change_names changes.old.items) ≡ true
+        → OnOk result (changes.new.items ≡ with_item name_of change changes.old.items) }
 {
-    if !has_changed(changes, &change) {
-        changes.push(change)?;
+    let place = place_of(changes, &change);
+    if is_same_at(changes, place, &change) {
+        changes[place] = change;
+    } else {
+        changes.insert(place, change)?;
     }
     Ok(())
 }
 
-/// Whether there is a change of the same member.
-fn has_changed(changes: &[Change], change: &Change) -> bool
-    ensures { result ≡ list_any (λ other. bytes_eq (name_of change.now) (name_of other)) changes.now }
+/// Where the changes begin whose members' names aren't less.
+fn place_of(changes: &[Change], change: &Change) -> usize
+    ensures bound { result ≤ length changes.now }
+    ensures before { are_rising (change_names changes.now) ≡ true
+        → All (λ other. bytes_less (name_of other) (name_of change.now) ≡ true) (take result changes.now) }
+    ensures behind { are_rising (change_names changes.now) ≡ true
+        → All (λ other. bytes_less (name_of other) (name_of change.now) ≡ false) (drop result changes.now) }
 {
-    changes
-        .iter()
-        .any(|other| member_name(change) == member_name(other))
+    changes.partition_point(|other| is_before(other, change))
+}
+
+/// Whether the name of a change's member comes before that of another one's.
+fn is_before(change: &Change, other: &Change) -> bool
+    ensures { result ≡ bytes_less (name_of change.now) (name_of other.now) }
+{
+    member_name(change).cmp(member_name(other)).is_lt()
+}
+
+/// Whether the change at the place is of the same member.
+fn is_same_at(changes: &Vec<Change>, place: usize, change: &Change) -> bool
+    ensures { result ≡ option_map_or (λ other. bytes_eq (name_of change.now) (name_of other)) (slice_get changes.now.items place) false }
+{
+    match changes.get(place) {
+        Some(other) => member_name(change) == member_name(other),
+        None => false,
+    }
 }
 
 /// The name of the member that a change is of.

@@ -1,11 +1,13 @@
 //! The inverse of a part.
 
 ghost use Rattle.std.specs.Prelude.{◌≡◌, map};
-ghost use Rattle.delta.specs.Parts.{inverted, inverse};
+ghost use Rattle.delta.specs.Parts.{inverted, inverse, inverses};
 
 use crate::change::Change;
-use crate::part::Part;
+use crate::part::{Entry, Part};
 use board_io::List;
+use elem::Kind;
+use scene_json::Text;
 use std::alloc::Global;
 
 /// The part with before and after exchanged in each change. It takes no memory.
@@ -23,6 +25,32 @@ pub fn invert(part: Part) -> Part
         kind,
         changes: List::from_vec(changes),
     }
+}
+
+/// The entry with each of its parts inverted. It takes no memory.
+pub fn invert_entry(entry: Entry) -> Entry
+    ensures { result ≡ inverses entry }
+{
+    let mut parts = entry.parts.into_vec();
+    let alloc = *parts.allocator();
+    for part in parts.iter_mut() {
+        turn(alloc, part);
+    }
+    Entry {
+        parts: List::from_vec(parts),
+    }
+}
+
+/// Inverts a part in its place.
+fn turn(alloc: Global, part: &mut Part)
+    ensures { part.new ≡ inverse part.old }
+{
+    let nothing = Part {
+        id: Text::fixed(""),
+        kind: Kind::Rectangle,
+        changes: List::new(alloc),
+    };
+    *part = invert(std::mem::replace(part, nothing));
 }
 
 /// Exchanges before and after in a change.

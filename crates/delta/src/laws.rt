@@ -1,12 +1,13 @@
 //! Laws on parts, for all of them. They do nothing when they run.
 
-ghost use Rattle.std.specs.Prelude.{◌≡◌};
+ghost use Rattle.std.specs.Prelude.{◌≡◌, List, map};
 ghost use Rattle.elem.specs.Drawn.{Drawn};
 ghost use Rattle.elem.specs.Facts.{IsElement};
 ghost use Rattle.elem.specs.Order.{unstamped};
 ghost use Rattle.delta.specs.Applied.{IsApplied};
 ghost use Rattle.delta.specs.Delta.{Delta};
-ghost use Rattle.delta.specs.Parts.{StandsFor, inverse};
+ghost use Rattle.delta.specs.Pairs.{Pair, EntryStandsFor, HasSamePairs, exchanged};
+ghost use Rattle.delta.specs.Parts.{StandsFor, inverse, inverses};
 ghost use Rattle.delta.specs.Undone.{IsUndone};
 
 /// Inverting twice is nothing.
@@ -38,4 +39,28 @@ pub fn inverse_undoes()
     ensures { (part : Delta) (before after now result : Drawn)
         → IsElement before → IsElement after → IsElement now → IsElement result
         → StandsFor part before after → IsApplied (inverse part) now result → IsUndone before after now result }
+{}
+
+/// Two elements have one part.
+pub fn part_is_unique()
+    ensures { (part other : Delta) (before after : Drawn)
+        → StandsFor part before after → StandsFor other before after → part ≡ other }
+{}
+
+/// Pairs have one entry.
+pub fn entry_is_unique()
+    ensures { (parts others : List Delta) (pairs : List Pair)
+        → EntryStandsFor parts pairs → EntryStandsFor others pairs → parts ≡ others }
+{}
+
+/// Stamps play no part in what an entry stands for.
+pub fn entry_leaves_stamps_out()
+    ensures { (parts : List Delta) (pairs others : List Pair)
+        → EntryStandsFor parts pairs → HasSamePairs pairs others → HasSamePairs others pairs → EntryStandsFor parts others }
+{}
+
+/// The inverse of an entry stands for the pairs with before and after exchanged.
+pub fn inverse_stands_for_exchanged()
+    ensures { (parts : List Delta) (pairs : List Pair)
+        → EntryStandsFor parts pairs → EntryStandsFor (inverses parts) (map exchanged pairs) }
 {}

@@ -17,7 +17,7 @@ mod stamping;
 pub use applying::apply;
 pub use change::Change;
 pub use differing::difference;
-pub use inverting::invert;
+pub use inverting::{invert, invert_entry};
 pub use kinds::are_one_kind;
 pub use part::{Entry, Part};
 pub use stamping::{AtLimit, VersionFull, stamp};

@@ -1,17 +1,17 @@
 -- A value stands for one thing alone.
-use Rattle.std.proofs.Common.{◌≡◌, ◌≢◌, ◌≤◌, ◌<◌, ◌^◌, ℕ, List, [], ◌∷◌, ◌++◌, map, refl, sym, ap, ap₂, ◌∙◌, subst, lit≤, arith, append_assoc, append-nil, IsUtf8, ◌⊎◌, inl, inr, true, false, Bool, Option, Some, None, codes, decimal, bytes_eq, drop}
+use Rattle.std.proofs.Common.{◌≡◌, ◌≢◌, ◌<◌, ◌^◌, ℕ, List, [], ◌∷◌, ◌++◌, map, refl, sym, ap, ap₂, ◌∙◌, subst, arith, IsUtf8, inl, inr, true, false, Bool, Option, Some, None, codes, decimal, bytes_eq, drop}
 use Rattle.std.specs.List.{AllByRecursion, list_any}
 use Rattle.std.proofs.lemmas.Bool.{or_parts, both_ways}
-use Rattle.std.proofs.lemmas.Map.Entries.{lookup_head, lookup_tail}
+use Rattle.std.proofs.lemmas.Map.Entries.{lookup_tail}
 use Rattle.std.specs.Prelude.{if◌then◌else◌}
 use Rattle.scene_json.specs.Characters.{quote}
 use Rattle.scene_json.specs.Tree.{null_word, true_word, false_word}
-use Rattle.scene_json.specs.Compact.{Member as Pair, member_text, array_text, object_text}
+use Rattle.scene_json.specs.Compact.{Member as Pair, array_text}
 use Rattle.scene_json.specs.Members.{pairs}
-use Rattle.scene_json.specs.Named.{value_at, AreSameMembers, HaveRisingNames}
+use Rattle.scene_json.specs.Named.{value_at, HaveRisingNames}
 use Rattle.scene_json.specs.Value.{IsCompact}
 use Rattle.scene_json.specs.declared.text.Member.{Member}
-use Rattle.scene_json.proofs.Collapsed.{bytes_eq-true, bytes_eq-same, bytes_eq-apart}
+use Rattle.scene_json.proofs.Collapsed.{bytes_eq-apart}
 use Rattle.scene_json.proofs.CompactLaws.{quote-compact}
 use Rattle.scene_json.proofs.Decimals.{value_of_decimal}
 use Rattle.scene_json.proofs.Forms.{StartsWith, quote-starts, object-starts}
@@ -26,9 +26,9 @@ use Rattle.elem.specs.declared.kind.Role.{Role}
 use Rattle.elem.specs.declared.kind.Role.TheVariants as roles
 use Rattle.elem.specs.declared.parts.BoundRef.{BoundRef}
 use Rattle.elem.specs.declared.parts.Binding.{Binding}
-use Rattle.elem.specs.Facts.{greatest_whole, known_names, IsKind, names}
-use Rattle.elem.specs.Forms.{Find, IsText, IsKindName, IsWhole, IsTruth, IsNull, IsTextOrNull, IsKeyOrNull, AreTexts, IsObject, IsEntry, AreEntries, IsListing, AreOthers, IsBindingObject, IsUnbound, IsBindingOrNull}
-use Rattle.elem.specs.Texts.{kind_name, role_name, truth_text}
+use Rattle.elem.specs.Facts.{IsKind, names}
+use Rattle.elem.specs.Forms.{Find, IsText, IsKindName, IsWhole, IsTruth, IsNull, IsTextOrNull, IsKeyOrNull, AreTexts, IsObject, IsEntry, AreEntries, IsListing, AreOthers, IsBindingObject, IsBindingOrNull}
+use Rattle.elem.specs.Texts.{kind_name, role_name}
 use Rattle.elem.proofs.Once.{quote-once, quotes-once, array-once, object-once}
 use Rattle.elem.proofs.Sorting.{IsRising, IsRising-from, less_is}
 

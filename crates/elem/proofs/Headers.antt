@@ -1,5 +1,5 @@
 -- The header members in the order of their names, and with the others.
-use Rattle.std.proofs.Common.{◌≡◌, ℕ, ◌<◌, List, [], ◌∷◌, ◌++◌, map, length, bytes_eq, codes, decimal, refl, sym, ap, ◌∙◌, subst, arith}
+use Rattle.std.proofs.Common.{◌≡◌, ◌<◌, List, [], ◌∷◌, ◌++◌, map, length, bytes_eq, codes, decimal, refl, sym, ap, ◌∙◌, subst, arith}
 use Rattle.std.specs.List.{IsDistinct}
 use Rattle.std.specs.List.Sorted.{IsPermutation}
 use Rattle.std.proofs.lemmas.List.Sorted.{IsPermutation-refl}
@@ -19,7 +19,8 @@ use Rattle.elem.specs.Facts.{IsElement, IsBinding}
 use Rattle.elem.specs.Printing.{header_pair, headers_of, AreSound}
 use Rattle.elem.specs.Texts.{kind_name, truth_text, text_or_null, bound_text, own_members, header_members, sorted_members, element_members}
 use Rattle.elem.proofs.Distinct.{IsDistinct-element, IsDistinct-binding, IsDistinct-header, names_of-header}
-use Rattle.elem.proofs.Merging.{merged, merged-sorted, length-merged, sound-compact}
+use Rattle.elem.proofs.Merging.{merged-sorted, length-merged, sound-compact}
+use Rattle.elem.specs.Printing.{merged}
 use Rattle.elem.proofs.Sorting.{IsRising, IsRising-from, IsRising-sorted, IsPermutation-sorted}
 
 abbrev pub header_pairs : Drawn → Kind → List Pair

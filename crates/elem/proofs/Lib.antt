@@ -3,6 +3,7 @@ pub mod FormsOnce
 pub mod Once
 pub mod KeyTexts
 mod Headers
+mod Leaving
 mod Merging
 pub mod OrderLaws
 mod Rows

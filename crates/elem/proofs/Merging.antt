@@ -1,13 +1,13 @@
 -- Members that are written one after another, those of two rising lists in the order of their names.
-use Rattle.std.proofs.Common.{◌≡◌, ◌≢◌, ℕ, ◌+◌, ◌<◌, Bool, true, false, ◌==◌, eqb, if◌then◌else◌, List, [], ◌∷◌, ◌++◌, length, get_or, take, drop, map, bytes_eq, inl, inr, refl, sym, ap, ◌∙◌, subst, arith, one-add, append-nil, append_assoc}
+use Rattle.std.proofs.Common.{◌≡◌, ◌≢◌, ℕ, ◌+◌, ◌<◌, true, false, eqb, if◌then◌else◌, List, [], ◌∷◌, ◌++◌, length, get_or, take, drop, map, bytes_eq, inl, inr, refl, sym, ap, ◌∙◌, subst, arith, one-add, append-nil, append_assoc}
 use Rattle.std.specs.Cmp.Lexicographic.{nat_list_eq_equiv}
 use Rattle.std.specs.List.{AllByRecursion, IsDistinct, join_with_byte, prefix_len}
 use Rattle.std.specs.List.Sorted.{IsPermutation}
 use Rattle.std.specs.Str.{IsUtf8}
-use Rattle.std.proofs.lemmas.Bool.{cases_Bool, eq-eqb, ne_eqb, cond-true, cond-false}
+use Rattle.std.proofs.lemmas.Bool.{cases_Bool, eq-eqb, ne_eqb}
 use Rattle.std.proofs.lemmas.List.{map-append, length-append, take_more}
 use Rattle.std.proofs.lemmas.List.Elements.{All-from_recursion, recursion_from_All}
-use Rattle.std.proofs.lemmas.List.Sorted.{All-permutation, IsPermutation-refl, IsPermutation-sym, IsPermutation-cons, IsPermutation-trans, IsPermutation-middle, IsPermutation-map, IsPermutation-append, IsPermutation-append_comm, IsPermutation-append_left, IsPermutation-append_right}
+use Rattle.std.proofs.lemmas.List.Sorted.{All-permutation, IsPermutation-refl, IsPermutation-sym, IsPermutation-cons, IsPermutation-trans, IsPermutation-middle, IsPermutation-map, IsPermutation-append_comm, IsPermutation-append_left, IsPermutation-append_right}
 use Rattle.std.proofs.lemmas.Map.Keys.{IsDistinct-IsPermutation}
 use Rattle.scene_json.specs.Characters.{quote}
 use Rattle.scene_json.specs.Compact.{Member as Pair, member_text, object_text}
@@ -18,7 +18,7 @@ use Rattle.scene_json.proofs.Collapsed.{names_of}
 use Rattle.scene_json.proofs.CompactLaws.{object-compact}
 use Rattle.scene_json.proofs.Quoting.{join-push}
 use Rattle.frac_keys.specs.Keys.{bytes_less}
-use Rattle.elem.specs.Printing.{opened, IsBegun, mark, front, back, AreSound}
+use Rattle.elem.specs.Printing.{opened, IsBegun, mark, front, back, merged, AreSound}
 use Rattle.elem.specs.Texts.{sorted_members}
 use Rattle.elem.proofs.Distinct.{IsDistinct-rising, AllByRecursion-append}
 use Rattle.elem.proofs.Sorting.{IsRising, IsRising-sorted, IsPermutation-sorted, AllByRecursion-weaker, bytes_less-trans, bytes_less-turned, same_rising}
@@ -132,10 +132,6 @@ back-greater name (m ∷ ms) rise apart = elim (cases_Bool (bytes_less m.name na
 ]
 
 -- ---- two lists merged
-abbrev pub merged : List Pair → List Member → List Pair
-merged [] rest = pairs rest
-merged (h ∷ hs) rest = pairs (front h.0 rest) ++ h ∷ merged hs (back h.0 rest)
-
 exchanged : (xs ys zs : List Pair) → IsPermutation (xs ++ (ys ++ zs)) (ys ++ (xs ++ zs))
 exchanged xs ys zs =
     subst (λ l. IsPermutation l (ys ++ (xs ++ zs))) (append_assoc xs ys zs)

@@ -1,9 +1,9 @@
 -- Texts of strings, arrays and objects are read in one way alone.
-use Rattle.std.proofs.Common.{◌≡◌, ◌≤◌, ℕ, List, [], ◌∷◌, ◌++◌, map, refl, sym, ap, ap₂, ◌∙◌, subst, lit≤, arith, drop, append_assoc, append-nil, IsUtf8, ◌⊎◌, inl, inr, true, false, Bool}
+use Rattle.std.proofs.Common.{◌≡◌, ℕ, List, [], ◌∷◌, ◌++◌, map, refl, sym, ap, ap₂, ◌∙◌, subst, lit≤, arith, drop, append_assoc, append-nil, IsUtf8, true, false}
 use Rattle.std.specs.List.{AllByRecursion, join_with_byte}
 use Rattle.std.proofs.lemmas.Bool.Decides.{nat_tests}
 use Rattle.scene_json.specs.Characters.{quote}
-use Rattle.scene_json.specs.Tree.{Container, array, object, closing}
+use Rattle.scene_json.specs.Tree.{array, object}
 use Rattle.scene_json.specs.Compact.{Member as Pair, content, member_text, array_text, object_text}
 use Rattle.scene_json.specs.Parts.{AreMembers}
 use Rattle.scene_json.specs.Value.{IsCompact, Stands, extends_number, Follows}

@@ -1,25 +1,78 @@
--- What `beats` is: a strict order by version and nonce.
-use Rattle.std.proofs.Common.{◌≡◌, true, false, arith}
+-- What `beats` is: a strict order by version, nonce and text.
+use Rattle.std.proofs.Common.{◌≡◌, true, false, List, ℕ, bytes_eq, inl, inr, sym, ◌∙◌, subst, arith}
+use Rattle.std.proofs.lemmas.Bool.{cases_Bool, false≢true}
 use Rattle.std.proofs.lemmas.Bool.Decides.{nat_tests}
+use Rattle.scene_json.proofs.Collapsed.{bytes_eq-true}
+use Rattle.frac_keys.specs.Keys.{bytes_less}
 use Rattle.elem.specs.Drawn.{Drawn}
-use Rattle.elem.specs.Order.{beats}
+use Rattle.elem.specs.Order.{text_less, beats}
+use Rattle.elem.specs.Texts.{element_text}
+use Rattle.elem.proofs.Sorting.{bytes_less-same, bytes_less-asym, bytes_less-trans, bytes_less-turned}
 
+-- ---- the order of texts
+less-same : (a : Drawn) → text_less a a ≡ false
+unfolding text_less
+less-same a = bytes_less-same (element_text a)
+
+-- No element has a text that is less than that of an equal one.
+pub same-not_less : (a b : Drawn) → a ≡ b → false ≡ text_less a b
+same-not_less a b same = sym (subst (λ x. text_less x b ≡ false) (sym same) (less-same b))
+
+less-asym : (a b : Drawn) → text_less a b ≡ true → text_less b a ≡ false
+unfolding text_less
+less-asym a b less = bytes_less-asym (element_text a) (element_text b) less
+
+less-trans : (a b c : Drawn) → text_less a b ≡ true → text_less b c ≡ true → text_less a c ≡ true
+unfolding text_less
+less-trans a b c first second = bytes_less-trans (element_text a) (element_text b) (element_text c) first second
+
+-- Where neither is less, the two are equal.
+pub bytes-neither : (a b : List ℕ) → bytes_less a b ≡ false → bytes_less b a ≡ false → a ≡ b
+bytes-neither a b first second = elim (cases_Bool (bytes_eq a b)) [
+  | inl same ↦ bytes_eq-true a b same
+  | inr differ ↦ absurd (false≢true (sym first ∙ bytes_less-turned a b differ second))
+]
+
+less-neither : (a b : Drawn) → text_less a b ≡ false → text_less b a ≡ false → element_text a ≡ element_text b
+unfolding text_less
+less-neither a b first second = bytes-neither (element_text a) (element_text b) first second
+
+-- What isn't greater than the one that isn't greater isn't greater.
+pub bytes-below : (a b c : List ℕ) → bytes_less b a ≡ false → bytes_less c b ≡ false → bytes_less c a ≡ false
+bytes-below a b c first second = elim (cases_Bool (bytes_less c a)) [
+  | inl less ↦ elim (cases_Bool (bytes_less a b)) [
+    | inl more ↦ absurd (false≢true (sym second ∙ bytes_less-trans c a b less more))
+    | inr same ↦ absurd (false≢true (sym second ∙ subst (λ t. bytes_less c t ≡ true) (bytes-neither a b same first) less))
+  ]
+  | inr above ↦ above
+]
+
+less-below : (a b c : Drawn) → text_less b a ≡ false → text_less c b ≡ false → text_less c a ≡ false
+unfolding text_less
+less-below a b c first second = bytes-below (element_text a) (element_text b) (element_text c) first second
+
+-- ---- the order of updates
 -- No element beats itself.
 pub beats-same : (e : Drawn) → beats e e ≡ false
-beats-same e = grind (arith, nat_tests)
+beats-same e = let same = less-same e in grind (arith, nat_tests)
 
 -- Of two elements one at most beats the other.
 pub beats-asym : (a b : Drawn) → beats a b ≡ true → beats b a ≡ false
-beats-asym a b first = grind (arith, nat_tests)
+beats-asym a b first = let text = less-asym a b in grind (arith, nat_tests)
 
 -- What beats an element beats all that it beats.
 pub beats-trans : (a b c : Drawn) → beats a b ≡ true → beats b c ≡ true → beats a c ≡ true
-beats-trans a b c first second = grind (arith, nat_tests)
+beats-trans a b c first second = let text = less-trans a b c in grind (arith, nat_tests)
 
 -- What doesn't beat an element beats none that beat it.
 pub beats-below : (a b c : Drawn) → beats b a ≡ false → beats c b ≡ false → beats c a ≡ false
-beats-below a b c first second = grind (arith, nat_tests)
+beats-below a b c first second = let text = less-below a b c in grind (arith, nat_tests)
 
--- Where neither beats the other, their versions and their nonces are equal.
-pub beats-neither : (a b : Drawn) → beats a b ≡ false → beats b a ≡ false → (a.version ≡ b.version) × (a.nonce ≡ b.nonce)
-beats-neither a b first second = (grind (arith, nat_tests), grind (arith, nat_tests))
+-- Where neither beats the other, their versions, their nonces and their texts are equal.
+pub beats-neither : (a b : Drawn) → beats a b ≡ false → beats b a ≡ false → (a.version ≡ b.version) × (a.nonce ≡ b.nonce) × (element_text a ≡ element_text b)
+beats-neither a b first second =
+    let versions : a.version ≡ b.version = grind (arith, nat_tests) in
+    let nonces : a.nonce ≡ b.nonce = grind (arith, nat_tests) in
+    let less : text_less a b ≡ false = grind (arith, nat_tests) in
+    let more : text_less b a ≡ false = grind (arith, nat_tests) in
+    (versions, nonces, less-neither a b less more)

@@ -1,8 +1,7 @@
 -- Members say one element alone, and the members of an element say that element.
-use Rattle.std.proofs.Common.{◌≡◌, ◌≢◌, ◌≤◌, ◌<◌, ◌^◌, ◌+◌, ℕ, zero, suc, List, [], ◌∷◌, ◌++◌, map, refl, sym, ap, ap₂, ◌∙◌, subst, lit≤, arith, IsUtf8, ◌⊎◌, inl, inr, true, false, Bool, Option, Some, None, IfSome, codes, decimal, bytes_eq}
+use Rattle.std.proofs.Common.{◌≡◌, ◌≤◌, ◌<◌, ◌^◌, ℕ, zero, suc, List, [], ◌∷◌, ◌++◌, map, refl, sym, ap, ◌∙◌, subst, lit≤, arith, IsUtf8, inl, inr, true, false, Bool, Option, Some, None, IfSome, codes, decimal, bytes_eq}
 use Rattle.std.specs.Cmp.Lexicographic.{nat_list_eq_equiv}
 use Rattle.std.specs.List.{AllByRecursion, IsDistinct, list_all, list_any}
-use Rattle.std.specs.List.Sorted.{IsPermutation}
 use Rattle.std.proofs.lemmas.Bool.{and_parts, or_parts, or_from, both_ways}
 use Rattle.std.proofs.lemmas.List.Elements.{All-from_recursion, recursion_from_All}
 use Rattle.std.proofs.lemmas.List.Folds.{list_any-append}
@@ -14,9 +13,9 @@ use Rattle.std.specs.Str.{IsAscii}
 use Rattle.std.specs.Prelude.{nat_lt}
 use Rattle.std.proofs.lemmas.Bool.Decides.{nat_tests}
 use Rattle.scene_json.specs.Characters.{quote}
-use Rattle.scene_json.specs.Compact.{Member as Pair, array_text, object_text}
+use Rattle.scene_json.specs.Compact.{Member as Pair, array_text}
 use Rattle.scene_json.specs.Members.{pairs}
-use Rattle.scene_json.specs.Named.{value_at, AreSameMembers}
+use Rattle.scene_json.specs.Named.{value_at}
 use Rattle.scene_json.specs.Parts.{names_of, AreMembers}
 use Rattle.scene_json.specs.Tree.{null_word, true_word, false_word}
 use Rattle.scene_json.specs.Value.{IsCompact}
@@ -36,7 +35,7 @@ use Rattle.elem.specs.declared.parts.BoundRef.{BoundRef}
 use Rattle.elem.specs.declared.parts.Binding.{Binding}
 use Rattle.elem.specs.Drawn.{Drawn}
 use Rattle.elem.specs.Facts.{greatest_whole, header_names, own_names, is_header, IsKind, IsBinding, IsElement, AllNest, names}
-use Rattle.elem.specs.Forms.{Find, find_in, IsText, IsTextOrNull, IsKeyOrNull, AreTexts, IsObject, IsEntry, AreEntries, IsListing, AreOthers, IsBindingObject, IsBindingOrNull}
+use Rattle.elem.specs.Forms.{Find, find_in, IsTextOrNull, IsKeyOrNull, AreEntries, AreOthers, IsBindingOrNull}
 use Rattle.elem.specs.Said.{is_named, IsOwn, Says, IsBindingText, IsWritten}
 use Rattle.elem.specs.Texts.{kind_name, role_name, truth_text, text_or_null, bound_text, binding_text, own_members, header_members, sorted_members, element_members, element_text}
 use Rattle.elem.proofs.Distinct.{IsDistinct-element, IsDistinct-binding, names_of-header}

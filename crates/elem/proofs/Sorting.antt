@@ -1,22 +1,17 @@
 -- Members in the order of the bytes of their names.
-use Rattle.std.proofs.Common.{◌≡◌, ℕ, suc, ◌+◌, Bool, true, false, Some, None, ◌⊎◌, inl, inr, List, [], ◌∷◌, map, bytes_eq, Ordering, is_lt, nat_cmp, if◌then◌else◌, refl, sym, ap, ◌∙◌, subst, arith}
-use Rattle.std.specs.Cmp.Lexicographic.{slice_cmp, nat_list_cmp_total, nat_list_eq_equiv, texts_ties}
+use Rattle.std.proofs.Common.{◌≡◌, ℕ, true, false, Some, None, ◌⊎◌, inl, inr, List, [], ◌∷◌, map, bytes_eq, Ordering, is_lt, nat_cmp, if◌then◌else◌, refl, sym, ap, ◌∙◌, subst}
+use Rattle.std.specs.Cmp.Lexicographic.{slice_cmp, nat_list_cmp_total, texts_ties}
 use Rattle.std.specs.List.{IsDistinct, AllByRecursion}
-use Rattle.std.specs.List.Sorted.{IsPermutation, IsSortedBy}
+use Rattle.std.specs.List.Sorted.{IsPermutation}
 use Rattle.std.specs.Ordering.{is_eq, ordering_reverse}
 use Rattle.std.specs.declared.cmp.Ordering.TheVariants.{Less, Equal, Greater}
 use Rattle.std.proofs.lemmas.Bool.{and_parts, and_from, false≢true}
 use Rattle.std.proofs.lemmas.List.Elements.{All-from_recursion, recursion_from_All}
-use Rattle.std.proofs.lemmas.List.Sorted.{All-permutation, IsPermutation-refl, IsPermutation-sym, IsPermutation-cons, IsPermutation-trans, IsPermutation-middle, IsPermutation-map}
-use Rattle.std.proofs.lemmas.Map.Keys.{IsDistinct-IsPermutation}
+use Rattle.std.proofs.lemmas.List.Sorted.{All-permutation, IsPermutation-refl, IsPermutation-sym, IsPermutation-cons, IsPermutation-trans, IsPermutation-middle}
 use Rattle.scene_json.specs.Compact.{Member as Pair}
-use Rattle.scene_json.specs.Members.{pairs, pair_of}
-use Rattle.scene_json.specs.declared.text.Member.{Member}
 use Rattle.scene_json.proofs.Collapsed.{names_of}
-use Rattle.scene_json.proofs.Pairs.{names-pairs}
 use Rattle.frac_keys.specs.Keys.{bytes_less}
 use Rattle.frac_keys.specs.Rising.{are_rising, rise_between}
-use Rattle.elem.specs.Facts.{names}
 use Rattle.elem.specs.Texts.{with_member, sorted_members}
 
 -- Each name is less than those after it.

@@ -1,6 +1,7 @@
 pub mod Drawn
 pub mod Facts
 pub mod Forms
+pub mod Left
 pub mod Order
 pub mod Printing
 pub mod Said

@@ -1,9 +1,10 @@
 -- How the text of an element is written. Only contracts of private functions cite this.
-use Rattle.std.specs.Prelude.{◌≡◌, ℕ, List, [], ◌∷◌, ◌++◌, Bool, map, codes, decimal, length, ◌==◌, if◌then◌else◌}
+use Rattle.std.specs.Prelude.{◌≡◌, ℕ, List, [], ◌∷◌, ◌++◌, map, codes, decimal, length, ◌==◌, if◌then◌else◌}
 use Rattle.std.specs.List.{AllByRecursion, join_with_byte}
 use Rattle.std.specs.Str.{IsUtf8}
 use Rattle.scene_json.specs.Characters.{quote}
 use Rattle.scene_json.specs.Compact.{Member as Pair, member_text, array_text}
+use Rattle.scene_json.specs.Members.{pairs}
 use Rattle.scene_json.specs.Value.{IsCompact}
 use Rattle.scene_json.specs.declared.text.Member.{Member}
 use Rattle.frac_keys.specs.Keys.{bytes_less}
@@ -35,6 +36,11 @@ front name (member ∷ members) = if bytes_less member.name name then member ∷
 abbrev pub back : List ℕ → List Member → List Member
 back name [] = []
 back name (member ∷ members) = if bytes_less member.name name then back name members else member ∷ members
+
+-- the header members and the others in the order of their names
+abbrev pub merged : List Pair → List Member → List Pair
+merged [] rest = pairs rest
+merged (header ∷ headers) rest = pairs (front header.0 rest) ++ header ∷ merged headers (back header.0 rest)
 
 -- Each name is a text, and each value is a compact text that nests at most so deep.
 abbrev pub AreSound : ℕ → List Pair → Type 0

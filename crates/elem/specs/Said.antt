@@ -1,5 +1,5 @@
 -- The element that members say, told by look-ups of their names: the order of the members plays no part.
-use Rattle.std.specs.Prelude.{◌≡◌, ℕ, List, Bool, true, false, Option, None, IfSome, codes, bytes_eq}
+use Rattle.std.specs.Prelude.{◌≡◌, ℕ, List, Bool, true, false, Option, None, All, IfSome, codes, bytes_eq}
 use Rattle.std.specs.Str.{IsUtf8}
 use Rattle.std.specs.List.{AllByRecursion}
 use Rattle.frac_keys.specs.Keys.{is_key}
@@ -7,7 +7,7 @@ use Rattle.elem.specs.declared.kind.Kind.{Kind}
 use Rattle.elem.specs.declared.parts.BoundRef.{BoundRef}
 use Rattle.elem.specs.declared.parts.Binding.{Binding}
 use Rattle.elem.specs.Drawn.{Drawn}
-use Rattle.elem.specs.Facts.{is_header, names}
+use Rattle.elem.specs.Facts.{is_header, names, IsElement}
 use Rattle.elem.specs.Forms.{Find, IsId, IsKindName, IsWhole, IsTruth, IsTextOrNull, IsKeyOrNull, AreTexts, IsListing, IsBindingOrNull, AreOthers}
 use Rattle.elem.specs.Texts.{kind_name}
 
@@ -57,3 +57,7 @@ pub record IsWritten (e : Drawn) : Type 0 where
   pub end_binding : IfSome e.end_binding IsBindingText
   pub file : IfSome e.file IsUtf8
   pub rest : AllByRecursion IsUtf8 (names e.rest)
+
+-- These are elements, as their types keep them.
+abbrev pub AreElements : List Drawn → Type 0
+AreElements elements = All (λ e. IsElement e × IsWritten e) elements

@@ -9,13 +9,14 @@ ghost use Rattle.elem.specs.Said.{Says, IsWritten};
 ghost use Rattle.elem.specs.Texts.{element_members, element_text};
 
 /// To beat is a strict order: nothing beats itself, of two elements one at most beats the other, and what beats an
-/// element beats all that it beats. Where neither beats the other, their versions and their nonces are equal.
+/// element beats all that it beats. Where neither beats the other, their versions, their nonces and their texts are equal.
 pub fn beats_is_an_order()
     ensures irreflexive { (e : Drawn) → beats e e ≡ false }
     ensures asymmetric { (a b : Drawn) → beats a b ≡ true → beats b a ≡ false }
     ensures transitive { (a b c : Drawn) → beats a b ≡ true → beats b c ≡ true → beats a c ≡ true }
     ensures total { (a b : Drawn)
-        → beats a b ≡ false → beats b a ≡ false → (a.version ≡ b.version) × (a.nonce ≡ b.nonce) }
+        → beats a b ≡ false → beats b a ≡ false
+        → (a.version ≡ b.version) × (a.nonce ≡ b.nonce) × (element_text a ≡ element_text b) }
 {}
 
 /// The members of an element say that element, and no members say two; so elements with one text are the same.

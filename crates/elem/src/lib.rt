@@ -2,6 +2,7 @@
 #![tactic(auto)]
 
 mod compare;
+mod cursor;
 mod element;
 mod header;
 mod kind;
@@ -9,7 +10,10 @@ pub mod laws;
 mod object;
 mod order;
 mod parts;
+mod piece;
 mod raw;
+mod source;
+mod value;
 mod values;
 
 pub use element::Element;

@@ -41,7 +41,7 @@ fn count_below(members: &[Member], name: &str) -> usize
 }
 
 /// Whether the name of a member is less than this one.
-fn is_below(member: &Member, name: &str) -> bool
+pub(crate) fn is_below(member: &Member, name: &str) -> bool
     ensures { result ≡ bytes_less member.now.name name.now }
 {
     member.name.as_bytes().cmp(name.as_bytes()).is_lt()

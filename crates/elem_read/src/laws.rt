@@ -6,7 +6,9 @@ ghost use Rattle.scene_json.specs.Compact.{Member};
 ghost use Rattle.scene_json.specs.Named.{AreSameMembers};
 ghost use Rattle.scene_json.specs.Value.{IsCompact};
 ghost use Rattle.elem.specs.Drawn.{Drawn};
+ghost use Rattle.elem.specs.Facts.{IsElement};
 ghost use Rattle.elem.specs.Forms.{IsObject};
+ghost use Rattle.elem.specs.Said.{IsWritten, AreElements};
 ghost use Rattle.elem.specs.Texts.{element_text};
 ghost use Rattle.elem_read.specs.Elements.{AreRead, IsFirstFaulty};
 ghost use Rattle.elem_read.specs.Reading.{IsSelection, IsElementIn, IsFaultIn, IsWhole};
@@ -66,4 +68,10 @@ pub fn read_elements_are_whole()
 /// The texts of whole elements are read as these elements.
 pub fn texts_are_read()
     ensures { (elements : List Drawn) → All IsWhole elements → AreRead (map element_text elements) elements }
+{}
+
+/// What a value is read as is an element, as its type keeps it; so are all whole elements.
+pub fn what_is_read_is_an_element()
+    ensures read { (value : List ℕ) (e : Drawn) → IsElementIn value e → IsElement e × IsWritten e }
+    ensures whole { (elements : List Drawn) → All IsWhole elements → AreElements elements }
 {}

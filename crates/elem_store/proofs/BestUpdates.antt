@@ -1,13 +1,17 @@
 -- What holds of stored elements.
-use Rattle.std.proofs.Common.{◌≡◌, ℕ, true, false, ◌&&◌, ◌==◌, List, [], ◌∷◌, Some, None, is_some, Contains, filter, bytes_eq, refl, sym, ap, ◌∙◌, subst, arith}
+use Rattle.std.proofs.Common.{◌≡◌, ℕ, true, false, ◌&&◌, List, [], ◌∷◌, Some, None, is_some, Contains, filter, refl, sym, ap, ◌∙◌, subst, arith}
 use Rattle.std.specs.List.{list_any}
-use Rattle.std.proofs.lemmas.Bool.{and_from, and_parts, not-true, eq-eqb}
+use Rattle.std.proofs.lemmas.Bool.{and_parts, not-true}
 use Rattle.std.proofs.Math.Bool.{and-true}
+use Rattle.std.proofs.lemmas.List.Elements.{All-contains}
 use Rattle.elem.specs.Drawn.{Drawn}
 use Rattle.elem.specs.Order.{beats}
+use Rattle.elem.specs.Facts.{IsElement}
+use Rattle.elem.specs.Said.{IsWritten, AreElements}
 use Rattle.elem.proofs.OrderLaws.{beats-neither}
-use Rattle.elem_store.specs.Updates.{is_of, is_unbeaten, is_best, best_updates, stored_of, IsFreeOfClashes}
-use Rattle.elem_store.proofs.Ids.{same_id, of_same}
+use Rattle.elem.proofs.Saying.{text-of-one}
+use Rattle.elem_store.specs.Updates.{is_of, is_unbeaten, is_best, best_updates, stored_of}
+use Rattle.elem_store.proofs.Ids.{same_id}
 use Rattle.elem_store.proofs.Lists.{find-Some, list_any-false, filter-Contains, Contains-filter, list_any-filter}
 use Rattle.elem_store.proofs.Leader.{leader, stored-leader}
 
@@ -48,19 +52,13 @@ stored-best updates id e h =
     let found = find-Some (is_best updates id) updates e h in
     Contains-filter (is_best updates id) updates e found.0 found.1
 
-tied : (e other : Drawn) → beats e other ≡ false → beats other e ≡ false → (e.version == other.version && e.nonce == other.nonce) ≡ true
-tied e other h k =
-    let same = beats-neither e other h k in
-    and_from (e.version == other.version) (e.nonce == other.nonce) (eq-eqb e.version other.version same.0) (eq-eqb e.nonce other.nonce same.1)
-
--- best updates of one id are tied, so without a clash they are the same
-pub best-same : (updates : List Drawn) (id : List ℕ) (e other : Drawn) → IsFreeOfClashes updates → IsBestOf updates id e → IsBestOf updates id other → e ≡ other
-best-same updates id e other free best best' =
-    let same_ids = sym (same_id id e best.named) ∙ same_id id other best'.named in
-    free e other best.taken best'.taken
-    (and_from (bytes_eq e.id other.id) (e.version == other.version && e.nonce == other.nonce)
-    (of_same e.id other same_ids)
-    (tied e other (best'.unbeaten e best.taken best.named) (best.unbeaten other best'.taken best'.named)))
+-- best updates of one id have one text, so they are the same
+pub best-same : (updates : List Drawn) (id : List ℕ) (e other : Drawn) → AreElements updates → IsBestOf updates id e → IsBestOf updates id other → e ≡ other
+best-same updates id e other all best best' =
+    let is = All-contains (λ e. IsElement e × IsWritten e) updates e all best.taken in
+    let is' = All-contains (λ e. IsElement e × IsWritten e) updates other all best'.taken in
+    let same = beats-neither e other (best'.unbeaten e best.taken best.named) (best.unbeaten other best'.taken best'.named) in
+    text-of-one e other is.0 is.1 is'.0 is'.1 same.2
 
 leader-None : (updates : List Drawn) (e : Drawn) → leader updates ≡ None → Contains updates e → ⊥
 leader-None [] e h c = omega (arith, c.1)

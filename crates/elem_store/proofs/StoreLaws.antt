@@ -1,12 +1,16 @@
 -- What holds of a store of a list of updates.
-use Rattle.std.proofs.Common.{◌≡◌, ℕ, Bool, true, false, cond, ◌&&◌, List, [], ◌∷◌, ◌++◌, Option, Some, None, is_some, Contains, refl, sym, ap, ap₂, ◌∙◌, subst, inl, inr}
+use Rattle.std.proofs.Common.{◌≡◌, ℕ, Bool, true, false, cond, ◌&&◌, ◌||◌, List, [], ◌∷◌, ◌++◌, Option, Some, None, is_some, Contains, refl, sym, ap, ap₂, ◌∙◌, subst, inl, inr}
 use Rattle.std.specs.List.{list_any}
 use Rattle.std.specs.Option.{option_map_or}
 use Rattle.std.proofs.lemmas.Bool.{cases_Bool, cond-true, cond-false, false_from_ne_true, false≢true}
+use Rattle.std.proofs.lemmas.List.Elements.{All-contains, All-contains_itself, All-weaker}
+use Rattle.std.proofs.lemmas.Option.{same_Some}
 use Rattle.frac_keys.specs.Rising.{are_rising}
 use Rattle.elem.specs.Drawn.{Drawn}
 use Rattle.elem.specs.Order.{beats}
-use Rattle.elem_store.specs.Updates.{is_of, best_updates, stored_of, element_of, is_taken, ids_of, AreStored, HasTaken, IsFreeOfClashes, HaveSameUpdates, AreBest}
+use Rattle.elem.specs.Facts.{IsElement}
+use Rattle.elem.specs.Said.{IsWritten, AreElements}
+use Rattle.elem_store.specs.Updates.{is_of, best_updates, stored_of, element_of, is_taken, ids_of, AreStored, HasTaken, is_newer, takings, HaveSameUpdates, AreBest}
 use Rattle.elem_store.proofs.Ids.{same_id, of_itself}
 use Rattle.elem_store.proofs.Lists.{find-Some, find-None}
 use Rattle.elem_store.proofs.Leader.{next_leader, joined_leader, stored-push, stored-append}
@@ -53,12 +57,12 @@ AreStored-best updates elements e h c = stored-best updates e.id e (AreStored-st
 pub AreStored-ids : (updates elements : List Drawn) (id : List ℕ) → AreStored updates elements → is_some (element_of elements id) ≡ list_any (is_of id) updates
 AreStored-ids updates elements id h = ap is_some (h.each id) ∙ is_some-stored updates id
 
--- without a clash all best updates of an id are the same
-pub bests-same : (updates : List Drawn) (id : List ℕ) (e other : Drawn) → IsFreeOfClashes updates → Contains (best_updates updates id) e → Contains (best_updates updates id) other → e ≡ other
-bests-same updates id e other free c d =
-    best-same updates id e other free (IsBestOf-best updates id e c) (IsBestOf-best updates id other d)
+-- all best updates of an id are the same
+pub bests-same : (updates : List Drawn) (id : List ℕ) (e other : Drawn) → AreElements updates → Contains (best_updates updates id) e → Contains (best_updates updates id) other → e ≡ other
+bests-same updates id e other all c d =
+    best-same updates id e other all (IsBestOf-best updates id e c) (IsBestOf-best updates id other d)
 
--- what is stored is one of the best updates of each id
+-- what is stored is the best update of each id
 pub AreBest-stored : (updates elements : List Drawn) → AreStored updates elements → AreBest updates elements
 AreBest-stored updates elements h = record {
   ordered = h.ordered;
@@ -66,9 +70,9 @@ AreBest-stored updates elements h = record {
   best = λ e c. AreStored-best updates elements e h c;
 }
 
--- and without a clash one of the best updates of each id is what is stored
-pub AreStored-from_best : (updates chosen : List Drawn) → IsFreeOfClashes updates → AreBest updates chosen → AreStored updates chosen
-AreStored-from_best updates chosen free h = record { ordered = h.ordered; each = λ id. same id (element_of chosen id) (stored_of updates id) refl refl }
+-- and the best update of each id is what is stored
+pub AreStored-from_best : (updates chosen : List Drawn) → AreElements updates → AreBest updates chosen → AreStored updates chosen
+AreStored-from_best updates chosen all h = record { ordered = h.ordered; each = λ id. same id (element_of chosen id) (stored_of updates id) refl refl }
   where
     agree : (id : List ℕ) → is_some (element_of chosen id) ≡ is_some (stored_of updates id)
     agree id = h.each_id id ∙ sym (is_some-stored updates id)
@@ -80,7 +84,7 @@ AreStored-from_best updates chosen free h = record { ordered = h.ordered; each =
     same id (Some e) (Some f) k l =
         let found = find-Some (is_of id) chosen e k in
         let among = subst (λ i. Contains (best_updates updates i) e) (sym (same_id id e found.1)) (h.best e found.0) in
-        ap Some (bests-same updates id e f free among (stored-best updates id f l))
+        ap Some (bests-same updates id e f all among (stored-best updates id f l))
 
 -- a best update is one in each list of the same updates
 same-best : (updates others : List Drawn) (id : List ℕ) (e : Drawn) → HaveSameUpdates updates others → IsBestOf others id e → IsBestOf updates id e
@@ -90,20 +94,20 @@ same-best updates others id e same best = record {
   unbeaten = λ other c of. best.unbeaten other (same.in_others other c) of;
 }
 
-same-stored : (updates others : List Drawn) (id : List ℕ) (o o' : Option Drawn) → HaveSameUpdates updates others → IsFreeOfClashes updates → stored_of updates id ≡ o → stored_of others id ≡ o' → o ≡ o'
-same-stored updates others id None None same free h k = refl
-same-stored updates others id (Some e) None same free h k =
+same-stored : (updates others : List Drawn) (id : List ℕ) (o o' : Option Drawn) → HaveSameUpdates updates others → AreElements updates → stored_of updates id ≡ o → stored_of others id ≡ o' → o ≡ o'
+same-stored updates others id None None same all h k = refl
+same-stored updates others id (Some e) None same all h k =
     let best = IsBestOf-stored updates id e h in absurd (stored-None others id e k (same.in_others e best.taken) best.named)
-same-stored updates others id None (Some e) same free h k =
+same-stored updates others id None (Some e) same all h k =
     let best = IsBestOf-stored others id e k in absurd (stored-None updates id e h (same.in_updates e best.taken) best.named)
-same-stored updates others id (Some e) (Some f) same free h k =
-    ap Some (best-same updates id e f free (IsBestOf-stored updates id e h) (same-best updates others id f same (IsBestOf-stored others id f k)))
+same-stored updates others id (Some e) (Some f) same all h k =
+    ap Some (best-same updates id e f all (IsBestOf-stored updates id e h) (same-best updates others id f same (IsBestOf-stored others id f k)))
 
--- two lists of the same updates, free of clashes, have one store
-pub stores-converge : (updates others elements news : List Drawn) → HaveSameUpdates updates others → IsFreeOfClashes updates → AreStored updates elements → AreStored others news → elements ≡ news
-stores-converge updates others elements news same free h k =
+-- two lists of the same updates have one store
+pub stores-converge : (updates others elements news : List Drawn) → HaveSameUpdates updates others → AreElements updates → AreStored updates elements → AreStored others news → elements ≡ news
+stores-converge updates others elements news same all h k =
     same_elements elements news h.ordered k.ordered (λ id.
-    h.each id ∙ same-stored updates others id (stored_of updates id) (stored_of others id) same free refl refl ∙ sym (k.each id))
+    h.each id ∙ same-stored updates others id (stored_of updates id) (stored_of others id) same all refl refl ∙ sym (k.each id))
 
 -- a list in which the ids rise is its own store
 pub AreStored-itself : (elements : List Drawn) → are_rising (ids_of elements) ≡ true → AreStored elements elements
@@ -137,3 +141,54 @@ AreStored-all updates elements e h one c = stored (stored_of updates e.id) refl
         let best = IsBestOf-stored updates e.id x k in
         let same = one e x c best.taken (same_id e.id x best.named) in
         subst (Contains elements) (sym same) (find-Some (is_of e.id) elements x (h.each e.id ∙ k)).0
+
+-- what is stored was among the updates
+pub stored-given : (updates elements : List Drawn) (e : Drawn) → AreStored updates elements → Contains elements e → Contains updates e
+stored-given updates elements e h c = (IsBestOf-stored updates e.id e (AreStored-stored updates elements e h c)).taken
+
+pub elements-stored : (updates elements : List Drawn) → AreElements updates → AreStored updates elements → AreElements elements
+elements-stored updates elements all h =
+    All-weaker (Contains elements) (λ e. IsElement e × IsWritten e)
+    (λ e c. All-contains (λ e. IsElement e × IsWritten e) updates e all (stored-given updates elements e h c))
+    elements (All-contains_itself elements)
+
+-- a store of elements that takes one is a store of elements
+pub elements-taken : (old new : List Drawn) (e : Drawn) → AreElements old → IsElement e → IsWritten e → HasTaken old e new → AreElements new
+elements-taken old new e all is w t =
+    All-weaker (Contains new) (λ x. IsElement x × IsWritten x)
+    (λ x c. go x (is_of x.id e && is_taken old e) refl (sym (member None None new x t.ordered c) ∙ t.each x.id)) new (All-contains_itself new)
+  where
+    go : (x : Drawn) (b : Bool) → (is_of x.id e && is_taken old e) ≡ b → Some x ≡ cond (is_of x.id e && is_taken old e) (Some e) (element_of old x.id) → IsElement x × IsWritten x
+    go x true k h =
+        let same : x ≡ e = same_Some x e (h ∙ cond-true (is_of x.id e && is_taken old e) (Some e) (element_of old x.id) k) in
+        subst (λ y. IsElement y × IsWritten y) (sym same) (is, w)
+    go x false k h =
+        let kept = sym (h ∙ cond-false (is_of x.id e && is_taken old e) (Some e) (element_of old x.id) k) in
+        All-contains (λ y. IsElement y × IsWritten y) old x all (find-Some (is_of x.id) old x kept).0
+
+-- what one list has two have
+any-append : (p : Drawn → Bool) (updates more : List Drawn) → list_any p updates ≡ true → list_any p (updates ++ more) ≡ true
+any-append p [] more h = cc
+any-append p (e ∷ updates) more h = elim (cases_Bool (p e)) [
+  | inl t ↦ ap (λ b. b || list_any p (updates ++ more)) t
+  | inr f ↦ ap (λ b. b || list_any p (updates ++ more)) f ∙ any-append p updates more (sym (ap (λ b. b || list_any p updates) f) ∙ h)
+]
+
+-- ids stay stored
+pub ids-stay : (updates more elements news : List Drawn) (id : List ℕ) → AreStored updates elements → AreStored (updates ++ more) news
+    → is_some (element_of elements id) ≡ true → is_some (element_of news id) ≡ true
+ids-stay updates more elements news id h k some =
+    AreStored-ids (updates ++ more) news id k
+    ∙ any-append (is_of id) updates more (sym (AreStored-ids updates elements id h) ∙ some)
+
+-- lists with the same stored elements take the same further updates
+takings-same : (updates others more : List Drawn) → ((id : List ℕ) → stored_of updates id ≡ stored_of others id) → takings updates more ≡ takings others more
+takings-same updates others [] same = refl
+takings-same updates others (e ∷ more) same =
+    let later = takings-same (updates ++ e ∷ []) (others ++ e ∷ []) more
+    (λ id. stored-push updates e id ∙ ap (λ o. cond (is_of id e) (Some (next_leader e o)) o) (same id) ∙ sym (stored-push others e id)) in
+    ap₂ (λ o rest. cond (is_newer e o) (record { before = o; taken = e } ∷ rest) rest) (same e.id) later
+
+pub takings-stored : (updates elements more : List Drawn) → AreStored updates elements → takings elements more ≡ takings updates more
+takings-stored updates elements more h =
+    takings-same elements updates more (λ id. sym ((AreStored-itself elements h.ordered).each id) ∙ h.each id)

@@ -1,6 +1,5 @@
--- What is stored of a list of updates. Source: Excalidraw's reconcile; that among equal bests the first counts is this
--- project's own.
-use Rattle.std.specs.Prelude.{◌≡◌, ℕ, List, Bool, true, not, ◌&&◌, ◌==◌, Option, Some, is_some, Contains, find, filter, map, bytes_eq, if◌then◌else◌}
+-- What is stored of a list of updates. Source: Excalidraw's reconcile.
+use Rattle.std.specs.Prelude.{◌≡◌, ℕ, List, [], ◌∷◌, ◌++◌, Bool, true, not, ◌&&◌, ◌==◌, Option, Some, is_some, Contains, find, filter, map, bytes_eq, if◌then◌else◌}
 use Rattle.std.specs.List.{list_any}
 use Rattle.std.specs.Option.{option_map_or}
 use Rattle.frac_keys.specs.Rising.{are_rising}
@@ -23,7 +22,7 @@ is_best updates id e = is_of id e && is_unbeaten updates e
 abbrev pub best_updates : List Drawn → List ℕ → List Drawn
 best_updates updates id = filter (is_best updates id) updates
 
--- the stored element of an id: the first of its best updates in the list's order
+-- the stored element of an id: its best update, of which there is one alone, since those that none beats have one text
 unfoldable pub stored_of : List Drawn → List ℕ → Option Drawn
 stored_of updates id = find (is_best updates id) updates
 
@@ -31,9 +30,26 @@ stored_of updates id = find (is_best updates id) updates
 abbrev pub element_of : List Drawn → List ℕ → Option Drawn
 element_of elements id = find (is_of id) elements
 
+-- whether an update becomes stored where this is stored of its id: nothing is, or the update beats it
+abbrev pub is_newer : Drawn → Option Drawn → Bool
+is_newer e stored = option_map_or (beats e) stored true
+
 -- whether a store of these elements takes an update: its id is new, or it beats the stored element
 abbrev pub is_taken : List Drawn → Drawn → Bool
-is_taken elements e = option_map_or (beats e) (element_of elements e.id) true
+is_taken elements e = is_newer e (element_of elements e.id)
+
+-- An update that becomes stored, and what was stored of its id before it.
+pub record Taking : Type 0 where
+  pub before : Option Drawn
+  pub taken : Drawn
+
+-- which of further updates become stored behind these, in their order, each with what was stored before it
+abbrev pub takings : List Drawn → List Drawn → List Taking
+takings updates [] = []
+takings updates (e ∷ more) =
+    if is_newer e (stored_of updates e.id)
+    then record { before = stored_of updates e.id; taken = e } ∷ takings (updates ++ e ∷ []) more
+    else takings (updates ++ e ∷ []) more
 
 -- the ids of elements
 abbrev pub ids_of : List Drawn → List (List ℕ)
@@ -50,11 +66,12 @@ pub record HasTaken (old : List Drawn) (e : Drawn) (new : List Drawn) : Type 0 w
   pub ordered : are_rising (ids_of new) ≡ true
   pub each : (id : List ℕ) → element_of new id ≡ (if is_of id e && is_taken old e then Some e else element_of old id)
 
--- whether the ids, versions and nonces of two updates agree, so that neither beats the other
+-- whether the ids, versions and nonces of two updates agree, so that their texts decide
 abbrev pub are_tied : Drawn → Drawn → Bool
 are_tied e other = bytes_eq e.id other.id && (e.version == other.version && e.nonce == other.nonce)
 
--- Two updates clash where their id, version and nonce agree and they aren't the same; none do.
+-- Two updates clash where their id, version and nonce agree and they aren't the same; none do. A clash is told, and
+-- decides nothing.
 abbrev pub IsFreeOfClashes : List Drawn → Type 0
 IsFreeOfClashes updates =
     (e other : Drawn) → Contains updates e → Contains updates other → are_tied e other ≡ true → e ≡ other
@@ -64,7 +81,7 @@ pub record HaveSameUpdates (updates others : List Drawn) : Type 0 where
   pub in_others : (e : Drawn) → Contains updates e → Contains others e
   pub in_updates : (e : Drawn) → Contains others e → Contains updates e
 
--- These elements are one of the best updates of each id, in the order of the ids.
+-- These elements are the best update of each id, in the order of the ids.
 pub record AreBest (updates chosen : List Drawn) : Type 0 where
   pub ordered : are_rising (ids_of chosen) ≡ true
   pub each_id : (id : List ℕ) → is_some (element_of chosen id) ≡ list_any (is_of id) updates

@@ -4,7 +4,9 @@ ghost use Rattle.std.specs.Prelude.{◌≡◌, ℕ, List, [], ◌∷◌, ◌++�
 ghost use Rattle.std.specs.List.{list_any};
 ghost use Rattle.frac_keys.specs.Rising.{are_rising};
 ghost use Rattle.elem.specs.Drawn.{Drawn};
-ghost use Rattle.elem_store.specs.Updates.{is_of, best_updates, element_of, ids_of, AreStored, HasTaken, IsFreeOfClashes, HaveSameUpdates, AreBest};
+ghost use Rattle.elem.specs.Facts.{IsElement};
+ghost use Rattle.elem.specs.Said.{IsWritten, AreElements};
+ghost use Rattle.elem_store.specs.Updates.{is_of, best_updates, element_of, ids_of, AreStored, HasTaken, takings, HaveSameUpdates, AreBest};
 
 /// The store of no updates has no element.
 pub fn empty_is_stored()
@@ -28,7 +30,7 @@ pub fn update_is_stored()
         → AreStored updates elements → HasTaken elements e new → AreStored (updates ++ e ∷ []) new }
 {}
 
-/// A stored element is one of the best updates of its id, and an id has one exactly if an update has it.
+/// A stored element is the best update of its id, and an id has one exactly if an update has it.
 pub fn best_is_stored()
     ensures best { (updates elements : List Drawn) (e : Drawn)
         → AreStored updates elements → Contains elements e → Contains (best_updates updates e.id) e }
@@ -36,28 +38,28 @@ pub fn best_is_stored()
         → AreStored updates elements → is_some (element_of elements id) ≡ list_any (is_of id) updates }
 {}
 
-/// Where no updates clash all best updates of an id are the same.
+/// All best updates of an id are the same.
 pub fn best_is_unique()
     ensures { (updates : List Drawn) (id : List ℕ) (e other : Drawn)
-        → IsFreeOfClashes updates → Contains (best_updates updates id) e
+        → AreElements updates → Contains (best_updates updates id) e
         → Contains (best_updates updates id) other → e ≡ other }
 {}
 
-/// What is stored is one of the best updates of each id.
+/// What is stored is the best update of each id.
 pub fn stored_are_best()
     ensures { (updates elements : List Drawn) → AreStored updates elements → AreBest updates elements }
 {}
 
-/// Where no updates clash, one of the best updates of each id is what is stored: there is no choice.
+/// The best update of each id is what is stored: there is no choice.
 pub fn best_are_stored()
     ensures { (updates chosen : List Drawn)
-        → IsFreeOfClashes updates → AreBest updates chosen → AreStored updates chosen }
+        → AreElements updates → AreBest updates chosen → AreStored updates chosen }
 {}
 
-/// The order and the repeats of updates don't count where none clash.
+/// The order and the repeats of updates don't count.
 pub fn stores_converge()
     ensures { (updates others elements news : List Drawn)
-        → HaveSameUpdates updates others → IsFreeOfClashes updates
+        → HaveSameUpdates updates others → AreElements updates
         → AreStored updates elements → AreStored others news → elements ≡ news }
 {}
 
@@ -71,6 +73,32 @@ pub fn stores_join()
 /// Elements whose ids rise are their own store.
 pub fn store_is_stored()
     ensures { (elements : List Drawn) → are_rising (ids_of elements) ≡ true → AreStored elements elements }
+{}
+
+/// What is stored was among the updates, so it is elements where these are.
+pub fn stored_were_given()
+    ensures among { (updates elements : List Drawn) (e : Drawn)
+        → AreStored updates elements → Contains elements e → Contains updates e }
+    ensures elements { (updates elements : List Drawn)
+        → AreElements updates → AreStored updates elements → AreElements elements }
+{}
+
+/// A store of elements that takes one is a store of elements.
+pub fn taking_keeps_elements()
+    ensures { (old new : List Drawn) (e : Drawn)
+        → AreElements old → IsElement e → IsWritten e → HasTaken old e new → AreElements new }
+{}
+
+/// Ids stay stored over further updates.
+pub fn ids_stay_stored()
+    ensures { (updates more elements news : List Drawn) (id : List ℕ)
+        → AreStored updates elements → AreStored (updates ++ more) news
+        → is_some (element_of elements id) ≡ true → is_some (element_of news id) ≡ true }
+{}
+
+/// Which of further updates become stored, and over what, is told by the stored elements as by the updates.
+pub fn takings_are_of_the_stored()
+    ensures { (updates elements more : List Drawn) → AreStored updates elements → takings elements more ≡ takings updates more }
 {}
 
 /// Where no two updates of one id differ, all updates are stored.

@@ -105,6 +105,19 @@ impl Store {
         }
     }
 
+    /// Takes the elements in their order. There is room for them, so it takes no memory.
+    pub fn take_all(&mut self, elements: List<Element>)
+        requires { length elements ≤ self.old.spare }
+        ensures { (updates : Items Drawn) → AreStored updates self.old.elements → AreStored (updates ++ elements) self.new.elements }
+    {
+        for e in elements.into_vec() {
+            match self.take(e) {
+                Ok(_) => {}
+                Err(_) => unreachable!(),
+            }
+        }
+    }
+
     /// The stored element of this id. It takes no memory.
     pub fn get(&self, id: &Text) -> Option<&Element>
         ensures { option_copied result ≡ element_of self.now.elements id.now }

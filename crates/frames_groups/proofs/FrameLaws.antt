@@ -1,7 +1,8 @@
 -- Settled frame names: what they name, and what stays.
-use Rattle.std.proofs.Common.{◌≡◌, ℕ, Bool, true, false, cond, not, ◌&&◌, List, Option, Some, None, IfSome, Any, map, bytes_eq, refl, sym, ap, ◌∙◌}
+use Rattle.std.proofs.Common.{◌≡◌, ℕ, suc, Bool, true, false, cond, not, ◌&&◌, ◌||◌, List, [], ◌∷◌, filter, Contains, inl, inr, arith, Option, Some, None, IfSome, Any, map, bytes_eq, refl, sym, ap, ◌∙◌}
+use Rattle.std.specs.List.{list_any}
 use Rattle.std.specs.Option.{option_map_or}
-use Rattle.std.proofs.lemmas.Bool.{and_parts, cond-true, not-true, cond_both}
+use Rattle.std.proofs.lemmas.Bool.{and_parts, both_ways, cases_Bool, cond-true, cond-false, not-true, cond_both, false_from_ne_true}
 use Rattle.std.proofs.lemmas.List.Elements.{All-map, All-weaker}
 use Rattle.std.proofs.lemmas.List.Folds.{Any-from_list_any, list_any-from_Any}
 use Rattle.std.proofs.lemmas.Slice.Eq.{bytes_eq-Decides}
@@ -118,3 +119,27 @@ pub frames_settled-named : (elements : List Drawn) → NameFrames elements → f
 frames_settled-named elements h =
     map-same (framed (has_frame elements)) elements
     (All-weaker (NamesFrame elements) (λ e. framed (has_frame elements) e ≡ e) (framed-named elements) elements h)
+
+-- ---- some of the elements, with the frames that are named
+any-kept : (p q : Drawn → Bool) (elements : List Drawn) → ((e : Drawn) → Contains elements e → q e ≡ true → p e ≡ true) → list_any q (filter p elements) ≡ list_any q elements
+any-kept p q [] h = refl
+any-kept p q (e ∷ elements) h =
+    let rest = any-kept p q elements (λ other there. h other (suc there.0, omega (arith, there.1), there.2)) in
+    elim (cases_Bool (p e)) [
+      | inl t ↦ ap (list_any q) (cond-true (p e) (e ∷ filter p elements) (filter p elements) t) ∙ ap (λ b. q e || b) rest
+      | inr f ↦
+          ap (list_any q) (cond-false (p e) (e ∷ filter p elements) (filter p elements) f) ∙ rest
+          ∙ ap (λ b. b || list_any q elements) (sym (false_from_ne_true (q e) (λ t. both_ways (p e) f (h e (0, omega arith, refl) t))))
+    ]
+
+pub framed-among : (elements : List Drawn) (among : Drawn → Bool) (e : Drawn)
+    → ((frame : Drawn) → Contains elements frame → is_frame frame ≡ true → e.frame ≡ Some frame.id → among frame ≡ true)
+    → framed (has_frame (filter among elements)) e ≡ framed (has_frame elements) e
+framed-among elements among e has = ap (λ b. cond (not (is_frame e) && b) e (without_frame e)) (named e.frame refl) where
+  named : (o : Option (List ℕ)) → e.frame ≡ o → option_map_or (has_frame (filter among elements)) o false ≡ option_map_or (has_frame elements) o false
+  named None is = refl
+  named (Some id) is =
+      any-kept among (is_frame_of id) elements
+      (λ frame there h.
+      let parts = and_parts (is_frame frame) (bytes_eq id frame.id) h in
+      has frame there parts.0 (is ∙ ap Some ((bytes_eq-Decides id frame.id).0 parts.1)))

@@ -42,8 +42,8 @@ fn frames_of(alloc: Global, elements: &Vec<Element>) -> Result<BTreeSet<Text>, A
     Ok(frames)
 }
 
-/// Whether an element is a frame or a magicframe.
-fn is_frame(e: &Element) -> bool
+/// Whether an element is a frame or a magicframe. It takes no memory.
+pub fn is_frame(e: &Element) -> bool
     ensures { result ≡ is_frame e.now }
 {
     matches!(e.kind, Kind::Frame | Kind::Magicframe)

@@ -1,8 +1,8 @@
 //! Laws on frames and groups, for all lists of elements. They do nothing when they run.
 
-ghost use Rattle.std.specs.Prelude.{◌≡◌, List};
+ghost use Rattle.std.specs.Prelude.{◌≡◌, List, Bool, Some, Contains, IsTrue, filter};
 ghost use Rattle.elem.specs.Drawn.{Drawn};
-ghost use Rattle.frames_groups.specs.Frames.{frames_settled, NameFrames};
+ghost use Rattle.frames_groups.specs.Frames.{is_frame, has_frame, framed, frames_settled, NameFrames};
 ghost use Rattle.frames_groups.specs.Groups.{groups_settled, HaveDistinctGroups};
 
 /// Where each frame name names a frame of the list, settling changes nothing.
@@ -22,4 +22,12 @@ pub fn frames_and_groups_stay_settled()
         → HaveDistinctGroups elements → HaveDistinctGroups (frames_settled elements) }
     ensures either { (elements : List Drawn)
         → frames_settled (groups_settled elements) ≡ groups_settled (frames_settled elements) }
+{}
+
+/// What settling makes of an element's frame name rests on the frames of this name alone: where they are among the elements
+/// that are settled, it makes the same of it.
+pub fn named_frames_are_enough()
+    ensures { (elements : List Drawn) (among : Drawn → Bool) (e : Drawn)
+        → ((frame : Drawn) → Contains elements frame → IsTrue (is_frame frame) → e.frame ≡ Some frame.id → IsTrue (among frame))
+        → framed (has_frame (filter among elements)) e ≡ framed (has_frame elements) e }
 {}

@@ -5,5 +5,5 @@ mod frames;
 mod groups;
 pub mod laws;
 
-pub use frames::settle_frames;
+pub use frames::{is_frame, settle_frames};
 pub use groups::settle_groups;

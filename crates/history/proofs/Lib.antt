@@ -1,2 +1,3 @@
+pub mod PlanLaws
 pub mod StepLaws
 pub mod UndoneLaws

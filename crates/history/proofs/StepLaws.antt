@@ -1,5 +1,5 @@
 -- Steps that grow by a part, and the least id that stops one.
-use Rattle.std.proofs.Common.{◌≡◌, ◌⊎◌, ℕ, zero, suc, ◌+◌, ◌<◌, length, take, drop, get_or, take-append-drop, append_assoc, Bool, true, false, ◌&&◌, if◌then◌else◌, List, [], ◌∷◌, ◌++◌, Some, None, IsSome, Contains, refl, sym, ap, ◌∙◌, subst, subst₂, inl, inr, arith}
+use Rattle.std.proofs.Common.{◌≡◌, ◌⊎◌, ℕ, zero, suc, ◌+◌, ◌<◌, length, take, drop, get_or, take-append-drop, append_assoc, map, reverse, Bool, true, false, ◌&&◌, if◌then◌else◌, List, [], ◌∷◌, ◌++◌, Some, None, IsSome, Contains, refl, sym, ap, ◌∙◌, subst, subst₂, inl, inr, arith}
 use Rattle.std.proofs.lemmas.Bool.{cases_Bool}
 use Rattle.std.proofs.lemmas.List.{map-append, take_more}
 use Rattle.std.proofs.lemmas.List.Elements.{Contains-append_left, Contains-append_right, Contains-append_cases, Contains-push, Contains-push_cases}
@@ -12,19 +12,28 @@ use Rattle.elem.specs.Drawn.{Drawn}
 use Rattle.elem.specs.Order.{unstamped}
 use Rattle.elem_store.specs.Updates.{HasTaken, is_of, element_of, is_taken}
 use Rattle.elem_store.proofs.Ids.{same_id}
-use Rattle.elem_store.proofs.Lists.{find-Some}
+use Rattle.elem_store.proofs.Lists.{find-Some, Contains-cons}
 use Rattle.elem_store.proofs.Rising.{less-other, less-less}
 use Rattle.delta.specs.Applied.{KeepsStamp}
 use Rattle.delta.specs.Delta.{Delta}
 use Rattle.delta.specs.Facts.{part_ids}
 use Rattle.delta.specs.Pairs.{Pair, EntryStandsFor, pair_with, pairs_from}
-use Rattle.delta.specs.Parts.{StandsFor, inverse}
+use Rattle.delta.specs.Parts.{StandsFor, inverse, inverses}
 use Rattle.delta.specs.declared.stamping.VersionFull.{VersionFull}
 use Rattle.delta.proofs.PairLaws.{entry-more, entry-none}
 use Rattle.delta.proofs.PartLaws.{applied-apart}
 use Rattle.delta.proofs.RisingIds.{Contains-map, rising-push, rising-front, earlier_less, later_greater}
+use Rattle.history.proofs.PlanLaws.{reverse-cons}
 use Rattle.history.specs.Stacks.{OnFull, HasStepped, HasStoredIds, HaveStoredIds}
 use Rattle.history.specs.Steps.{stamped, Reverts, IsNow, IsFull, IsFullId, IsLeastFull, IsStep, ComesOf}
+
+reverse-Contains : {X : Type 0} (xs : List X) (x : X) → Contains (reverse xs) x → Contains xs x
+reverse-Contains [] x c = absurd (omega (arith, c.1))
+reverse-Contains (y ∷ ys) x c =
+    elim (Contains-push_cases (reverse ys) y x (subst (λ zs. Contains zs x) (reverse-cons y ys) c)) [
+      | inl earlier ↦ Contains-cons y ys x (reverse-Contains ys x earlier)
+      | inr same ↦ (0, omega arith, same)
+    ]
 
 -- with no part nothing changes
 pub step-none : (store : List Drawn) (time nonce : ℕ) → IsStep [] store time nonce [] []
@@ -99,6 +108,7 @@ module _ (store : List Drawn) (time nonce : ℕ) (parts : List Delta) (given : L
         subst (EntryStandsFor (made ++ p ∷ [])) (ap (λ o. pairs ++ pair_with o e ∷ []) (sym held) ∙ sym (map-append pair given (e ∷ [])))
         (entry-more made pairs (pair_with (Some now) e) step.undoes p less
         (record {
+          id = sym (same_id part.id now (find-Some (is_of part.id) store now stored).1) ∙ came-id store time nonce part now came.0 e stored came.1.kept came.4;
           kind = sym (ap (λ (d : Drawn). d.kind) came.4 ∙ came.1.kept.kind);
           differ = λ same. came.2 (same ∙ ap unstamped came.4);
         })
@@ -168,23 +178,38 @@ pub OnFull-weaker : (stop : Stop VersionFull) (P Q : List ℕ → Type 0) → ((
 OnFull-weaker (Fault full) P Q f h = f full.0 h
 OnFull-weaker Memory P Q f h = tt
 
+-- the ids of an entry's inverse are stored as its own
+inverses-stored : (store : List Drawn) (parts : List Delta) → HasStoredIds store parts → HasStoredIds store (inverses parts)
+inverses-stored store parts stored part among =
+    let of = Contains-map inverse parts part among in
+    subst (λ (p : Delta). IsSome (element_of store p.id)) of.2 (stored of.0 of.1)
+
 -- a step keeps that the ids are stored
-pub ids-stored : (store given : List Drawn) (time nonce : ℕ) (from to left grown : List (List Delta)) → HasStepped store time nonce given from to left grown → HaveStoredIds store from → HaveStoredIds store to → HaveStoredIds store left × HaveStoredIds store grown
-ids-stored store given time nonce from to left grown stepped before others = (
-  λ parts among. before parts (subst (λ stack. Contains stack parts) (sym stepped.popped) (Contains-append_left left (stepped.parts ∷ []) parts among)),
-  λ parts among. elim (Contains-push_cases to stepped.made parts (subst (λ stack. Contains stack parts) stepped.pushed among)) [
+pub ids-stored : (store given : List Drawn) (time nonce : ℕ) (from to below grown : List (List Delta)) → HasStepped store time nonce given from to below grown → HaveStoredIds store from → HaveStoredIds store to → HaveStoredIds store below × HaveStoredIds store grown
+ids-stored store given time nonce from to below grown stepped before others = (
+  λ parts among. within parts (Contains-append_left below (stepped.parts ∷ stepped.above) parts among),
+  λ parts among. elim (Contains-append_cases to (map inverses (reverse stepped.above) ++ stepped.made ∷ []) parts (subst (λ stack. Contains stack parts) stepped.pushed among)) [
     | inl earlier ↦ others parts earlier
-    | inr same ↦ subst (HasStoredIds store) same made
+    | inr later ↦ elim (Contains-push_cases (map inverses (reverse stepped.above)) stepped.made parts later) [
+      | inl moved ↦
+          let of = Contains-map inverses (reverse stepped.above) parts moved in
+          subst (HasStoredIds store) of.2
+          (inverses-stored store of.0 (within of.0 (Contains-append_right below (stepped.parts ∷ stepped.above) of.0 (Contains-cons stepped.parts stepped.above of.0 (reverse-Contains stepped.above of.0 of.1)))))
+      | inr same ↦ subst (HasStoredIds store) same made
+    ]
   ],
 )
   where
+    within : (parts : List Delta) → Contains (below ++ stepped.parts ∷ stepped.above) parts → HasStoredIds store parts
+    within parts among = before parts (subst (λ stack. Contains stack parts) (sym stepped.topmost.split) among)
+
     made : HasStoredIds store stepped.made
     made p c =
         let of = stepped.step.undoes.each_part p c in
         let g = Contains-map (λ (x : Drawn). pair_with (element_of store x.id) x) given of.0 of.1 in
         let own = stepped.step.gives.each g.0 g.1 in
         let id : own.0.id ≡ p.id =
-        came-id store time nonce own.0 own.1 own.2 g.0 own.3.stored own.4.kept own.6 ∙ ap (λ (o : Pair). o.after.id) g.2 ∙ sym of.3.id in
+        came-id store time nonce own.0 own.1 own.2 g.0 own.3.stored own.4.kept own.6 ∙ ap (λ (o : Pair). o.after.id) g.2 ∙ sym of.2.stands.id in
         subst (λ i. IsSome (element_of store i)) id (subst IsSome (sym own.3.stored) refl)
 
 -- storing an element keeps that the ids are stored

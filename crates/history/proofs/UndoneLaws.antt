@@ -1,5 +1,5 @@
 -- What a step makes of the elements that its entry stands for.
-use Rattle.std.proofs.Common.{◌≡◌, ℕ, zero, suc, List, [], ◌∷◌, map, true, Option, Some, None, Contains, refl, sym, ap, ◌∙◌, subst, inl, inr, arith}
+use Rattle.std.proofs.Common.{◌≡◌, ℕ, List, true, Option, Some, None, refl, sym, ap, ◌∙◌, subst, inl, inr}
 use Rattle.std.proofs.lemmas.Option.{same_Some}
 use Rattle.elem.specs.Drawn.{Drawn}
 use Rattle.elem.specs.Facts.{IsElement}
@@ -11,14 +11,10 @@ use Rattle.delta.specs.Applied.{IsApplied}
 use Rattle.delta.specs.Delta.{Delta}
 use Rattle.delta.specs.Pairs.{Pair, EntryStandsFor, pair_with, pairs_from}
 use Rattle.delta.specs.Parts.{counted, inverse}
+use Rattle.delta.proofs.RisingIds.{Contains-to_map}
 use Rattle.delta.proofs.PartLaws.{undone-from, applied-back}
 use Rattle.history.specs.Steps.{stamped, AreGiven}
 use Rattle.history.specs.Undone.{AreElements, ArePairsOfElements, AreUndone, ComesBack}
-
-among-map : {X Y : Type 0} (f : X → Y) (xs : List X) (x : X) → Contains xs x → Contains (map f xs) (f x)
-among-map f [] x c = absurd (omega (arith, c.1))
-among-map f (y ∷ ys) x (zero, l, e) = (zero, omega arith, ap f e)
-among-map f (y ∷ ys) x (suc k, l, e) = let later = among-map f ys x (k, omega arith, e) in (suc later.0, omega (arith, later.1), later.2)
 
 -- a stored element is an element
 stored-is : (store : List Drawn) (id : List ℕ) (now : Drawn) → AreElements store → element_of store id ≡ Some now → IsElement now
@@ -37,8 +33,8 @@ module _ (parts : List Delta) (store given : List Drawn) (time nonce : ℕ) (are
           own.2,
           record {
             among = of.1;
-            stored = ap (element_of store) (sym of.3.id) ∙ own.3.stored;
-            undoes = undone-from own.0 of.0.before of.0.after both.0 both.1 of.3 own.1 own.2 (stored-is store own.0.id own.1 are own.3.stored) own.4.is_element own.4.applied;
+            stored = ap (element_of store) (sym of.2.stands.id) ∙ own.3.stored;
+            undoes = undone-from own.0 of.0.before of.0.after both.0 both.1 of.2.stands own.1 own.2 (stored-is store own.0.id own.1 are own.3.stored) own.4.is_element own.4.applied;
           },
           own.5,
           own.6,
@@ -53,8 +49,8 @@ module _ (parts : List Delta) (store given : List Drawn) (time nonce : ℕ) (are
             own.1,
             record {
               among = c;
-              stored = ap (element_of store) (sym of.2.id) ∙ own.2.stored;
-              undoes = undone-from of.0 pair.before pair.after both.0 both.1 of.2 own.0 own.1 (stored-is store of.0.id own.0 are own.2.stored) own.3.is_element own.3.applied;
+              stored = ap (element_of store) (sym of.2.stands.id) ∙ own.2.stored;
+              undoes = undone-from of.0 pair.before pair.after both.0 both.1 of.2.stands own.0 own.1 (stored-is store of.0.id own.0 are own.2.stored) own.3.is_element own.3.applied;
             },
             own.4,
           )
@@ -92,13 +88,13 @@ module _ (parts : List Delta) (store given : List Drawn) (time nonce : ℕ) (are
       let is = stored-is store now.id now are stored in
       let is' = counted-is (element_of old now.id) now is (λ e h. stored-is old now.id e olds h) in
       let pair = λ (x : Drawn). pair_with (element_of old x.id) x in
-      elim (stands.each_pair (pair now) (among-map pair store now (find-Some (is_of now.id) store now stored).0)) [
+      elim (stands.each_pair (pair now) (Contains-to_map pair store now (find-Some (is_of now.id) store now stored).0)) [
         | inl same ↦ inl (sym (same kind))
         | inr of ↦
             let own = gives.all of.0 of.1 in
-            let one : own.0 ≡ now = same_Some own.0 now (sym own.2.stored ∙ ap (element_of store) of.2.id ∙ stored) in
+            let one : own.0 ≡ now = same_Some own.0 now (sym own.2.stored ∙ ap (element_of store) of.2.stands.id ∙ stored) in
             let back : unstamped own.1 ≡ unstamped before =
-            applied-back of.0 before now is' is of.2 own.1 own.3.is_element (counted-id old now (element_of old now.id) refl) kind (subst (λ x. IsApplied (inverse of.0) x own.1) one own.3.applied) in
+            applied-back of.0 before now is' is of.2.stands own.1 own.3.is_element (counted-id old now (element_of old now.id) refl) kind (subst (λ x. IsApplied (inverse of.0) x own.1) one own.3.applied) in
             elim own.4 [
               | inl same ↦ inl (ap unstamped (sym one) ∙ same ∙ back)
               | inr among ↦ inr (stamped time nonce own.1, among, own.3.kept.id ∙ ap (λ (x : Drawn). x.id) one, back)

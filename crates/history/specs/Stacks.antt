@@ -1,17 +1,29 @@
 -- What can be undone and redone. This project's own, after Excalidraw's history.
-use Rattle.std.specs.Prelude.{◌≡◌, ◌≢◌, ℕ, List, [], ◌∷◌, ◌++◌, Contains, IsSome}
+use Rattle.std.specs.Prelude.{◌≡◌, ℕ, ◌+◌, ◌-◌, ◌<◌, min, List, [], ◌∷◌, ◌++◌, Bool, true, false, Option, Some, None, IfSome, length, take, drop, map, reverse, Contains, IsSome}
 use Rattle.board_io.specs.declared.stop.Stop.{Stop}
 use Rattle.board_io.specs.declared.stop.Stop.TheVariants.{Fault, Memory}
 use Rattle.elem.specs.Drawn.{Drawn}
 use Rattle.elem_store.specs.Updates.{element_of}
 use Rattle.delta.specs.Delta.{Delta}
+use Rattle.delta.specs.Parts.{inverses}
 use Rattle.delta.specs.declared.stamping.VersionFull.{VersionFull}
-use Rattle.history.specs.Steps.{IsStep, IsLeastFull}
+use Rattle.history.specs.declared.planned.HistoryStep.{HistoryStep}
+use Rattle.history.specs.Steps.{IsStep, IsLeastFull, IsSeen}
 
 -- the entries of a history, the next one to undo or to redo last
 pub record Stacks : Type 0 where
   pub undo : List (List Delta)
   pub redo : List (List Delta)
+
+-- A history as contracts see it: its stacks, each of which has room for the entries of both and so many more. "As before" is
+-- said of the stacks: room may have grown.
+pub record Recorded : Type 0 where
+  pub stacks : Stacks
+  pub spare : ℕ
+
+-- how many more entries fit in so much room for either stack, of which both together have so many
+abbrev pub spare_in : ℕ → ℕ → ℕ → ℕ
+spare_in undo_room redo_room count = min undo_room redo_room - count
 
 -- Each id of an entry is stored, and of each entry of a stack.
 abbrev pub HasStoredIds : List Drawn → List Delta → Type 0
@@ -21,27 +33,95 @@ abbrev pub HaveStoredIds : List Drawn → List (List Delta) → Type 0
 HaveStoredIds store stack = (parts : List Delta) → Contains stack parts → HasStoredIds store parts
 
 -- An entry that isn't empty is the next one to undo, and nothing can be redone; an empty one changes nothing.
-pub record HasNoted (old : Stacks) (entry : List Delta) (new : Stacks) : Type 0 where
-  pub undo : entry ≢ [] → new.undo ≡ old.undo ++ entry ∷ []
-  pub redo : entry ≢ [] → new.redo ≡ []
-  pub empty : entry ≡ [] → new ≡ old
+abbrev pub with_entry : List Delta → List (List Delta) → List (List Delta)
+with_entry [] stack = stack
+with_entry (part ∷ parts) stack = stack ++ (part ∷ parts) ∷ []
 
--- One step took the last entry from one stack, and put one that takes it back on the other stack.
-pub record HasStepped (store : List Drawn) (time nonce : ℕ) (given : List Drawn) (from to left grown : List (List Delta)) : Type 0 where
+abbrev pub redo_left : List Delta → List (List Delta) → List (List Delta)
+redo_left [] stack = stack
+redo_left (part ∷ parts) stack = []
+
+abbrev pub noted : List Delta → Stacks → Stacks
+noted entry stacks = record { undo = with_entry entry stacks.undo; redo = redo_left entry stacks.redo }
+
+-- None of these entries is seen on the store.
+abbrev pub AreUnseen : List Drawn → List (List Delta) → Type 0
+AreUnseen store stack = (parts : List Delta) → Contains stack parts → ¬ (IsSeen store parts)
+
+-- The topmost entry of a stack that is seen, what is below it and what is above it.
+pub record IsTopmostSeen (store : List Drawn) (stack below : List (List Delta)) (parts : List Delta) (above : List (List Delta)) : Type 0 where
+  pub split : stack ≡ below ++ parts ∷ above
+  pub seen : IsSeen store parts
+  pub unseen : AreUnseen store above
+
+-- One step took the topmost entry that is seen from one stack. Those above it went to the other stack one after another,
+-- inverted, and on them one that takes the step back.
+pub record HasStepped (store : List Drawn) (time nonce : ℕ) (given : List Drawn) (from to below grown : List (List Delta)) : Type 0 where
   pub parts : List Delta
+  pub above : List (List Delta)
   pub made : List Delta
-  pub popped : from ≡ left ++ parts ∷ []
-  pub pushed : grown ≡ to ++ made ∷ []
+  pub topmost : IsTopmostSeen store from below parts above
+  pub pushed : grown ≡ to ++ (map inverses (reverse above) ++ made ∷ [])
   pub step : IsStep parts store time nonce given made
 
--- The last entry of a stack would change the element of this id, which stands at the greatest version, and no lesser one.
+-- One undo, and one redo, from the stacks before to those after.
+abbrev pub HasUndone : List Drawn → ℕ → ℕ → List Drawn → Stacks → Stacks → Type 0
+HasUndone store time nonce given old new = HasStepped store time nonce given old.undo old.redo new.undo new.redo
+
+abbrev pub HasRedone : List Drawn → ℕ → ℕ → List Drawn → Stacks → Stacks → Type 0
+HasRedone store time nonce given old new = HasStepped store time nonce given old.redo old.undo new.redo new.undo
+
+-- The topmost entry of a stack that is seen would change the element of this id, which stands at the greatest version, and no
+-- lesser one.
 pub record StopsAt (store : List Drawn) (stack : List (List Delta)) (id : List ℕ) : Type 0 where
-  pub left : List (List Delta)
+  pub below : List (List Delta)
   pub parts : List Delta
-  pub last : stack ≡ left ++ parts ∷ []
+  pub above : List (List Delta)
+  pub topmost : IsTopmostSeen store stack below parts above
   pub full : IsLeastFull parts store id
 
 -- a fact about the id that a fault names
 abbrev pub OnFull : Stop VersionFull → (List ℕ → Type 0) → Type 0
 OnFull (Fault full) P = P full.0
 OnFull Memory P = Unit
+
+-- ---- a step that was planned
+-- a stack without its last entries, and these
+abbrev pub below_last : ℕ → List (List Delta) → List (List Delta)
+below_last count stack = take (length stack - count) stack
+
+abbrev pub last_of : ℕ → List (List Delta) → List (List Delta)
+last_of count stack = drop (length stack - count) stack
+
+-- the other stack once so many entries went to it and one that was made
+abbrev pub grown_by : ℕ → List Delta → List (List Delta) → List (List Delta) → List (List Delta)
+grown_by passed made from to = to ++ (map inverses (reverse (last_of passed from)) ++ made ∷ [])
+
+abbrev pub stepped : Bool → ℕ → Option (List Delta) → Stacks → Stacks
+stepped undo passed None stacks = stacks
+stepped true passed (Some made) stacks =
+    record { undo = below_last (passed + 1) stacks.undo; redo = grown_by passed made stacks.undo stacks.redo }
+stepped false passed (Some made) stacks =
+    record { undo = grown_by passed made stacks.redo stacks.undo; redo = below_last (passed + 1) stacks.redo }
+
+-- The stacks once a planned step is put: the pending entry is noted; where an entry was made, the entries that are passed over
+-- go to the other stack one after another, inverted, the next one goes, and the made one is put on the other stack.
+abbrev pub put_step : HistoryStep → Stacks → Stacks
+put_step step stacks = stepped step.undo step.passed step.made (noted step.pending stacks)
+
+abbrev pub side : Bool → Stacks → List (List Delta)
+side true stacks = stacks.undo
+side false stacks = stacks.redo
+
+-- Where an entry was made, the stack has more entries than are passed over, once the pending one is noted.
+abbrev pub FitsIn : HistoryStep → Stacks → Type 0
+FitsIn step stacks = IfSome step.made (λ made. step.passed < length (side step.undo (noted step.pending stacks)))
+
+-- what is planned for a stack: nothing where no entry is seen, or the step from the topmost one
+pub record IsPlanned (store : List Drawn) (time nonce : ℕ) (stack : List (List Delta)) (given : List Drawn) (made : List Delta) (passed : ℕ) : Type 0 where
+  pub below : List (List Delta)
+  pub parts : List Delta
+  pub above : List (List Delta)
+  pub topmost : IsTopmostSeen store stack below parts above
+  pub count : passed ≡ length above
+  pub step : IsStep parts store time nonce given made

@@ -25,10 +25,19 @@ pub record Reverts (part : Delta) (now reverted : Drawn) : Type 0 where
 abbrev pub Differ : Drawn → Drawn → Type 0
 Differ now reverted = unstamped now ≢ unstamped reverted
 
+-- Applying the inverse of a part changes an element, outside the stamp, that is live before or after.
+abbrev pub IsSeenPart : Delta → Drawn → Type 0
+IsSeenPart part now =
+    (reverted : Drawn) × Reverts part now reverted × Differ now reverted × ((now.deleted ≡ false) ⊎ (reverted.deleted ≡ false))
+
 -- This is the stored element of the id of an entry's part.
 pub record IsNow (parts : List Delta) (store : List Drawn) (part : Delta) (now : Drawn) : Type 0 where
   pub among : Contains parts part
   pub stored : element_of store part.id ≡ Some now
+
+-- An entry is seen on a store: applying its inverted parts changes, outside the stamp, an element that is live before or after.
+abbrev pub IsSeen : List Drawn → List Delta → Type 0
+IsSeen store parts = (part : Delta) × (now : Drawn) × IsNow parts store part now × IsSeenPart part now
 
 -- The elements that a step gives: of each part's id what the inverse of the part makes of the stored element, stamped, if it
 -- differs; in the order of their ids.

@@ -1,12 +1,13 @@
 //! A history.
 
-ghost use Rattle.std.specs.Prelude.{◌≡◌, ◌↔◌, ◌≤◌, List as Items, [], ◌∷◌, ◌++◌, Ok, length, IfErr, OnOk, OnErr};
+ghost use Rattle.std.specs.Prelude.{◌≡◌, ◌↔◌, ◌≤◌, ◌<◌, List as Items, [], Ok, IsOk, length, IfOk, IfErr, OnOk, OnErr};
 ghost use Rattle.elem.specs.Drawn.{Drawn};
 ghost use Rattle.elem.specs.Facts.{greatest_whole};
-ghost use Rattle.history.specs.Stacks.{HaveStoredIds, HasNoted, HasStepped, StopsAt, OnFull};
+ghost use Rattle.history.specs.Stacks.{HasStoredIds, HaveStoredIds, AreUnseen, HasUndone, HasRedone, StopsAt, OnFull, FitsIn, noted, put_step};
 
-use crate::step::{Step, take_back};
-use board_io::Stop;
+use crate::planned::{HistoryStep, note_within, shift, step_of};
+use crate::step::{Step, is_nothing, plan_back, plan_noted};
+use board_io::{List, Stop};
 use delta::{Entry, VersionFull};
 use elem_store::Store;
 use std::alloc::{AllocError, Global};
@@ -20,18 +21,22 @@ pub struct History {
 }
 
 impl Model for History {
-    ghost use Rattle.history.specs.Stacks.{Stacks};
+    ghost use Rattle.std.specs.Prelude.{◌+◌, vec_capacity, vec_len};
+    ghost use Rattle.history.specs.Stacks.{Recorded, spare_in};
 
-    ghost Value = { Stacks };
+    ghost Value = { Recorded };
 
-    ghost view = { λ h. record { undo = h.undo.items; redo = h.redo.items } };
+    ghost view = { λ h. record {
+      stacks = record { undo = h.undo.items; redo = h.redo.items };
+      spare = spare_in (vec_capacity h.undo) (vec_capacity h.redo) (vec_len h.undo + vec_len h.redo);
+    } };
 }
 
 impl History {
     /// With nothing to undo or redo.
     pub fn new(alloc: Global) -> History
-        ensures undo { result.undo ≡ [] }
-        ensures redo { result.redo ≡ [] }
+        ensures undo { result.stacks.undo ≡ [] }
+        ensures redo { result.stacks.redo ≡ [] }
     {
         History {
             undo: Vec::new(alloc),
@@ -41,66 +46,168 @@ impl History {
 
     /// How many entries can be undone. It takes no memory.
     pub fn undo_len(&self) -> u64
-        ensures { result ≡ length self.now.undo }
+        ensures { result ≡ length self.now.stacks.undo }
     {
         self.undo.len() as u64
     }
 
     /// How many entries can be redone. It takes no memory.
     pub fn redo_len(&self) -> u64
-        ensures { result ≡ length self.now.redo }
+        ensures { result ≡ length self.now.stacks.redo }
     {
         self.redo.len() as u64
     }
 
-    /// Makes an entry the next one to undo, after which nothing can be redone. An empty entry changes nothing. For want of
-    /// memory the history is unchanged.
-    pub fn note(&mut self, entry: Entry) -> Result<(), AllocError>
-        ensures ok { OnOk result (HasNoted self.old entry self.new) }
-        ensures err { OnErr result (self.new ≡ self.old) }
+    /// Makes room in each stack for the entries of both and one more. The stacks stay, also for want of memory.
+    pub fn reserve(&mut self) -> Result<(), AllocError>
+        ensures room { OnOk result (0 < self.new.spare) }
+        ensures kept { self.old.spare ≤ self.new.spare }
+        ensures stacks { self.new.stacks ≡ self.old.stacks }
     {
-        if entry.parts.as_slice().is_empty() {
-            return Ok(());
-        }
-        self.undo.push(entry)?;
-        self.redo.clear();
+        self.undo.reserve(self.redo.len() + 1)?;
+        self.redo.reserve(self.undo.len() + 1)
+    }
+
+    /// Makes an entry the next one to undo, after which nothing can be redone. An empty entry changes nothing. For want of
+    /// memory the stacks are unchanged; where there is room it takes none.
+    pub fn note(&mut self, entry: Entry) -> Result<(), AllocError>
+        ensures ok { OnOk result (self.new.stacks ≡ noted entry self.old.stacks) }
+        ensures room { 0 < self.old.spare → IsOk result }
+        ensures err { OnErr result (self.new.stacks ≡ self.old.stacks) }
+    {
+        self.undo.reserve(1)?;
+        note_within(&mut self.undo, &mut self.redo, entry);
         Ok(())
     }
 
-    /// Takes the last entry back from the stored elements, and gives those that change, stamped with this time and nonce, in
-    /// the order of their ids: whoever calls stores them. `Nothing` comes exactly where there is no entry. `VersionFull` names
-    /// the least id of those that would change and stand at the greatest version. Where the answer isn't Done the history is
-    /// unchanged.
+    /// Plans to note what is pending and then to undo. The step and the answer are those of these two calls: the topmost
+    /// entry that is seen is taken back from the stored elements, and those that change are given, stamped with this time and
+    /// nonce, in the order of their ids. `Nothing` comes exactly where no entry is seen. `VersionFull` names the least id of
+    /// those that would change and stand at the greatest version.
+    pub fn plan_undo(
+        &self,
+        pending: Entry,
+        store: &Store,
+        time: u64,
+        nonce: u64,
+    ) -> Result<(HistoryStep, Step), Stop<VersionFull>>
+        requires time { time ≤ greatest_whole }
+        requires nonce { nonce ≤ greatest_whole }
+        requires pending { HasStoredIds store.now.elements pending }
+        requires stored { HaveStoredIds store.now.elements self.now.stacks.undo }
+
+        ensures done { (step : HistoryStep) (given : Items Drawn) → result ≡ Ok (step, Step.Done given)
+            → HasUndone store.now.elements time nonce given (noted pending self.now.stacks) (put_step step self.now.stacks) }
+        ensures nothing { IfOk result (λ plan. (plan.1 ≡ Step.Nothing) ↔ AreUnseen store.now.elements (noted pending self.now.stacks).undo) }
+        ensures nothing_kept { (step : HistoryStep) → result ≡ Ok (step, Step.Nothing) → put_step step self.now.stacks ≡ noted pending self.now.stacks }
+        ensures fits { IfOk result (λ plan. FitsIn plan.0 self.now.stacks) }
+        ensures full { IfErr result (λ stop. OnFull stop (StopsAt store.now.elements (noted pending self.now.stacks).undo)) }
+    {
+        let alloc = *self.undo.allocator();
+        let plan = plan_noted(alloc, &pending, &self.undo, store, time, nonce)?;
+        Ok(step_of(pending, true, plan))
+    }
+
+    /// Plans to note what is pending and then to redo, as `plan_undo` does with the stacks exchanged.
+    pub fn plan_redo(
+        &self,
+        pending: Entry,
+        store: &Store,
+        time: u64,
+        nonce: u64,
+    ) -> Result<(HistoryStep, Step), Stop<VersionFull>>
+        requires time { time ≤ greatest_whole }
+        requires nonce { nonce ≤ greatest_whole }
+        requires stored { HaveStoredIds store.now.elements self.now.stacks.redo }
+
+        ensures done { (step : HistoryStep) (given : Items Drawn) → result ≡ Ok (step, Step.Done given)
+            → HasRedone store.now.elements time nonce given (noted pending self.now.stacks) (put_step step self.now.stacks) }
+        ensures nothing { IfOk result (λ plan. (plan.1 ≡ Step.Nothing) ↔ AreUnseen store.now.elements (noted pending self.now.stacks).redo) }
+        ensures nothing_kept { (step : HistoryStep) → result ≡ Ok (step, Step.Nothing) → put_step step self.now.stacks ≡ noted pending self.now.stacks }
+        ensures fits { IfOk result (λ plan. FitsIn plan.0 self.now.stacks) }
+        ensures full { IfErr result (λ stop. OnFull stop (StopsAt store.now.elements (noted pending self.now.stacks).redo)) }
+    {
+        let alloc = *self.redo.allocator();
+        if !is_nothing(&pending) {
+            return Ok(step_of(pending, false, None));
+        }
+        let plan = plan_back(alloc, &self.redo, store, time, nonce)?;
+        Ok(step_of(pending, false, plan))
+    }
+
+    /// Puts a planned step in place: notes what is pending; where an entry was made, moves the entries that are passed over
+    /// to the other stack, one after another and inverted, takes the next one away, and puts the made one on the other
+    /// stack. It takes no memory.
+    pub fn put(&mut self, step: HistoryStep)
+        requires spare { 0 < self.old.spare }
+        requires fits { FitsIn step self.old.stacks }
+        ensures { self.new.stacks ≡ put_step step self.old.stacks }
+    {
+        let HistoryStep {
+            pending,
+            made,
+            undo,
+            passed,
+        } = step;
+        note_within(&mut self.undo, &mut self.redo, pending);
+        match made {
+            Some(made) if undo => shift(&mut self.undo, &mut self.redo, passed, made),
+            Some(made) => shift(&mut self.redo, &mut self.undo, passed, made),
+            None => {}
+        }
+    }
+
+    /// Takes the topmost entry that is seen back from the stored elements, and gives those that change, stamped with this
+    /// time and nonce, in the order of their ids: whoever calls stores them. The entries above it go to the other stack,
+    /// inverted. `Nothing` comes exactly where no entry is seen. `VersionFull` names the least id of those that would change
+    /// and stand at the greatest version. Where the answer isn't Done the stacks are unchanged.
     pub fn undo(&mut self, store: &Store, time: u64, nonce: u64) -> Result<Step, Stop<VersionFull>>
         requires time { time ≤ greatest_whole }
         requires nonce { nonce ≤ greatest_whole }
-        requires stored { HaveStoredIds store.now.elements self.old.undo }
+        requires stored { HaveStoredIds store.now.elements self.old.stacks.undo }
 
         ensures done { (given : Items Drawn) → result ≡ Ok (Step.Done given)
-            → HasStepped store.now.elements time nonce given self.old.undo self.old.redo self.new.undo self.new.redo }
-        ensures nothing { (result ≡ Ok Step.Nothing) ↔ (self.old.undo ≡ []) }
-        ensures full { IfErr result (λ stop. OnFull stop (StopsAt store.now.elements self.old.undo)) }
+            → HasUndone store.now.elements time nonce given self.old.stacks self.new.stacks }
+        ensures nothing { IfOk result (λ step. (step ≡ Step.Nothing) ↔ AreUnseen store.now.elements self.old.stacks.undo) }
+        ensures full { IfErr result (λ stop. OnFull stop (StopsAt store.now.elements self.old.stacks.undo)) }
 
-        ensures nothing_kept { result ≡ Ok Step.Nothing → self.new ≡ self.old }
-        ensures err { OnErr result (self.new ≡ self.old) }
+        ensures nothing_kept { result ≡ Ok Step.Nothing → self.new.stacks ≡ self.old.stacks }
+        ensures err { OnErr result (self.new.stacks ≡ self.old.stacks) }
     {
-        take_back(&mut self.undo, &mut self.redo, store, time, nonce)
+        let nothing = nothing_pending(*self.undo.allocator());
+        self.reserve()?;
+        let (step, answer) = self.plan_undo(nothing, store, time, nonce)?;
+        self.put(step);
+        Ok(answer)
     }
 
-    /// Takes the last undo back, as `undo` does with the stacks exchanged.
+    /// Takes the topmost undo that is seen back, as `undo` does with the stacks exchanged.
     pub fn redo(&mut self, store: &Store, time: u64, nonce: u64) -> Result<Step, Stop<VersionFull>>
         requires time { time ≤ greatest_whole }
         requires nonce { nonce ≤ greatest_whole }
-        requires stored { HaveStoredIds store.now.elements self.old.redo }
+        requires stored { HaveStoredIds store.now.elements self.old.stacks.redo }
 
         ensures done { (given : Items Drawn) → result ≡ Ok (Step.Done given)
-            → HasStepped store.now.elements time nonce given self.old.redo self.old.undo self.new.redo self.new.undo }
-        ensures nothing { (result ≡ Ok Step.Nothing) ↔ (self.old.redo ≡ []) }
-        ensures full { IfErr result (λ stop. OnFull stop (StopsAt store.now.elements self.old.redo)) }
+            → HasRedone store.now.elements time nonce given self.old.stacks self.new.stacks }
+        ensures nothing { IfOk result (λ step. (step ≡ Step.Nothing) ↔ AreUnseen store.now.elements self.old.stacks.redo) }
+        ensures full { IfErr result (λ stop. OnFull stop (StopsAt store.now.elements self.old.stacks.redo)) }
 
-        ensures nothing_kept { result ≡ Ok Step.Nothing → self.new ≡ self.old }
-        ensures err { OnErr result (self.new ≡ self.old) }
+        ensures nothing_kept { result ≡ Ok Step.Nothing → self.new.stacks ≡ self.old.stacks }
+        ensures err { OnErr result (self.new.stacks ≡ self.old.stacks) }
     {
-        take_back(&mut self.redo, &mut self.undo, store, time, nonce)
+        let nothing = nothing_pending(*self.redo.allocator());
+        self.reserve()?;
+        let (step, answer) = self.plan_redo(nothing, store, time, nonce)?;
+        self.put(step);
+        Ok(answer)
+    }
+}
+
+/// An entry without parts.
+fn nothing_pending(alloc: Global) -> Entry
+    ensures { result ≡ [] }
+{
+    Entry {
+        parts: List::new(alloc),
     }
 }

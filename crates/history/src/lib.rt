@@ -3,7 +3,9 @@
 
 mod history;
 pub mod laws;
+mod planned;
 mod step;
 
 pub use history::History;
+pub use planned::HistoryStep;
 pub use step::Step;

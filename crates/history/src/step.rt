@@ -1,6 +1,6 @@
-//! One step: an undo, or a redo with the stacks exchanged.
+//! What taking an entry back comes to.
 
-ghost use Rattle.std.specs.Prelude.{◌≡◌, ◌≤◌, ◌↔◌, ◌++◌, [], ◌∷◌, List as Items, Some, Ok, true, IfOk, IfErr, OnOk, OnErr};
+ghost use Rattle.std.specs.Prelude.{◌≡◌, ◌≢◌, ◌⊎◌, ◌+◌, ◌<◌, ◌≤◌, ◌++◌, [], ◌∷◌, List as Items, Some, None, true, false, IfOk, IfErr, IfSome, OnOk};
 ghost use Rattle.elem.specs.Drawn.{Drawn};
 ghost use Rattle.elem.specs.Facts.{greatest_whole};
 ghost use Rattle.frac_keys.specs.Rising.{are_rising};
@@ -8,9 +8,11 @@ ghost use Rattle.delta.specs.Delta.{Delta};
 ghost use Rattle.delta.specs.Facts.{part_ids};
 ghost use Rattle.delta.specs.Parts.{StandsFor};
 ghost use Rattle.elem_store.specs.Updates.{element_of};
-ghost use Rattle.history.specs.Stacks.{HasStoredIds, HaveStoredIds, HasStepped, StopsAt, OnFull};
-ghost use Rattle.history.specs.Steps.{IsStep, IsFull, IsLeastFull, ComesOf};
+ghost use Rattle.history.specs.Places.{IsSeenAt};
+ghost use Rattle.history.specs.Stacks.{HasStoredIds, HaveStoredIds, AreUnseen, IsPlanned, StopsAt, OnFull, with_entry};
+ghost use Rattle.history.specs.Steps.{IsStep, IsFull, IsLeastFull, IsSeen, IsSeenPart, ComesOf, Differ, Reverts};
 
+use crate::planned::Plan;
 use board_io::{List, Stop};
 use delta::{AtLimit, Entry, Part, VersionFull, apply, difference, invert, stamp};
 use elem::{Element, same_but_stamp};
@@ -22,53 +24,178 @@ use std::alloc::{AllocError, Global};
 pub enum Step {
     /// These elements change, in the order of their ids.
     Done(List<Element>),
-    /// There was no entry.
+    /// No entry is seen.
     Nothing,
 }
 
-/// Takes the last entry of one stack back, and puts one that takes that back on the other stack.
-pub(crate) fn take_back(
-    from: &mut Vec<Entry>,
-    to: &mut Vec<Entry>,
+/// The plan for the topmost entry of a stack that is seen, if there is one, once an entry that isn't empty was put on it.
+pub(crate) fn plan_noted(
+    alloc: Global,
+    pending: &Entry,
+    stack: &Vec<Entry>,
     store: &Store,
     time: u64,
     nonce: u64,
-) -> Result<Step, Stop<VersionFull>>
+) -> Result<Option<Plan>, Stop<VersionFull>>
     requires time { time ≤ greatest_whole }
     requires nonce { nonce ≤ greatest_whole }
-    requires stored { HaveStoredIds store.now.elements from.old.items }
-
-    ensures done { (given : Items Drawn) → result ≡ Ok (Step.Done given)
-        → HasStepped store.now.elements time nonce given from.old.items to.old.items from.new.items to.new.items }
-    ensures nothing { (result ≡ Ok Step.Nothing) ↔ (from.old.items ≡ []) }
-    ensures full { IfErr result (λ stop. OnFull stop (StopsAt store.now.elements from.old.items)) }
-
-    ensures from_kept { result ≡ Ok Step.Nothing → from.new.items ≡ from.old.items }
-    ensures to_kept { result ≡ Ok Step.Nothing → to.new.items ≡ to.old.items }
-    ensures from_err { OnErr result (from.new.items ≡ from.old.items) }
-    ensures to_err { OnErr result (to.new.items ≡ to.old.items) }
+    requires pending { HasStoredIds store.now.elements pending.now }
+    requires stored { HaveStoredIds store.now.elements stack.now.items }
+    ensures none { IfOk result (λ plan. plan ≡ None → AreUnseen store.now.elements (with_entry pending.now stack.now.items)) }
+    ensures some { IfOk result (λ plan. IfSome plan (λ p. IsPlanned store.now.elements time nonce (with_entry pending.now stack.now.items) p.given p.made p.passed)) }
+    ensures full { IfErr result (λ stop. OnFull stop (StopsAt store.now.elements (with_entry pending.now stack.now.items))) }
 {
-    let alloc = *from.allocator();
-    let Some(entry) = from.last() else {
-        return Ok(Step::Nothing);
-    };
-    let plan = planned(alloc, entry, store, time, nonce)?;
-    to.push(plan.made)?;
-    from.pop();
-    Ok(Step::Done(plan.given))
+    if is_nothing(pending) {
+        plan_back(alloc, stack, store, time, nonce)
+    } else {
+        plan_over(alloc, pending, stack, store, time, nonce)
+    }
 }
 
-/// What a step comes to: the elements that change, and the entry that takes it back.
-#[derive(Drop)]
-struct Plan {
-    given: List<Element>,
-    made: Entry,
+/// Whether an entry has no part.
+pub(crate) fn is_nothing(entry: &Entry) -> bool
+    ensures nothing { result ≡ true → entry.now ≡ [] }
+    ensures more { result ≡ false → entry.now ≢ [] }
+{
+    entry.parts.as_slice().is_empty()
 }
 
-/// The step that takes an entry back.
+/// The plan for the topmost entry of a stack that is seen, if there is one, once an entry was put on it.
+fn plan_over(
+    alloc: Global,
+    pending: &Entry,
+    stack: &Vec<Entry>,
+    store: &Store,
+    time: u64,
+    nonce: u64,
+) -> Result<Option<Plan>, Stop<VersionFull>>
+    requires time { time ≤ greatest_whole }
+    requires nonce { nonce ≤ greatest_whole }
+    requires pending { HasStoredIds store.now.elements pending.now }
+    requires stored { HaveStoredIds store.now.elements stack.now.items }
+    ensures none { IfOk result (λ plan. plan ≡ None → AreUnseen store.now.elements (stack.now.items ++ pending.now ∷ [])) }
+    ensures some { IfOk result (λ plan. IfSome plan (λ p. IsPlanned store.now.elements time nonce (stack.now.items ++ pending.now ∷ []) p.given p.made p.passed)) }
+    ensures full { IfErr result (λ stop. OnFull stop (StopsAt store.now.elements (stack.now.items ++ pending.now ∷ []))) }
+{
+    let seen = is_seen(alloc, pending, store)?;
+    if seen {
+        let plan = planned(alloc, pending, 0, store, time, nonce)?;
+        return Ok(Some(plan));
+    }
+    match plan_back(alloc, stack, store, time, nonce)? {
+        Some(plan) => Ok(Some(with_one_more(plan))),
+        None => Ok(None),
+    }
+}
+
+/// The plan, with one more entry passed over.
+fn with_one_more(plan: Plan) -> Plan
+    requires { plan.passed < 18446744073709551615 }
+    ensures { result ≡ record plan { passed = plan.passed + 1 } }
+{
+    Plan {
+        passed: plan.passed + 1,
+        ..plan
+    }
+}
+
+/// The plan for the topmost entry of a stack that is seen, if there is one.
+pub(crate) fn plan_back(
+    alloc: Global,
+    stack: &Vec<Entry>,
+    store: &Store,
+    time: u64,
+    nonce: u64,
+) -> Result<Option<Plan>, Stop<VersionFull>>
+    requires time { time ≤ greatest_whole }
+    requires nonce { nonce ≤ greatest_whole }
+    requires stored { HaveStoredIds store.now.elements stack.now.items }
+    ensures none { IfOk result (λ plan. plan ≡ None → AreUnseen store.now.elements stack.now.items) }
+    ensures some { IfOk result (λ plan. IfSome plan (λ p. IsPlanned store.now.elements time nonce stack.now.items p.given p.made p.passed)) }
+    ensures passed { IfOk result (λ plan. IfSome plan (λ p. p.passed < 18446744073709551615)) }
+    ensures full { IfErr result (λ stop. OnFull stop (StopsAt store.now.elements stack.now.items)) }
+{
+    match topmost_seen(alloc, stack, store)? {
+        Some(i) => {
+            let entry = &stack[i];
+            let passed = (stack.len() - 1 - i) as u64;
+            let plan = planned(alloc, entry, passed, store, time, nonce)?;
+            Ok(Some(plan))
+        }
+        None => Ok(None),
+    }
+}
+
+/// The index of the topmost entry of a stack that is seen, if there is one.
+fn topmost_seen(
+    alloc: Global,
+    stack: &Vec<Entry>,
+    store: &Store,
+) -> Result<Option<usize>, AllocError>
+    requires { HaveStoredIds store.now.elements stack.now.items }
+    ensures none { IfOk result (λ found. found ≡ None → AreUnseen store.now.elements stack.now.items) }
+    ensures some { IfOk result (λ found. IfSome found (λ i. IsSeenAt store.now.elements stack.now.items i)) }
+{
+    let mut count = stack.len();
+    while 0 < count {
+        let last = count - 1;
+        let entry = &stack[last];
+        let seen = is_seen(alloc, entry, store)?;
+        if seen {
+            return Ok(Some(last));
+        }
+        count = last;
+    }
+    Ok(None)
+}
+
+/// Whether an entry is seen: its inverted parts change an element that is live before or after.
+fn is_seen(alloc: Global, entry: &Entry, store: &Store) -> Result<bool, AllocError>
+    requires { HasStoredIds store.now.elements entry.now }
+    ensures seen { IfOk result (λ seen. seen ≡ true → IsSeen store.now.elements entry.now) }
+    ensures unseen { IfOk result (λ seen. seen ≡ false → ¬ (IsSeen store.now.elements entry.now)) }
+{
+    for part in entry.parts.as_slice() {
+        let now = store.get(&part.id).unwrap();
+        let seen = is_part_seen(alloc, part, now)?;
+        if seen {
+            return Ok(true);
+        }
+    }
+    Ok(false)
+}
+
+/// Whether the inverse of a part changes an element, outside the stamp, that is live before or after.
+fn is_part_seen(alloc: Global, part: &Part, now: &Element) -> Result<bool, AllocError>
+    requires { part.now.id ≡ now.now.id }
+    ensures seen { IfOk result (λ seen. seen ≡ true → IsSeenPart part.now now.now) }
+    ensures unseen { IfOk result (λ seen. seen ≡ false → ¬ (IsSeenPart part.now now.now)) }
+{
+    let e = reverted(alloc, part, now)?;
+    Ok(is_shown_change(now, &e))
+}
+
+/// What the inverse of a part makes of an element.
+fn reverted(alloc: Global, part: &Part, now: &Element) -> Result<Element, AllocError>
+    requires { part.now.id ≡ now.now.id }
+    ensures { IfOk result (Reverts part.now now.now) }
+{
+    apply(alloc, &invert(part.try_clone()?), now)
+}
+
+/// Whether two elements differ outside the stamp and one of them is live.
+fn is_shown_change(now: &Element, e: &Element) -> bool
+    ensures shown { result ≡ true → Differ now.now e.now × ((now.now.deleted ≡ false) ⊎ (e.now.deleted ≡ false)) }
+    ensures hidden { result ≡ false → Differ now.now e.now → ((now.now.deleted ≡ false) ⊎ (e.now.deleted ≡ false)) → ⊥ }
+{
+    !same_but_stamp(now, e) && !(now.deleted && e.deleted)
+}
+
+/// The plan for an entry, so many of which are passed over.
 fn planned(
     alloc: Global,
     entry: &Entry,
+    passed: u64,
     store: &Store,
     time: u64,
     nonce: u64,
@@ -77,6 +204,7 @@ fn planned(
     requires nonce { nonce ≤ greatest_whole }
     requires stored { HasStoredIds store.now.elements entry.now }
     ensures ok { IfOk result (λ plan. IsStep entry.now store.now.elements time nonce plan.given plan.made) }
+    ensures passed { IfOk result (λ plan. plan.passed ≡ passed) }
     ensures full { IfErr result (λ stop. OnFull stop (λ id. IsLeastFull entry.now store.now.elements id)) }
 {
     let mut given = Vec::new(alloc);
@@ -90,6 +218,7 @@ fn planned(
         made: Entry {
             parts: List::from_vec(made),
         },
+        passed,
     })
 }
 
@@ -111,14 +240,14 @@ fn revert(
         → OnOk result (IsStep (parts ++ part.now ∷ []) store time nonce given.new.items made.new.items) }
     ensures full { IfErr result (λ stop. OnFull stop (λ id. (id ≡ part.now.id) × IsFull part.now now.now)) }
 {
-    if let Some(e) = reverted(alloc, part, now, time, nonce)? {
+    if let Some(e) = stamped(alloc, part, now, time, nonce)? {
         add(alloc, given, made, now, e)?;
     }
     Ok(())
 }
 
 /// The stored element after the inverse of the part was applied to it, stamped, if it then differs.
-fn reverted(
+fn stamped(
     alloc: Global,
     part: &Part,
     now: &Element,
@@ -131,7 +260,7 @@ fn reverted(
     ensures ok { IfOk result (ComesOf part.now now.now time nonce) }
     ensures full { IfErr result (λ stop. OnFull stop (λ id. (id ≡ part.now.id) × IsFull part.now now.now)) }
 {
-    let mut e = apply(alloc, &invert(part.try_clone()?), now)?;
+    let mut e = reverted(alloc, part, now)?;
     if same_but_stamp(now, &e) {
         return Ok(None);
     }

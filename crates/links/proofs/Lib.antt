@@ -1,6 +1,12 @@
+pub mod Among
 pub mod ArrowLaws
 pub mod EntryLaws
 pub mod Members
+pub mod Near
+pub mod RowEdits
+pub mod RowLaws
+pub mod RowPlaces
+pub mod RowSweep
 pub mod SettledLaws
 pub mod Sorting
 pub mod Tabled

@@ -1,5 +1,5 @@
 -- Rows in the order of their ids.
-use Rattle.std.proofs.Common.{◌≡◌, ℕ, zero, suc, ◌-◌, ◌≤◌, Bool, true, false, not, ◌&&◌, List, [], ◌∷◌, length, get_or, take, drop, filter, Ordering, is_lt, nat_cmp, bytes_eq, refl, sym, ap, ◌∙◌, arith, None}
+use Rattle.std.proofs.Common.{◌≡◌, ℕ, zero, suc, ◌-◌, ◌<◌, ◌≤◌, Bool, true, false, not, ◌&&◌, List, [], ◌∷◌, length, get_or, take, drop, filter, Ordering, is_lt, nat_cmp, bytes_eq, refl, sym, ap, ◌∙◌, arith, None}
 use Rattle.std.specs.List.Sorted.{IsSortedBy, IsStableBy, IsPartitionedBy, IsPartitionPoint, ties}
 use Rattle.std.specs.Cmp.{IsStrictWeakOrder}
 use Rattle.std.specs.Cmp.Lexicographic.{slice_cmp, nat_list_cmp_total, texts_ties}
@@ -53,49 +53,66 @@ module _ {X : Type 0} (below up_to among : X → Bool)
       omega arith
 
 -- ---- the order of rows
-less-order : IsStrictWeakOrder (λ a b. is_lt (slice_cmp nat_cmp a b))
+pub less-order : IsStrictWeakOrder (λ a b. is_lt (slice_cmp nat_cmp a b))
 less-order = ranks_by nat_list_cmp_total (λ a. a)
 
 pub row_less-order : IsStrictWeakOrder row_less
 row_less-order = ranks_by nat_list_cmp_total (λ (row : Row). row.key.now)
-
--- whether a row's id is less than another one, and whether it isn't greater
-abbrev pub is_below : List ℕ → Row → Bool
-is_below key row = is_lt (slice_cmp nat_cmp row.key.now key)
-
-abbrev pub is_up_to : List ℕ → Row → Bool
-is_up_to key row = is_le (slice_cmp nat_cmp row.key.now key)
 
 le_is : (o : Ordering) → is_le o ≡ not (is_lt (ordering_reverse o))
 le_is Less = refl
 le_is Equal = refl
 le_is Greater = refl
 
-up_to_is : (key : List ℕ) (row : Row) → is_up_to key row ≡ not (is_lt (slice_cmp nat_cmp key row.key.now))
-up_to_is key row = le_is (slice_cmp nat_cmp row.key.now key) ∙ ap (λ o. not (is_lt o)) (sym (nat_list_cmp_total.antisymm key row.key.now))
+-- whether an id is less than another one, and whether it isn't greater
+abbrev pub is_less : List ℕ → List ℕ → Bool
+is_less key id = is_lt (slice_cmp nat_cmp id key)
 
-module _ (rows : List Row) (key : List ℕ) (up : IsSortedBy row_less rows) where
-  pub below-partitioned : IsPartitionedBy (is_below key) rows
-  below-partitioned i j d l m h =
-      true_from_ne_false (is_below key (get_or rows i d))
-      (λ no. both_ways (is_below key (get_or rows j d)) (less-order.chain (get_or rows j d).key.now (get_or rows i d).key.now key (sorted_far row_less row_less-order rows up i j d l m) no) h)
+abbrev pub is_not_greater : List ℕ → List ℕ → Bool
+is_not_greater key id = is_le (slice_cmp nat_cmp id key)
 
-  pub up_to-partitioned : IsPartitionedBy (is_up_to key) rows
-  up_to-partitioned i j d l m h =
-      let not_less = not-true _ (sym (up_to_is key (get_or rows j d)) ∙ h) in
-      up_to_is key (get_or rows i d)
-      ∙ not_from_false _ (less-order.chain key (get_or rows j d).key.now (get_or rows i d).key.now not_less (sorted_far row_less row_less-order rows up i j d l m))
+pub not_greater-is : (key id : List ℕ) → is_not_greater key id ≡ not (is_lt (slice_cmp nat_cmp key id))
+not_greater-is key id = le_is (slice_cmp nat_cmp id key) ∙ ap (λ o. not (is_lt o)) (sym (nat_list_cmp_total.antisymm key id))
 
-before_is : (o : Ordering) → is_lt o ≡ true → is_eq o ≡ false
+-- things in the order of their ids
+module _ {X : Type 0} (id_of : X → List ℕ) (xs : List X) (key : List ℕ) (up : IsSortedBy (λ x y. is_lt (slice_cmp nat_cmp (id_of x) (id_of y))) xs) where
+  rises : (i j : ℕ) (d : X) → i ≤ j → j < length xs → is_lt (slice_cmp nat_cmp (id_of (get_or xs j d)) (id_of (get_or xs i d))) ≡ false
+  rises i j d l m = sorted_far (λ x y. is_lt (slice_cmp nat_cmp (id_of x) (id_of y))) (ranks_by nat_list_cmp_total id_of) xs up i j d l m
+
+  pub less-partitioned : IsPartitionedBy (λ x. is_less key (id_of x)) xs
+  less-partitioned i j d l m h =
+      true_from_ne_false (is_less key (id_of (get_or xs i d)))
+      (λ no. both_ways (is_less key (id_of (get_or xs j d))) (less-order.chain (id_of (get_or xs j d)) (id_of (get_or xs i d)) key (rises i j d l m) no) h)
+
+  pub not_greater-partitioned : IsPartitionedBy (λ x. is_not_greater key (id_of x)) xs
+  not_greater-partitioned i j d l m h =
+      let not_less = not-true _ (sym (not_greater-is key (id_of (get_or xs j d))) ∙ h) in
+      not_greater-is key (id_of (get_or xs i d))
+      ∙ not_from_false _ (less-order.chain key (id_of (get_or xs j d)) (id_of (get_or xs i d)) not_less (rises i j d l m))
+
+-- whether a row's id is less than another one, and whether it isn't greater
+abbrev pub is_below : List ℕ → Row → Bool
+is_below key row = is_less key row.key.now
+
+abbrev pub is_up_to : List ℕ → Row → Bool
+is_up_to key row = is_not_greater key row.key.now
+
+pub below-partitioned : (rows : List Row) (key : List ℕ) → IsSortedBy row_less rows → IsPartitionedBy (is_below key) rows
+below-partitioned rows key up = less-partitioned (λ (row : Row). row.key.now) rows key up
+
+pub up_to-partitioned : (rows : List Row) (key : List ℕ) → IsSortedBy row_less rows → IsPartitionedBy (is_up_to key) rows
+up_to-partitioned rows key up = not_greater-partitioned (λ (row : Row). row.key.now) rows key up
+
+pub before_is : (o : Ordering) → is_lt o ≡ true → is_eq o ≡ false
 before_is o h = grind arith
 
-at_is : (o : Ordering) → is_lt o ≡ false → is_le o ≡ true → is_eq o ≡ true
+pub at_is : (o : Ordering) → is_lt o ≡ false → is_le o ≡ true → is_eq o ≡ true
 at_is o h k = grind arith
 
-behind_is : (o : Ordering) → is_le o ≡ false → is_eq o ≡ false
+pub behind_is : (o : Ordering) → is_le o ≡ false → is_eq o ≡ false
 behind_is o h = grind arith
 
-less_is : (o : Ordering) → is_lt o ≡ true → is_le o ≡ true
+pub less_is : (o : Ordering) → is_lt o ≡ true → is_le o ≡ true
 less_is o h = grind arith
 
 turned_eq : (o : Ordering) → is_eq (ordering_reverse o) ≡ is_eq o

@@ -1,6 +1,8 @@
 pub mod Arrows
 pub mod Entries
 pub mod Names
+pub mod Rows
 pub mod Settled
+pub mod Steps
 pub mod Tables
 pub mod Texts

@@ -1,10 +1,11 @@
 //! Laws on settled links, for all lists of elements. They do nothing when they run.
 
-ghost use Rattle.std.specs.Prelude.{◌≡◌, List, map};
+ghost use Rattle.std.specs.Prelude.{◌≡◌, ℕ, List, Bool, All, Contains, IsTrue, find, filter, map};
 ghost use Rattle.elem.specs.Drawn.{Drawn};
 ghost use Rattle.links.specs.Arrows.{settled_arrows};
-ghost use Rattle.links.specs.Names.{HaveDistinctIds};
+ghost use Rattle.links.specs.Names.{has_id, HaveDistinctIds};
 ghost use Rattle.links.specs.Settled.{unlinked, unplaced, settled_links, ArrowsAgree, TextsAgree, HaveOneText, NameTargets};
+ghost use Rattle.links.specs.Steps.{is_within, near};
 ghost use Rattle.links.specs.Texts.{settled_texts};
 
 /// After texts and then arrows are settled, an arrow names an element exactly if that element lists it, a text names a
@@ -33,4 +34,19 @@ pub fn other_parts_stay()
 /// further members it leaves the same.
 pub fn other_parts_play_no_part()
     ensures { (list : List Drawn) → settled_links (map unplaced list) ≡ map unplaced (settled_links list) }
+{}
+
+/// What settling makes of an element rests on the elements at most three steps of naming from it alone: where these are
+/// among the elements that are settled, it makes the same of it.
+pub fn three_steps_are_enough()
+    ensures { (list : List Drawn) (among : Drawn → Bool) (id : List ℕ)
+        → HaveDistinctIds list → All (λ e. IsTrue (among e)) (near list id)
+        → find (has_id id) (settled_links (filter among list)) ≡ find (has_id id) (settled_links list) }
+{}
+
+/// Steps of naming lead back: an element is as near another one as that is to it.
+pub fn steps_lead_back()
+    ensures { (list : List Drawn) (n : ℕ) (e other : Drawn)
+        → HaveDistinctIds list → Contains list e → Contains list other
+        → is_within n list e.id other ≡ is_within n list other.id e }
 {}

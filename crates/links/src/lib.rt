@@ -3,11 +3,17 @@
 
 mod arrows;
 pub mod laws;
+mod link_table;
 mod listing;
 mod names;
 mod parts;
+mod row_places;
+mod rows;
 mod settle;
 mod table;
 mod texts;
 
+pub use link_table::LinkTable;
+pub use parts::{can_hold_text, is_target};
+pub use rows::{LinkRow, rows_of};
 pub use settle::{settle_arrows, settle_texts};

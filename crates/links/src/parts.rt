@@ -23,6 +23,13 @@ pub(crate) fn container_of(e: &Element) -> Option<&Text>
     e.container.as_ref()
 }
 
+/// The frame of an element.
+pub(crate) fn frame_of(e: &Element) -> Option<&Text>
+    ensures { option_copied result ≡ e.now.frame }
+{
+    e.frame.as_ref()
+}
+
 /// The listing of an element.
 pub(crate) fn bound_of(e: &Element) -> &List<BoundRef>
     ensures { result.now ≡ e.now.bound }
@@ -30,8 +37,8 @@ pub(crate) fn bound_of(e: &Element) -> &List<BoundRef>
     &e.bound
 }
 
-/// Whether an element may have a text.
-pub(crate) fn can_hold_text(e: &Element) -> bool
+/// Whether an element may be the container of a text: a rectangle, a diamond, an ellipse or an arrow. It takes no memory.
+pub fn can_hold_text(e: &Element) -> bool
     ensures { result ≡ names.can_hold_text e.now.kind }
 {
     matches!(
@@ -54,8 +61,9 @@ pub(crate) fn is_arrow(e: &Element) -> bool
     matches!(e.kind, Kind::Arrow)
 }
 
-/// Whether an element is a bindable target.
-pub(crate) fn is_target(e: &Element) -> bool
+/// Whether an arrow may be bound to an element: it is of a kind that may be bound to, and has no container. It takes no
+/// memory.
+pub fn is_target(e: &Element) -> bool
     ensures { result ≡ names.is_target e.now }
 {
     let kind = !matches!(

@@ -1,11 +1,12 @@
 //! Taking a list into a store.
 
-ghost use Rattle.std.specs.Prelude.{◌≡◌, ◌≤◌, List as Items, ◌++◌, length, vec_len, IfOk, OnOk, OnErr};
+ghost use Rattle.std.specs.Prelude.{◌≡◌, List as Items, ◌++◌, length, IfOk, OnOk, OnErr};
 ghost use Rattle.elem.specs.Drawn.{Drawn};
 ghost use Rattle.elem_store.specs.Updates.{AreStored};
 ghost use Rattle.reconcile.specs.Ids.{free_elements};
 
 use crate::held::Held;
+use board_io::List;
 use elem::Element;
 use elem_store::Store;
 use std::alloc::{AllocError, Global};
@@ -28,7 +29,7 @@ pub fn reconcile(
     let copies = free_copies(alloc, list, held)?;
     let count = copies.len();
     store.reserve(count)?;
-    take_each(store, copies);
+    store.take_all(List::from_vec(copies));
     Ok(count as u64)
 }
 
@@ -43,18 +44,4 @@ fn free_copies(alloc: Global, list: &[Element], held: &Held) -> Result<Vec<Eleme
         }
     }
     Ok(copies)
-}
-
-/// Takes the elements in their order, for each of which there is room.
-fn take_each(store: &mut Store, elements: Vec<Element>)
-    requires { vec_len elements ≤ store.old.spare }
-    ensures { (updates : Items Drawn) → AreStored updates store.old.elements
-        → AreStored (updates ++ elements.items) store.new.elements }
-{
-    for e in elements {
-        match store.take(e) {
-            Ok(_) => {}
-            Err(_) => unreachable!(),
-        }
-    }
 }

@@ -9,6 +9,7 @@ pub mod Nesting
 pub mod Once
 pub mod Ordered
 pub mod ReadBack
+pub mod SameHeads
 pub mod SceneTexts
 pub mod Sound
 pub mod Values

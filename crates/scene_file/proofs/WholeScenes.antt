@@ -85,7 +85,7 @@ lesser-whole (Some text) None first second = first
 lesser-whole (Some text) (Some other) first second =
     elim (bytes_less (quote other) (quote text)) as (λ b. IfSome (cond b (Some other) (Some text)) IsUtf8) [ true ↦ second | false ↦ first ]
 
-least-whole : (heads : List Heading) → All IsWholeHead heads → IfSome (least_source heads) IsUtf8
+pub least-whole : (heads : List Heading) → All IsWholeHead heads → IfSome (least_source heads) IsUtf8
 least-whole [] whole = tt
 least-whole (head ∷ heads) whole =
     lesser-whole head.source (least_source heads) (All-head IsWholeHead head heads whole).source (least-whole heads (All-tail IsWholeHead head heads whole))

@@ -1,6 +1,6 @@
 -- What a scene has beside its elements, and what the heads of several scenes are joined to. That the least text counts is
 -- this project's own.
-use Rattle.std.specs.Prelude.{◌≡◌, ℕ, List, [], ◌∷◌, Option, Some, None, flat_map, if◌then◌else◌}
+use Rattle.std.specs.Prelude.{◌≡◌, ◌↔◌, ℕ, List, [], ◌∷◌, false, Option, Some, None, Contains, flat_map, if◌then◌else◌}
 use Rattle.scene_json.specs.Characters.{quote}
 use Rattle.scene_json.specs.Compact.{Member as Pair}
 use Rattle.scene_json.specs.Members.{pairs}
@@ -44,3 +44,12 @@ pub record IsJoinedHead (heads : List Heading) (head : Heading) : Type 0 where
   pub source : head.source ≡ least_source heads
   pub app_state : AreFilesOf (settings_of heads) (pairs head.app_state)
   pub files : AreFilesOf (files_of heads) head.files
+
+-- A head has this source, and none has a lesser one.
+pub record IsLeastSource (heads : List Heading) (source : List ℕ) : Type 0 where
+  pub among : (head : Heading) × Contains heads head × (head.source ≡ Some source)
+  pub least : (head : Heading) (other : List ℕ) → Contains heads head → head.source ≡ Some other → bytes_less (quote other) (quote source) ≡ false
+
+-- The heads of the one list are those of the other one: order and repeats don't count.
+abbrev pub HaveSameHeads : List Heading → List Heading → Type 0
+HaveSameHeads heads others = (head : Heading) → Contains heads head ↔ Contains others head

@@ -1,13 +1,13 @@
 //! Laws on scenes and heads, for all of them. They do nothing when they run.
 
-ghost use Rattle.std.specs.Prelude.{◌≡◌, ◌⊎◌, ◌<◌, ◌≤◌, ℕ, List, ◌++◌, All, true, drop, flat_map, length, map};
+ghost use Rattle.std.specs.Prelude.{◌≡◌, ◌↔◌, ◌⊎◌, ◌<◌, ◌≤◌, ℕ, List, ◌++◌, All, Contains, true, Some, None, drop, flat_map, length, map};
 ghost use Rattle.scene_json.specs.Characters.{is_blank};
 ghost use Rattle.scene_json.specs.Value.{IsCompact};
 ghost use Rattle.elem.specs.Drawn.{Drawn};
 ghost use Rattle.elem_read.specs.Reading.{IsWhole};
 ghost use Rattle.elem_store.specs.Updates.{AreStored};
 ghost use Rattle.view.specs.Shown.{live_elements, shown};
-ghost use Rattle.scene_file.specs.Heads.{Heading, IsJoinedHead};
+ghost use Rattle.scene_file.specs.Heads.{Heading, HaveSameHeads, IsJoinedHead, IsLeastSource, least_source};
 ghost use Rattle.scene_file.specs.Reading.{IsSceneOf, IsSceneAt, IsFaultAt};
 ghost use Rattle.scene_file.specs.Scenes.{scene_text, state_text};
 ghost use Rattle.scene_file.specs.Texts.{IsSceneText};
@@ -50,6 +50,19 @@ pub fn joined_head_exists()
 pub fn joined_head_is_unique()
     ensures { (heads : List Heading) (head other : Heading)
         → IsJoinedHead heads head → IsJoinedHead heads other → head ≡ other }
+{}
+
+/// The joined head depends on the set of heads alone: their order and repeats don't count.
+pub fn joined_head_is_of_the_set()
+    ensures { (heads others : List Heading) (head : Heading)
+        → All IsWholeHead heads → HaveSameHeads heads others → IsJoinedHead heads head → IsJoinedHead others head }
+{}
+
+/// The source of a joined head is that of a head, and none is less; there is none exactly where no head has one.
+pub fn least_source_is_least()
+    ensures least { (heads : List Heading) (source : List ℕ) → least_source heads ≡ Some source → IsLeastSource heads source }
+    ensures none { (heads : List Heading) → (least_source heads ≡ None)
+        ↔ ((head : Heading) → Contains heads head → head.source ≡ None) }
 {}
 
 /// The text of what is shown of scenes is a compact text, which nests at most 128; and a compact text is written in each

@@ -204,7 +204,7 @@ fn push_quoted_byte(out: &mut Vec<u8>, byte: u8) -> Result<(), AllocError>
 }
 
 /// The digit of base 16, in lower case.
-fn hex_digit(value: u8) -> u8
+pub(crate) fn hex_digit(value: u8) -> u8
     requires { value < 16 }
     ensures { result ≡ Characters.hex_digit value }
 {

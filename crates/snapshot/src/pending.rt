@@ -53,6 +53,7 @@ fn note(
 
 /// Whether an element has changed, outside the stamp and without a change of its kind.
 fn has_changed(old: Option<&Element>, new: &Element) -> bool
+    requires { IfSome (option_copied old) (λ old. old.id ≡ new.now.id) }
     ensures changed { IsTrue result ↔ IsChanged (pair_with (option_copied old.entry) new.now) }
     ensures unchanged { result ≡ false → IsUnchanged (pair_with (option_copied old.entry) new.now) }
 {

@@ -1,7 +1,11 @@
 pub mod InOrder
-pub mod Originals
 pub mod Kept
 pub mod OrderLaws
 pub mod SceneOrder
 pub mod SettledLaws
 pub mod ShownLaws
+pub mod StepLaws
+pub mod ContentLaws
+pub mod CopyLaws
+pub mod Redrawn
+pub mod Followed

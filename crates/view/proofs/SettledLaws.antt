@@ -41,7 +41,7 @@ assembled linked other = record other {
   end_binding = linked.end_binding;
 }
 
-same_elements : (es fs : List Drawn) → map unplaced es ≡ map unplaced fs → map unlinked es ≡ map unlinked fs → es ≡ fs
+pub same_elements : (es fs : List Drawn) → map unplaced es ≡ map unplaced fs → map unlinked es ≡ map unlinked fs → es ≡ fs
 unfolding assembled
 same_elements [] [] linked others = refl
 same_elements [] (f ∷ fs) linked others = cc

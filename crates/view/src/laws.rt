@@ -5,6 +5,7 @@ ghost use Rattle.std.specs.List.{list_all};
 ghost use Rattle.frac_keys.specs.Rising.{are_rising};
 ghost use Rattle.elem.specs.Drawn.{Drawn};
 ghost use Rattle.elem.specs.Facts.{IsElement};
+ghost use Rattle.elem.specs.Order.{unstamped};
 ghost use Rattle.elem.specs.Said.{IsWritten};
 ghost use Rattle.index_repair.specs.Repair.{repaired};
 ghost use Rattle.elem_store.specs.Updates.{ids_of};
@@ -44,6 +45,13 @@ pub fn view_of_a_view_is_that_view()
     ensures { (live stored : List Drawn)
         → HaveDistinctIds live → HaveKeysOrNone live → IsTrue (list_all is_live live)
         → IsPermutation (shown live) stored → shown (live_elements stored) ≡ shown live }
+{}
+
+/// The stamps of elements play no part: lists that are the same but for versions, nonces and times are shown the same but
+/// for these.
+pub fn stamps_play_no_part()
+    ensures { (live others : List Drawn)
+        → map unstamped live ≡ map unstamped others → map unstamped (shown live) ≡ map unstamped (shown others) }
 {}
 
 /// What holds of every element holds of what is shown of elements, and of elements with repaired keys.

@@ -70,7 +70,7 @@ impl Link {
 
     /// The next text or binary message. Reads from the socket at most once.
     fn receive(&mut self, piece: &mut [u8]) -> Result<Option<Bytes>, Stop<Failed>> {
-        if !self.has_message()? && self.kept() <= KEPT {
+        if !self.has_message()? && self.may_read() {
             if !read_in(&self.socket, self.protocol.get_mut(), piece)? {
                 return Ok(None);
             }
@@ -83,6 +83,11 @@ impl Link {
         };
         self.message = None;
         Ok(Some(text))
+    }
+
+    /// Whether all that came was looked at, and the peer takes what it is sent.
+    fn may_read(&self) -> bool {
+        self.protocol.get_ref().input.len() == 0 && self.kept() <= KEPT
     }
 
     /// Whether a text or a binary message waits, after some of the frames that came. Pings are answered by the protocol.

@@ -1,10 +1,12 @@
 -- No change is of a member that an earlier one changed.
-use Rattle.std.proofs.Common.{◌≡◌, ◌+◌, ◌<◌, ◌≤◌, ◌++◌, ◌∷◌, [], bytes_eq, length, take, get_or, take_all, sym, ap, ◌∙◌, subst, arith}
+use Rattle.std.proofs.Common.{◌≡◌, true, ◌+◌, ◌<◌, ◌≤◌, ◌++◌, ◌∷◌, [], bytes_eq, length, take, get_or, take_all, sym, ap, ◌∙◌, subst, arith}
 use Rattle.std.specs.List.{AllByRecursion, IsDistinct}
 use Rattle.std.proofs.lemmas.List.{take_more}
 use Rattle.delta.specs.Applied.{Changes}
-use Rattle.delta.specs.Facts.{IsChange, change_names}
-use Rattle.delta.proofs.ChangeLaws.{Changes-none, Changes-more, distinct-before, each-change}
+use Rattle.delta.specs.Facts.{IsChange, change_names, name_of}
+use Rattle.delta.proofs.ChangeLaws.{Changes-none, Changes-more, each-change}
+use Rattle.delta.proofs.Placing.{none-earlier}
+use Rattle.frac_keys.specs.Rising.{are_rising}
 use Rattle.delta.proofs.applying.apply_all.Goals as goal
 
 pub loop-change-init : goal.loop-change-init
@@ -26,7 +28,7 @@ loop-change-preserved c =
     let more : take (i + 1) cs ≡ take i cs ++ change ∷ [] = take_more cs i change within ∙ ap (λ x. take i cs ++ x ∷ []) (sym here) in
     subst (λ xs. Changes xs c.args.e.now c.apply_change.new.e) (sym more)
     (Changes-more (take i cs) change c.args.e.now c.loop-change.e c.apply_change.new.e c.loop-change.invariant c.in_ok-apply_change.ensures
-    (distinct-before cs i change (subst (λ xs. IsDistinct bytes_eq (change_names xs)) (sym c.as_slice-change-items.ensures) c.requires.distinct) within here))
+    (none-earlier name_of cs i change (subst (λ xs. are_rising (change_names xs) ≡ true) (sym c.as_slice-change-items.ensures) c.requires.rise) within here))
 
 pub returns : goal.returns
 returns c =

@@ -23,4 +23,4 @@ returns c =
     let of = IsOf-scalar new name before after c.requires.free (subst (λ kind. IsScalar (header_named kind name) before) c.requires.kind c.in_ok-before.ensures.scalar) c.in_ok-after.ensures.scalar in
     OnOk-weaker c.add.result (c.add.new.changes.items ≡ with_change c.args.changes.now.items o) (Told old new (names ++ name ∷ []) c.add.new.changes.items)
     (λ made. Told-more old new names c.args.changes.now.items name told o c.add.new.changes.items between (subst (IsOf new name) (sym is) of) made)
-    c.add.ensures
+    (c.add.ensures told.rise)

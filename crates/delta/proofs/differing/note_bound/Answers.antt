@@ -15,4 +15,4 @@ returns c =
     c.in_ok-bound_change.ensures ∙ ap (λ xs. bound_change xs c.new.inside.bound) (ap (λ e. e.bound) c.old.view_is) ∙ ap (bound_change old.bound) (ap (λ e. e.bound) c.new.view_is) in
     OnOk-weaker c.add.result (c.add.new.changes.items ≡ with_change c.args.changes.now.items o) _
     (λ made. Told-more old new (codes "groupIds" ∷ []) c.args.changes.now.items (codes "boundElements") c.requires o c.add.new.changes.items is (subst (IsOf new (codes "boundElements")) (sym is) (IsOf-bound new old.bound new.bound)) made)
-    c.add.ensures
+    (c.add.ensures c.requires.rise)

@@ -17,7 +17,7 @@ loop-change-preserved c =
     let is = c.loop-change.invariant in
     rw add-one
     (ap (λ xs. set xs i c.exchange.new.change) is
-    ∙ partly-more cs i c.change-item.result c.exchange.new.change c.loop-change-test.true (c.exchange.ensures ∙ ap (λ xs. inverted (get_or xs i c.change-item.result)) is))
+    ∙ partly-more inverted cs i c.change-item.result c.exchange.new.change c.loop-change-test.true (c.exchange.ensures ∙ ap (λ xs. inverted (get_or xs i c.change-item.result)) is))
 
 whole : (c : goal.After-from_vec) → c.from_vec.result ≡ map inverted c.part.inside.changes
 whole c =
@@ -25,7 +25,7 @@ whole c =
     let items = c.loop-change.change-items in
     let long : length items ≡ c.into_vec-changes.result.len = c.loop-change.auto.change-items ∙ c.deref_mut-change-items.ensures.len in
     c.from_vec.ensures ∙ rw (← long) (take-append_seam items _)
-    ∙ c.loop-change.invariant ∙ partly-all cs c.loop-change.change-index c.loop-change-test.false
+    ∙ c.loop-change.invariant ∙ partly-all inverted cs c.loop-change.change-index c.loop-change-test.false
     ∙ ap (map inverted) (c.deref_mut-change-items.ensures.value ∙ c.into_vec-changes.ensures)
 
 pub invariant_of-result : goal.invariant_of-result

@@ -1,4 +1,4 @@
-use Rattle.std.proofs.Common.{◌≡◌, ◌<◌, ◌++◌, length, take_all, sym, ap, ◌∙◌, subst, append-nil, arith}
+use Rattle.std.proofs.Common.{◌<◌, ◌++◌, length, take_all, sym, ap, ◌∙◌, subst, append-nil, arith}
 use Rattle.std.specs.Str.{IsUtf8}
 use Rattle.std.proofs.lemmas.List.Elements.{All-more, All-same, All-nil}
 use Rattle.scene_json.specs.Compact.{member_text}

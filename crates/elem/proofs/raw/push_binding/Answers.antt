@@ -1,18 +1,17 @@
 -- The target stands between the further members whose names are less and the others.
-use Rattle.std.proofs.Common.{◌≡◌, Some, List, [], ◌∷◌, ◌++◌, codes, length, rules, sym, ap, ◌∙◌, subst, arith}
+use Rattle.std.proofs.Common.{◌≡◌, List, [], ◌∷◌, ◌++◌, codes, length, rules, subst, arith}
 use Rattle.std.proofs.lemmas.List.Elements.{recursion_from_All}
 use Rattle.std.specs.Str.{IsUtf8}
 use Rattle.scene_json.specs.Characters.{quote}
-use Rattle.scene_json.specs.Compact.{Member as Pair, object_text}
+use Rattle.scene_json.specs.Compact.{Member as Pair}
 use Rattle.scene_json.specs.Members.{pairs}
-use Rattle.scene_json.specs.Value.{IsCompact}
 use Rattle.scene_json.proofs.CompactLaws.{Value-deeper}
 use Rattle.scene_json.specs.declared.text.Member.{Member}
 use Rattle.elem.specs.Facts.{IsBinding}
 use Rattle.elem.specs.Printing.{IsBegun}
-use Rattle.elem.specs.Texts.{binding_text, sorted_members}
+use Rattle.elem.specs.Texts.{sorted_members}
 use Rattle.elem.proofs.Headers.{target_pair, merged-binding, binding-rises}
-use Rattle.elem.proofs.Merging.{Merged, merged, begun-step, merging-from, merging-step, merging-closed, nest-pairs, length-merged, sound-compact}
+use Rattle.elem.proofs.Merging.{Merged, begun-step, merging-from, merging-step, merging-closed, nest-pairs, length-merged, sound-compact}
 use Rattle.elem.proofs.raw.push_binding.Goals as goal
 use Rattle.elem.proofs.raw.push_binding.Goals.{In_ok-push}
 

@@ -1,19 +1,16 @@
 -- The members that are written are those of the element in the order of their names.
-use Rattle.std.proofs.Common.{◌≡◌, ℕ, suc, ◌+◌, get_or, ◌<◌, ◌≤◌, List, [], ◌∷◌, ◌++◌, length, map, drop, drop_of_length-le, drop-cons, add-one, refl, rules, sym, ap, ap₂, ◌∙◌, subst, arith}
+use Rattle.std.proofs.Common.{◌≡◌, ℕ, ◌+◌, get_or, ◌<◌, List, [], ◌∷◌, length, map, drop, drop_of_length-le, drop-cons, add-one, refl, rules, ap, ◌∙◌, subst, arith}
 use Rattle.std.specs.Str.{IsUtf8}
-use Rattle.std.specs.List.{AllByRecursion}
 use Rattle.std.proofs.lemmas.List.Elements.{recursion_from_All}
-use Rattle.scene_json.specs.Compact.{Member as Pair, object_text}
-use Rattle.scene_json.specs.Value.{IsCompact}
 use Rattle.scene_json.specs.declared.text.Member.{Member}
 use Rattle.elem.specs.declared.header.Header.{Header}
 use Rattle.elem.specs.declared.header.Header.TheVariants.{BoundElements}
 use Rattle.elem.specs.Drawn.{Drawn}
 use Rattle.elem.specs.Facts.{IsElement}
-use Rattle.elem.specs.Printing.{header_name, header_pair, headers_of, IsBegun, front}
+use Rattle.elem.specs.Printing.{header_name, header_pair, headers_of}
 use Rattle.elem.specs.Texts.{element_members}
 use Rattle.elem.proofs.Headers.{header_pairs, merged-element, length-members, element-compact, element-rises}
-use Rattle.elem.proofs.Merging.{Merging, Merged, merged, merging-from, merging-step, merging-closed, nest-pairs}
+use Rattle.elem.proofs.Merging.{Merging, Merged, merging-from, merging-step, merging-closed, nest-pairs}
 use Rattle.elem.proofs.Sorting.{are_rising-from}
 use Rattle.elem.proofs.raw.push_element.Goals as goal
 use Rattle.elem.proofs.raw.push_element.Goals.{In_ok-push}

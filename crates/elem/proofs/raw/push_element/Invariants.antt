@@ -1,6 +1,5 @@
 -- The members so far and those that are left are all members in the order of their names.
-use Rattle.std.proofs.Common.{◌≡◌, ℕ, List, ◌++◌, length, map, drop}
-use Rattle.scene_json.specs.Members.{pairs}
+use Rattle.std.proofs.Common.{map, drop}
 use Rattle.elem.proofs.Headers.{header_pairs}
 use Rattle.elem.proofs.Merging.{Merging}
 use Rattle.elem.specs.Printing.{header_pair}

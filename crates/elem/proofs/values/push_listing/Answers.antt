@@ -1,4 +1,4 @@
-use Rattle.std.proofs.Common.{◌≡◌, ◌<◌, ◌≤◌, inl, inr, sym, ap, ◌∙◌, subst, length, arith}
+use Rattle.std.proofs.Common.{◌<◌, inl, inr, ap, ◌∙◌, subst, length, arith}
 use Rattle.std.proofs.lemmas.List.Elements.{All-more}
 use Rattle.elem.specs.Texts.{bound_text}
 use Rattle.scene_json.specs.Value.{IsCompact}
