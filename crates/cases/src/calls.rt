@@ -1,0 +1,64 @@
+//! Calls below the top one, each asked for by a member of its name.
+
+use crate::elements::{push_applied, push_clashes, push_compared, push_element_of, push_message};
+use crate::keys::{
+    push_between, push_is_key, push_n_between, push_repaired, push_rising, push_walk,
+};
+use crate::values::{
+    push_default, push_first, push_pretty, push_restored, push_scanned, push_taken_apart,
+};
+use board_io::{List, Stop};
+use scene_json::{Member, Raw, Text, value_named};
+use std::alloc::Global;
+
+/// Appends what the call gave that the case asks for.
+pub fn push_call(alloc: Global, line: &mut Vec<u8>, case: &List<Member>) -> Result<(), Stop<Text>> {
+    if let Some(value) = value_named(case, "scan") {
+        push_scanned(alloc, line, case, value)
+    } else if let Some(value) = value_named(case, "n_between") {
+        push_n_between(alloc, line, case, value)
+    } else if let Some(value) = value_named(case, "walk") {
+        push_walk(alloc, line, case, value)
+    } else if let Some(value) = value_named(case, "key") {
+        push_is_key(alloc, line, value)
+    } else if let Some(value) = value_named(case, "between") {
+        push_between(alloc, line, value)
+    } else if let Some(value) = value_named(case, "repair") {
+        push_repaired(alloc, line, value)
+    } else if let Some(value) = value_named(case, "rising") {
+        push_rising(alloc, line, value)
+    } else {
+        push_value_call(alloc, line, case)
+    }
+}
+
+/// Appends what a call on values or elements gave.
+fn push_value_call(
+    alloc: Global,
+    line: &mut Vec<u8>,
+    case: &List<Member>,
+) -> Result<(), Stop<Text>> {
+    if let Some(value) = value_named(case, "element") {
+        push_element_of(alloc, line, value)
+    } else if let Some(value) = value_named(case, "message") {
+        push_message(alloc, line, value)
+    } else if let Some(value) = value_named(case, "clashes") {
+        push_clashes(alloc, line, value)
+    } else if let Some(value) = value_named(case, "compare") {
+        push_compared(alloc, line, value)
+    } else if let Some(value) = value_named(case, "apply") {
+        push_applied(alloc, line, value)
+    } else if let Some(value) = value_named(case, "pretty") {
+        push_pretty(alloc, line, value)
+    } else if let Some(value) = value_named(case, "parts") {
+        push_taken_apart(alloc, line, value)
+    } else if let Some(value) = value_named(case, "restore") {
+        push_restored(alloc, line, value)
+    } else if let Some(value) = value_named(case, "default") {
+        push_default(alloc, line, value)
+    } else if let Some(value) = value_named(case, "first") {
+        push_first(alloc, line, value)
+    } else {
+        Err(Stop::Fault(Text::fixed("member words")))
+    }
+}

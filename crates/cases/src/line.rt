@@ -1,0 +1,76 @@
+//! The line on each case.
+
+use crate::calls::push_call;
+use crate::given::{given, is_given, name_of};
+use crate::run::push_run;
+use board_io::{Bytes, Stop};
+use scene_json::{Raw, Text, members, push_quote, push_whole, scan, shaped, skip_space};
+use std::alloc::{AllocError, Global};
+
+/// A line on each case. Behind a text that is no JSON nothing more is read.
+pub fn lines(alloc: Global, cases: &[u8]) -> Result<Bytes, AllocError> {
+    let mut lines = Vec::new(alloc);
+    let mut rest = cases;
+    for number in 1..u64::MAX {
+        if skip_space(rest, 0) == rest.len() {
+            break;
+        }
+        match scan(alloc, rest, 0) {
+            Ok((value, after)) => {
+                push_line(alloc, &mut lines, number, &value)?;
+                rest = &rest[after..];
+            }
+            Err(Stop::Fault(fault)) => {
+                let words = Text::from_str(alloc, fault.words(alloc)?.as_str())?;
+                push_fault(&mut lines, number, &words)?;
+                break;
+            }
+            Err(Stop::Memory) => return Err(AllocError),
+        }
+    }
+    Ok(Bytes::from_vec(lines))
+}
+
+/// Appends the line on a case, or the one on its first fault.
+fn push_line(
+    alloc: Global,
+    lines: &mut Vec<u8>,
+    number: u64,
+    case: &Raw,
+) -> Result<(), AllocError> {
+    let mut line = Vec::new(alloc);
+    match push_answer(alloc, &mut line, case) {
+        Ok(()) => {
+            lines.append(&mut line)?;
+            lines.push(b'\n')?;
+            Ok(())
+        }
+        Err(Stop::Fault(fault)) => push_fault(lines, number, &fault),
+        Err(Stop::Memory) => Err(AllocError),
+    }
+}
+
+/// Appends the line on a text that is no case, by its number, counted from 1.
+fn push_fault(lines: &mut Vec<u8>, number: u64, fault: &Text) -> Result<(), AllocError> {
+    lines.extend_from_slice(b"{\"case\":")?;
+    push_whole(lines, number)?;
+    lines.extend_from_slice(b",\"fault\":")?;
+    push_quote(lines, fault)?;
+    lines.extend_from_slice(b"}\n")?;
+    Ok(())
+}
+
+/// Appends what a case is answered with: its name, and what its run or its call gave.
+fn push_answer(alloc: Global, line: &mut Vec<u8>, case: &Raw) -> Result<(), Stop<Text>> {
+    let case = given(shaped(members(alloc, case))?, "not an object")?;
+    let name = given(name_of(alloc, &case)?, "member name")?;
+    line.extend_from_slice(b"{\"name\":")?;
+    push_quote(line, &name)?;
+    if is_given(&case, "words") {
+        push_run(alloc, line, &case)?;
+    } else {
+        push_call(alloc, line, &case)?;
+    }
+    line.push(b'}')?;
+    Ok(())
+}

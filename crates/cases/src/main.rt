@@ -1,0 +1,34 @@
+//! A program for tests: each text of the standard input is a case, a run of the top call over memory or a call below it,
+//! and each line of the standard output is what one case was answered with.
+#![tactic(auto)]
+
+mod calls;
+mod elements;
+mod events;
+mod given;
+mod keys;
+mod line;
+mod run;
+mod told;
+mod values;
+
+use board_io::{StdSink, StdSource, read_all, write_all};
+use std::process::ExitCode;
+
+/// How many bytes the cases have at most.
+const LIMIT: usize = 67108864;
+
+/// Reads the cases, runs each, and writes the lines on them.
+fn main(rt: HostRuntime) -> ExitCode {
+    let alloc = rt.alloc();
+    let Ok(cases) = read_all(alloc, &mut StdSource::new(rt.stdin()), LIMIT) else {
+        return ExitCode::FAILURE;
+    };
+    let Ok(lines) = line::lines(alloc, cases.as_slice()) else {
+        return ExitCode::FAILURE;
+    };
+    match write_all(&mut StdSink::new(rt.stdout()), lines.as_slice()) {
+        Ok(()) => ExitCode::SUCCESS,
+        Err(_) => ExitCode::FAILURE,
+    }
+}

@@ -1,0 +1,166 @@
+//! A run of the top call over memory.
+
+use crate::events::{events_of, open_from};
+use crate::given::{bytes_named, given, number_or, numbers_of, words_of};
+use crate::told::{push_member_of, push_number, push_told};
+use board_io::{Bytes, LinkEvent, List, MemSink, MemSource, ScriptLinks, Stop};
+use commands::{Status, board};
+use scene_json::{Member, Text, push_comma, push_whole};
+use std::alloc::{AllocError, Global};
+
+/// How many bytes a source and a sink give and take at once, where the case doesn't say.
+const CHUNK: u64 = 7;
+
+/// How many bytes the output has room for, where the case doesn't say.
+const ROOM: u64 = 1000000;
+
+/// How many bytes the notes have room for.
+const NOTES_ROOM: usize = 10000;
+
+/// The greatest number that a case may give for either of them.
+const GREATEST: u64 = 67108864;
+
+/// What a run reads from and writes to.
+#[derive(Drop)]
+struct Ends {
+    input: MemSource,
+    output: MemSink,
+    notes: MemSink,
+    links: ScriptLinks,
+}
+
+/// Appends how the run of a case ended: its status, output and notes, the port that was listened on, and what was sent.
+pub fn push_run(alloc: Global, line: &mut Vec<u8>, case: &List<Member>) -> Result<(), Stop<Text>> {
+    let words = given(words_of(alloc, case)?, "member words")?;
+    let mut ends = ends_of(alloc, case)?;
+    let status = run(alloc, words.as_slice(), &mut ends);
+    push_ended(alloc, line, status, &ends)?;
+    Ok(())
+}
+
+/// Runs the board over these ends.
+fn run(alloc: Global, words: &[Bytes], ends: &mut Ends) -> Status {
+    board(
+        alloc,
+        words,
+        &mut ends.input,
+        &mut ends.output,
+        &mut ends.notes,
+        &mut ends.links,
+    )
+}
+
+/// Appends the status that a run ended with, and what its ends have then.
+fn push_ended(
+    alloc: Global,
+    line: &mut Vec<u8>,
+    status: Status,
+    ends: &Ends,
+) -> Result<(), AllocError> {
+    push_number(line, "status", u64::from(status.code()))?;
+    push_member_of(line, "output")?;
+    push_told(alloc, line, ends.output.held(), b"\n")?;
+    push_member_of(line, "notes")?;
+    push_told(alloc, line, ends.notes.held(), b"\n")?;
+    push_port(line, ends.links.port())?;
+    push_sent(alloc, line, ends.links.sent())
+}
+
+/// The ends that the case tells.
+fn ends_of(alloc: Global, case: &List<Member>) -> Result<Ends, Stop<Text>> {
+    let chunk = given(chunk_of(case), "member chunk")?;
+    Ok(Ends {
+        input: input_of(alloc, case, chunk)?,
+        output: output_of(alloc, case, chunk)?,
+        notes: notes_of(alloc, case, chunk)?,
+        links: links_of(alloc, case)?,
+    })
+}
+
+/// How many bytes are given and taken at once.
+fn chunk_of(case: &List<Member>) -> Option<usize> {
+    match number_or(case, "chunk", CHUNK) {
+        Some(chunk) if 1 <= chunk && chunk <= GREATEST => Some(chunk as usize),
+        _ => None,
+    }
+}
+
+/// How many bytes the output has room for.
+fn room_of(case: &List<Member>) -> Option<usize> {
+    match number_or(case, "room", ROOM) {
+        Some(room) if room <= GREATEST => Some(room as usize),
+        _ => None,
+    }
+}
+
+/// The input of the case, as a source that fails at the listed reads.
+fn input_of(alloc: Global, case: &List<Member>, chunk: usize) -> Result<MemSource, Stop<Text>> {
+    let bytes = given(bytes_named(alloc, case, "input")?, "member input")?;
+    let reads = given(numbers_of(alloc, case, "reads")?, "member reads")?;
+    Ok(MemSource::new(bytes, chunk.max(1), reads))
+}
+
+/// The output of the case, as a sink that fails at the listed writes.
+fn output_of(alloc: Global, case: &List<Member>, chunk: usize) -> Result<MemSink, Stop<Text>> {
+    let room = given(room_of(case), "member room")?;
+    let writes = given(numbers_of(alloc, case, "writes")?, "member writes")?;
+    Ok(MemSink::new(alloc, chunk.max(1), room, writes)?)
+}
+
+/// The notes of the case, as a sink that fails at the listed writes.
+fn notes_of(alloc: Global, case: &List<Member>, chunk: usize) -> Result<MemSink, Stop<Text>> {
+    let writes = given(numbers_of(alloc, case, "notes")?, "member notes")?;
+    Ok(MemSink::new(alloc, chunk.max(1), NOTES_ROOM, writes)?)
+}
+
+/// The links of the case: their events, and the calls that fail or find their link gone.
+fn links_of(alloc: Global, case: &List<Member>) -> Result<ScriptLinks, Stop<Text>> {
+    let events = given(events_of(alloc, case)?, "member events")?;
+    let fails = given(numbers_of(alloc, case, "links")?, "member links")?;
+    let gone = given(numbers_of(alloc, case, "gone")?, "member gone")?;
+    given(links_over(alloc, events, fails, gone), "member events")
+}
+
+/// Links of these events, if the links that they open are numbered from 0.
+fn links_over(
+    alloc: Global,
+    events: List<LinkEvent>,
+    fails: List<u64>,
+    gone: List<u64>,
+) -> Option<ScriptLinks> {
+    if open_from(0, events.as_slice()) {
+        Some(ScriptLinks::new(alloc, events, fails, gone))
+    } else {
+        None
+    }
+}
+
+/// Appends the port that was listened on, null where there was none.
+fn push_port(line: &mut Vec<u8>, port: Option<u16>) -> Result<(), AllocError> {
+    match port {
+        Some(port) => push_number(line, "port", u64::from(port)),
+        None => line.extend_from_slice(b",\"port\":null"),
+    }
+}
+
+/// Appends the pairs of link and text that were sent.
+fn push_sent(alloc: Global, line: &mut Vec<u8>, sent: &[(u64, Bytes)]) -> Result<(), AllocError> {
+    push_member_of(line, "sent")?;
+    line.push(b'[')?;
+    for (i, (link, text)) in sent.iter().enumerate() {
+        push_comma(line, i)?;
+        push_pair(alloc, line, *link, text)?;
+    }
+    line.push(b']')?;
+    Ok(())
+}
+
+/// Appends a link and the text that was sent over it.
+fn push_pair(alloc: Global, line: &mut Vec<u8>, link: u64, text: &Bytes) -> Result<(), AllocError> {
+    line.push(b'[')?;
+    push_whole(line, link)?;
+    line.push(b',')?;
+    push_told(alloc, line, text.as_slice(), b"")?;
+    line.push(b']')?;
+    Ok(())
+}

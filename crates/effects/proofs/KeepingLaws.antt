@@ -1,0 +1,76 @@
+-- No effect changes an element's id, kind, version or file.
+use Rattle.std.proofs.Common.{◌≡◌, ℕ, Bool, true, false, ◌&&◌, List, Option, Some, None, bytes_eq, if◌then◌else◌, nat_cmp, refl, ◌∙◌}
+use Rattle.std.specs.BTreeSet.{contains}
+use Rattle.std.specs.Cmp.Lexicographic.{slice_cmp}
+use Rattle.elem.specs.declared.kind.Kind.{Kind}
+use Rattle.elem.specs.declared.parts.BoundRef.{BoundRef}
+use Rattle.elem.specs.declared.parts.Binding.{Binding}
+use Rattle.elem.specs.Drawn.{Drawn}
+use Rattle.links.specs.Names.{is_id, is_arrow, is_text, target_of}
+use Rattle.effects.specs.declared.command.Side.{Side}
+use Rattle.effects.specs.declared.command.Side.TheVariants.{Start, End}
+use Rattle.effects.specs.declared.effect.Effect.{Effect}
+use Rattle.effects.specs.declared.effect.Effect.TheVariants as effects
+use Rattle.effects.specs.Deleting.{without_names}
+use Rattle.effects.specs.Effects.{with_group, without_group}
+use Rattle.effects.specs.Linking.{listed, unlisted, with_entry, without_entry, with_end, with_end_of, with_container_of, with_text_of, with_text_alone, without_container_of}
+use Rattle.effects.specs.Prepared.{made_by, settled_in}
+use Rattle.effects.specs.Settings.{with_member}
+
+-- what an element is
+pub record Self : Type 0 where
+  pub id : List ℕ
+  pub kind : Kind
+  pub version : ℕ
+  pub file : Option (List ℕ)
+
+abbrev pub self_of : Drawn → Self
+self_of e = record { id = e.id; kind = e.kind; version = e.version; file = e.file }
+
+one_of : (b : Bool) (e x y : Drawn) → self_of x ≡ self_of e → self_of y ≡ self_of e → self_of (if b then x else y) ≡ self_of e
+one_of true e x y p q = p
+one_of false e x y p q = q
+
+with_end-keeps : (side : Side) (binding : Option Binding) (e : Drawn) → self_of (with_end side binding e) ≡ self_of e
+with_end-keeps Start binding e = refl
+with_end-keeps End binding e = refl
+
+listed-keeps : (id : Option (List ℕ)) (entry : BoundRef) (e : Drawn) → self_of (listed id entry e) ≡ self_of e
+listed-keeps id entry e = one_of (is_id e.id id) e (record e { bound = with_entry entry e.bound }) e refl refl
+
+unlisted-keeps : (id : Option (List ℕ)) (entry : BoundRef) (e : Drawn) → self_of (unlisted id entry e) ≡ self_of e
+unlisted-keeps id entry e = one_of (is_id e.id id) e (record e { bound = without_entry entry e.bound }) e refl refl
+
+with_end_of-keeps : (arrow : List ℕ) (side : Side) (binding : Option Binding) (e : Drawn) → self_of (with_end_of arrow side binding e) ≡ self_of e
+with_end_of-keeps arrow side binding e = one_of (bytes_eq arrow e.id && is_arrow e.kind) e (with_end side binding e) e (with_end-keeps side binding e) refl
+
+with_container_of-keeps : (text container : List ℕ) (e : Drawn) → self_of (with_container_of text container e) ≡ self_of e
+with_container_of-keeps text container e =
+    one_of (bytes_eq text e.id && is_text e.kind) e (record e { container = Some container }) (if is_id container e.container then record e { container = None } else e) refl
+    (one_of (is_id container e.container) e (record e { container = None }) e refl refl)
+
+with_text_of-keeps : (text container : List ℕ) (e : Drawn) → self_of (with_text_of text container e) ≡ self_of e
+with_text_of-keeps text container e = one_of (bytes_eq container e.id) e (record e { bound = with_text_alone text e.bound }) e refl refl
+
+without_container_of-keeps : (text : List ℕ) (e : Drawn) → self_of (without_container_of text e) ≡ self_of e
+without_container_of-keeps text e = one_of (bytes_eq text e.id) e (record e { container = None }) e refl refl
+
+pub made_by-keeps : (effect : Effect) (e : Drawn) → self_of (made_by effect e) ≡ self_of e
+made_by-keeps (effects.Settle keys) e = refl
+made_by-keeps (effects.Place keys id key) e = one_of (bytes_eq id e.id) e (record (settled_in keys e) { index = key }) (settled_in keys e) refl refl
+made_by-keeps (effects.Set id name value) e = one_of (bytes_eq id e.id) e (with_member name value e) e refl refl
+made_by-keeps (effects.Delete ids) e =
+    one_of (contains (slice_cmp nat_cmp) ids e.id) e (record e { deleted = true }) (without_names (contains (slice_cmp nat_cmp) ids) e) refl refl
+made_by-keeps (effects.Link link) e =
+    unlisted-keeps link.old link.entry (listed (target_of link.binding) link.entry (with_end_of link.arrow link.side link.binding e))
+    ∙ listed-keeps (target_of link.binding) link.entry (with_end_of link.arrow link.side link.binding e)
+    ∙ with_end_of-keeps link.arrow link.side link.binding e
+made_by-keeps (effects.Label label) e =
+    unlisted-keeps label.old label.entry (with_text_of label.text label.container (with_container_of label.text label.container e))
+    ∙ with_text_of-keeps label.text label.container (with_container_of label.text label.container e)
+    ∙ with_container_of-keeps label.text label.container e
+made_by-keeps (effects.Unlabel text old entry) e =
+    unlisted-keeps old entry (without_container_of text e) ∙ without_container_of-keeps text e
+made_by-keeps (effects.Frame ids frame) e = one_of (contains (slice_cmp nat_cmp) ids e.id) e (record e { frame = frame }) e refl refl
+made_by-keeps (effects.Group ids group) e = one_of (contains (slice_cmp nat_cmp) ids e.id) e (record e { groups = with_group group e.groups }) e refl refl
+made_by-keeps (effects.Ungroup ids group) e = one_of (contains (slice_cmp nat_cmp) ids e.id) e (record e { groups = without_group group e.groups }) e refl refl

@@ -1,0 +1,9 @@
+pub mod ChangedLaws
+pub mod DeletingLaws
+pub mod DifferingLaws
+pub mod FirstLaws
+pub mod KeepingLaws
+pub mod PlacingLaws
+pub mod SettingLaws
+pub mod WalkingLaws
+pub mod PreparingLaws

@@ -1,0 +1,11 @@
+pub mod Changed
+pub mod Deleting
+pub mod Differing
+pub mod Effects
+pub mod Limits
+pub mod Linking
+pub mod Naming
+pub mod Placing
+pub mod Prepared
+pub mod Refusals
+pub mod Settings

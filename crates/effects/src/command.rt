@@ -1,0 +1,104 @@
+//! The commands of a user.
+
+use board_io::List;
+use elem::Element;
+use scene_json::{Member, Raw, Text};
+
+/// An end of an arrow.
+#[derive(Clone, Copy, Debug, PartialEq, Eq)]
+pub enum Side {
+    Start,
+    End,
+}
+
+/// A place in the order of a scene.
+#[derive(Drop)]
+pub enum Spot {
+    /// Below all others.
+    Bottom,
+    /// Above all others.
+    Top,
+    /// Directly above the element of this id.
+    After(Text),
+}
+
+/// What a user asks of a board. An id is live if its element is stored and isn't deleted.
+#[derive(Drop)]
+pub enum Command {
+    /// The element becomes a new one, at a place in the order. Its other members are as given.
+    Create {
+        element: Element,
+        spot: Spot,
+    },
+    /// A member gets a value; null gives the default where there is one.
+    Set {
+        id: Text,
+        member: Text,
+        value: Raw,
+    },
+    /// The elements become deleted, and nothing live names them.
+    Delete {
+        ids: List<Text>,
+    },
+    /// The element gets a place in the order.
+    Place {
+        id: Text,
+        spot: Spot,
+    },
+    /// An end of an arrow is bound to a target, with these further members of the binding.
+    Bind {
+        arrow: Text,
+        side: Side,
+        target: Text,
+        rest: List<Member>,
+    },
+    /// An end of an arrow is bound to nothing.
+    Unbind {
+        arrow: Text,
+        side: Side,
+    },
+    /// The text becomes the one of a container.
+    Label {
+        container: Text,
+        text: Text,
+    },
+    /// The text has no container.
+    Unlabel {
+        text: Text,
+    },
+    /// The elements are in a frame.
+    Frame {
+        ids: List<Text>,
+        frame: Text,
+    },
+    /// The elements are in no frame.
+    Unframe {
+        ids: List<Text>,
+    },
+    /// The elements are in a group.
+    Group {
+        ids: List<Text>,
+        group: Text,
+    },
+    /// The elements aren't in the group.
+    Ungroup {
+        ids: List<Text>,
+        group: Text,
+    },
+}
+
+/// Why a command changes nothing. Of several causes the first of this order is told, and for one cause the first id in the
+/// order of the command's fields.
+#[derive(Drop)]
+pub enum Refusal {
+    /// The id of a new element is stored, maybe as deleted.
+    Exists(Text),
+    /// No live element has the id.
+    NoElement(Text),
+    /// The element isn't of a kind that the command is for.
+    WrongKind(Text),
+    /// The member has a command of its own, or none.
+    Protected(Text),
+    /// The element of this id would change and has the greatest version; it is the least of such ids.
+    VersionFull(Text),
+}

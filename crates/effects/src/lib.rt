@@ -1,0 +1,18 @@
+//! What a command of a user changes on a board: the changed elements, or why it is refused.
+#![tactic(auto)]
+
+mod changing;
+mod command;
+mod deleting;
+mod effect;
+mod framing;
+mod kinds;
+mod linking;
+mod placing;
+mod preparing;
+mod refusing;
+mod setting;
+mod walking;
+
+pub use changing::changed;
+pub use command::{Command, Refusal, Side, Spot};

@@ -1,0 +1,246 @@
+//! Keys of the scene's order: settled ones, and those at a spot.
+
+ghost use Rattle.std.specs.Prelude.{◌≡◌, List as Items, [], ◌∷◌, ◌++◌, ◌↔◌, ◌&&◌, not, true, IsTrue, IfOk, IfSome, OnOk, option_copied, bytes_eq};
+ghost use Rattle.std.specs.Cmp.Lexicographic.{slice_cmp};
+ghost use Rattle.std.specs.Option.{unwrap_or};
+ghost use Rattle.std.specs.Ordering.{nat_cmp};
+ghost use Rattle.frac_keys.specs.Rising.{ends_rise, lies_between};
+ghost use Rattle.elem.specs.Drawn.{Drawn};
+ghost use Rattle.view.specs.Shown.{HaveRisingKeys};
+ghost use Rattle.effects.specs.Placing as placing;
+ghost use Rattle.effects.specs.Placing.{others, key_within, key_at, gap_of, with_key_of};
+ghost use Rattle.effects.specs.Prepared.{HasKeys, settled_in};
+
+use crate::command::Spot;
+use elem::Element;
+use frac_keys::{Key, between};
+use scene_json::Text;
+use std::alloc::{AllocError, Global};
+use std::collections::BTreeMap;
+
+/// The keys of elements by their ids.
+pub(crate) type Keys = BTreeMap<Text, Option<Key>>;
+
+/// The keys beside a spot: of the element below it and of the one above it.
+#[derive(Clone, Copy)]
+pub(crate) struct Gap<'a> {
+    low: Option<&'a Key>,
+    high: Option<&'a Key>,
+}
+
+/// The keys of the elements by their ids; of one id the first counts.
+pub(crate) fn keys_of(alloc: Global, elements: &[Element]) -> Result<Keys, AllocError>
+    ensures { IfOk result (λ keys. HasKeys keys elements.now) }
+{
+    let mut keys = BTreeMap::new(alloc);
+    for e in elements {
+        note_key(&mut keys, e)?;
+    }
+    Ok(keys)
+}
+
+/// Adds the key of one more element.
+fn note_key(keys: &mut Keys, e: &Element) -> Result<(), AllocError>
+    ensures { OnOk result ((elements : Items Drawn) → HasKeys keys.old elements → HasKeys keys.new (elements ++ e.now ∷ [])) }
+{
+    if keys.get(&e.id).is_some() {
+        return Ok(());
+    }
+    let key = key_copied(&e.index)?;
+    keys.insert(e.id.try_clone()?, key)?;
+    Ok(())
+}
+
+/// A key, copied, if there is one.
+fn key_copied(key: &Option<Key>) -> Result<Option<Key>, AllocError>
+    ensures { IfOk result (λ copy. copy ≡ key.now) }
+{
+    key.as_ref().map(Key::try_clone).transpose()
+}
+
+/// The element with its key among these, or None where it has that.
+pub(crate) fn settled(keys: &Keys, e: &Element) -> Result<Option<Element>, AllocError>
+    ensures { IfOk result (λ new. unwrap_or new e.now ≡ settled_in keys.now e.now) }
+{
+    match keys.get(&e.id) {
+        Some(key) => with_other_key(key, e),
+        None => Ok(None),
+    }
+}
+
+/// The element with this key, or None where it has it.
+fn with_other_key(key: &Option<Key>, e: &Element) -> Result<Option<Element>, AllocError>
+    ensures { IfOk result (λ new. unwrap_or new e.now ≡ record e.now { index = key.now }) }
+{
+    if are_same(key, &e.index) {
+        return Ok(None);
+    }
+    let key = key_copied(key)?;
+    Ok(Some(with_index(e.try_clone()?, key)))
+}
+
+/// Whether two keys are the same, or none is there.
+fn are_same(key: &Option<Key>, other: &Option<Key>) -> bool
+    ensures { IsTrue result ↔ (key.now ≡ other.now) }
+{
+    match (key, other) {
+        (None, None) => true,
+        (Some(key), Some(other)) => key.as_bytes() == other.as_bytes(),
+        _ => false,
+    }
+}
+
+/// The element with this index.
+pub(crate) fn with_index(mut e: Element, index: Option<Key>) -> Element
+    ensures { result ≡ record e { index = index } }
+{
+    e.index = index;
+    e
+}
+
+/// The element with its key among these, or, if it is of the id, with this one; or None where it has that.
+pub(crate) fn placed(
+    keys: &Keys,
+    id: &Text,
+    key: &Option<Key>,
+    e: &Element,
+) -> Result<Option<Element>, AllocError>
+    ensures { IfOk result (λ new. unwrap_or new e.now ≡ with_key_of id.now key.now (settled_in keys.now e.now)) }
+{
+    if *id == e.id {
+        return with_other_key(key, e);
+    }
+    settled(keys, e)
+}
+
+/// A key at a spot among the elements but the one of this id: the old one if it stands there.
+pub(crate) fn key_at(
+    alloc: Global,
+    elements: &[Element],
+    spot: &Spot,
+    id: &Text,
+    old: &Option<Key>,
+) -> Result<Option<Key>, AllocError>
+    requires { HaveRisingKeys elements.now }
+    ensures exact { IfOk result (λ key. key ≡ key_at elements.now spot.now id.now old.now) }
+    ensures inside { IfOk result (λ key. IfSome key (λ k. lies_between (gap_of elements.now spot.now id.now).low (gap_of elements.now spot.now id.now).high k ≡ true)) }
+{
+    let gap = gap_at(elements, spot, id);
+    key_within(alloc, gap.low, gap.high, old)
+}
+
+/// A key between two others: the old one if it lies there.
+fn key_within(
+    alloc: Global,
+    low: Option<&Key>,
+    high: Option<&Key>,
+    old: &Option<Key>,
+) -> Result<Option<Key>, AllocError>
+    requires { ends_rise (option_copied low) (option_copied high) ≡ true }
+    ensures exact { IfOk result (λ key. key ≡ key_within (record { low = option_copied low.entry; high = option_copied high.entry }) old.now) }
+    ensures inside { IfOk result (λ key. IfSome key (λ k. lies_between (option_copied low.entry) (option_copied high.entry) k ≡ true)) }
+{
+    if lies_within(low, high, old) {
+        return key_copied(old);
+    }
+    Ok(Some(between(alloc, low, high)?))
+}
+
+/// Whether a key lies strictly between two others.
+fn lies_within(low: Option<&Key>, high: Option<&Key>, key: &Option<Key>) -> bool
+    ensures { result ≡ placing.lies_within (record { low = option_copied low.entry; high = option_copied high.entry }) key.now }
+{
+    match key {
+        Some(key) => rise(low, Some(key)) && rise(Some(key), high),
+        None => false,
+    }
+}
+
+/// Whether an end is less than another one; an absent end is beyond all keys.
+fn rise(low: Option<&Key>, high: Option<&Key>) -> bool
+    ensures { result ≡ ends_rise (option_copied low.entry) (option_copied high.entry) }
+{
+    match (low, high) {
+        (Some(low), Some(high)) => low.as_bytes().cmp(high.as_bytes()).is_lt(),
+        _ => true,
+    }
+}
+
+/// The keys beside a spot among the elements but the one of this id.
+fn gap_at<'a>(elements: &'a [Element], spot: &Spot, id: &Text) -> Gap<'a>
+    requires { HaveRisingKeys elements.now }
+    ensures low { option_copied result.low ≡ (gap_of elements.now spot.now id.now).low }
+    ensures high { option_copied result.high ≡ (gap_of elements.now spot.now id.now).high }
+    ensures rises { ends_rise (option_copied result.low) (option_copied result.high) ≡ true }
+{
+    match spot {
+        Spot::Bottom => Gap {
+            low: None,
+            high: first_key(elements, id),
+        },
+        Spot::Top => Gap {
+            low: last_key(elements, id),
+            high: None,
+        },
+        Spot::After(below) => gap_above(elements, below, id),
+    }
+}
+
+/// The key of the first of the elements but the one of this id.
+fn first_key<'a>(elements: &'a [Element], id: &Text) -> Option<&'a Key>
+    ensures { option_copied result ≡ placing.first_key (others id.now elements.now) }
+{
+    let mut rest = elements;
+    while let Some((e, behind)) = rest.split_first() {
+        if e.id != *id {
+            return e.index.as_ref();
+        }
+        rest = behind;
+    }
+    None
+}
+
+/// The key of the last of the elements but the one of this id.
+fn last_key<'a>(elements: &'a [Element], id: &Text) -> Option<&'a Key>
+    ensures { option_copied result ≡ placing.last_key (others id.now elements.now) }
+{
+    let mut last = None;
+    let mut rest = elements;
+    while let Some((e, behind)) = rest.split_first() {
+        if e.id != *id {
+            last = e.index.as_ref();
+        }
+        rest = behind;
+    }
+    last
+}
+
+/// The keys of an element and of the one above it, among the elements but the one of this id.
+fn gap_above<'a>(elements: &'a [Element], below: &Text, id: &Text) -> Gap<'a>
+    requires { HaveRisingKeys elements.now }
+    ensures low { option_copied result.low ≡ (placing.gap_above below.now (others id.now elements.now)).low }
+    ensures high { option_copied result.high ≡ (placing.gap_above below.now (others id.now elements.now)).high }
+    ensures rises { ends_rise (option_copied result.low) (option_copied result.high) ≡ true }
+{
+    let mut rest = elements;
+    while let Some((e, behind)) = rest.split_first() {
+        if is_other_of(e, below, id) {
+            return Gap {
+                low: e.index.as_ref(),
+                high: first_key(behind, id),
+            };
+        }
+        rest = behind;
+    }
+    Gap {
+        low: None,
+        high: None,
+    }
+}
+
+/// Whether an element is of one id and not of another.
+fn is_other_of(e: &Element, id: &Text, other: &Text) -> bool
+    ensures { result ≡ (not (bytes_eq other.now e.now.id) && bytes_eq id.now e.now.id) }
+{
+    e.id != *other && e.id == *id
+}

@@ -1,0 +1,326 @@
+//! What a command looks up on the board before its effect is made.
+
+ghost use Rattle.std.specs.Prelude.{◌≡◌, List as Items, Some, None, false, IfOk, IfSome};
+ghost use Rattle.std.specs.BTreeMap.{get};
+ghost use Rattle.std.specs.Cmp.Lexicographic.{slice_cmp};
+ghost use Rattle.std.specs.Option.{option_flatten};
+ghost use Rattle.std.specs.Ordering.{nat_cmp};
+ghost use Rattle.scene_json.specs.Value.{IsCompact};
+ghost use Rattle.elem.specs.Drawn.{Drawn};
+ghost use Rattle.elem.specs.Facts.{IsBinding};
+ghost use Rattle.links.specs.Names.{is_id, target_of};
+ghost use Rattle.view.specs.Shown.{shown};
+ghost use Rattle.effects.specs.Limits.{IsWithinLimits, IsRest};
+ghost use Rattle.effects.specs.Linking as linking;
+ghost use Rattle.effects.specs.Naming.{apart_from};
+ghost use Rattle.effects.specs.Prepared.{made_by, HasIds, IsSound, Prepares};
+ghost use Rattle.effects.specs.Refusals.{guarded};
+ghost use Rattle.effects.specs.Settings.{is_protected};
+ghost use Rattle.effects.specs.declared.command.Command.TheVariants as commands;
+
+use crate::command::{Command, Side, Spot};
+use crate::effect::Effect;
+use crate::linking::{Label, Link};
+use crate::placing::{Keys, key_at, keys_of};
+use board_io::List;
+use elem::{Binding, BoundRef, Element, Role};
+use elem_store::Store;
+use frac_keys::Key;
+use scene_json::{Member, Raw, Text};
+use std::alloc::{AllocError, Global};
+use std::collections::BTreeSet;
+use view::View;
+
+/// What a command makes of the live elements.
+pub(crate) fn prepared(
+    alloc: Global,
+    store: &Store,
+    view: &View,
+    command: &Command,
+) -> Result<Effect, AllocError>
+    requires open { guarded command.now ≡ None }
+    requires limits { IsWithinLimits command.now }
+    ensures { IfOk result (Prepares store.now.elements (shown view.now) command.now) }
+{
+    match command {
+        Command::Create { element, spot } => settle(alloc, view, element, spot),
+        Command::Set { id, member, value } => set(id, member, value),
+        Command::Delete { ids } => delete(alloc, ids),
+        Command::Place { id, spot } => place(alloc, view, id, spot),
+        Command::Bind {
+            arrow,
+            side,
+            target,
+            rest,
+        } => bind(store, arrow, *side, target, rest),
+        Command::Unbind { arrow, side } => unbind(store, arrow, *side),
+        Command::Label { container, text } => label(store, container, text),
+        Command::Unlabel { text } => unlabel(store, text),
+        Command::Frame { ids, frame } => frame_in(alloc, ids, frame),
+        Command::Unframe { ids } => unframe(alloc, ids),
+        Command::Group { ids, group } => group_in(alloc, ids, group),
+        Command::Ungroup { ids, group } => ungroup(alloc, ids, group),
+    }
+}
+
+/// The effect of a new element on the others.
+fn settle(alloc: Global, view: &View, element: &Element, spot: &Spot) -> Result<Effect, AllocError>
+    ensures { IfOk result (λ made. (stored : Items Drawn) → Prepares stored (shown view.now) (commands.Create element.now spot.now) made) }
+{
+    let keys = keys_of(alloc, view.elements())?;
+    Ok(Effect::Settle { keys })
+}
+
+/// The effect of giving a member a value.
+fn set(id: &Text, member: &Text, value: &Raw) -> Result<Effect, AllocError>
+    requires open { is_protected member.now ≡ false }
+    requires nests { IsCompact 100 value.now }
+    ensures { IfOk result (λ made. (stored view : Items Drawn) → Prepares stored view (commands.Set id.now member.now value.now) made) }
+{
+    let id = id.try_clone()?;
+    let member = member.try_clone()?;
+    let value = value.try_clone()?;
+    Ok(Effect::Set { id, member, value })
+}
+
+/// The effect of deleting elements.
+fn delete(alloc: Global, ids: &List<Text>) -> Result<Effect, AllocError>
+    ensures { IfOk result (λ made. (stored view : Items Drawn) → Prepares stored view (commands.Delete ids.now) made) }
+{
+    let ids = set_of(alloc, ids)?;
+    Ok(Effect::Delete { ids })
+}
+
+/// The effect of putting elements in a frame.
+fn frame_in(alloc: Global, ids: &List<Text>, frame: &Text) -> Result<Effect, AllocError>
+    ensures { IfOk result (λ made. (stored view : Items Drawn) → Prepares stored view (commands.Frame ids.now frame.now) made) }
+{
+    let ids = set_of(alloc, ids)?;
+    let frame = Some(frame.try_clone()?);
+    Ok(Effect::Frame { ids, frame })
+}
+
+/// The effect of taking elements out of their frames.
+fn unframe(alloc: Global, ids: &List<Text>) -> Result<Effect, AllocError>
+    ensures { IfOk result (λ made. (stored view : Items Drawn) → Prepares stored view (commands.Unframe ids.now) made) }
+{
+    let ids = set_of(alloc, ids)?;
+    Ok(Effect::Frame { ids, frame: None })
+}
+
+/// The effect of putting elements in a group.
+fn group_in(alloc: Global, ids: &List<Text>, group: &Text) -> Result<Effect, AllocError>
+    ensures { IfOk result (λ made. (stored view : Items Drawn) → Prepares stored view (commands.Group ids.now group.now) made) }
+{
+    let ids = set_of(alloc, ids)?;
+    let group = group.try_clone()?;
+    Ok(Effect::Group { ids, group })
+}
+
+/// The effect of taking elements out of a group.
+fn ungroup(alloc: Global, ids: &List<Text>, group: &Text) -> Result<Effect, AllocError>
+    ensures { IfOk result (λ made. (stored view : Items Drawn) → Prepares stored view (commands.Ungroup ids.now group.now) made) }
+{
+    let ids = set_of(alloc, ids)?;
+    let group = group.try_clone()?;
+    Ok(Effect::Ungroup { ids, group })
+}
+
+/// The ids as a set.
+fn set_of(alloc: Global, ids: &List<Text>) -> Result<BTreeSet<Text>, AllocError>
+    ensures { IfOk result (λ set. HasIds set ids.now) }
+{
+    let mut set = BTreeSet::new(alloc);
+    for id in ids.as_slice() {
+        set.insert(id.try_clone()?)?;
+    }
+    Ok(set)
+}
+
+/// The effect of placing an element.
+fn place(alloc: Global, view: &View, id: &Text, spot: &Spot) -> Result<Effect, AllocError>
+    ensures { IfOk result (λ made. (stored : Items Drawn) → Prepares stored (shown view.now) (commands.Place id.now spot.now) made) }
+{
+    let elements = view.elements();
+    let keys = keys_of(alloc, elements)?;
+    let old = key_in(&keys, id)?;
+    let key = key_at(alloc, elements, spot, id, &old)?;
+    let id = id.try_clone()?;
+    Ok(Effect::Place { keys, id, key })
+}
+
+/// The key of an id, if there is one.
+fn key_in(keys: &Keys, id: &Text) -> Result<Option<Key>, AllocError>
+    ensures { IfOk result (λ key. key ≡ option_flatten (get (slice_cmp nat_cmp) keys.now id.now)) }
+{
+    match keys.get(id) {
+        Some(Some(key)) => Ok(Some(key.try_clone()?)),
+        _ => Ok(None),
+    }
+}
+
+/// The effect of binding an end of an arrow.
+fn bind(
+    store: &Store,
+    arrow: &Text,
+    side: Side,
+    target: &Text,
+    rest: &List<Member>,
+) -> Result<Effect, AllocError>
+    requires { IsRest rest.now }
+    ensures { IfOk result (λ made. (view : Items Drawn) → Prepares store.now.elements view (commands.Bind arrow.now side target.now rest.now) made) }
+{
+    let binding = Binding {
+        target: target.try_clone()?,
+        rest: rest.try_clone_with(Member::try_clone)?,
+    };
+    link(store, arrow, side, Some(binding))
+}
+
+/// The effect of unbinding an end of an arrow.
+fn unbind(store: &Store, arrow: &Text, side: Side) -> Result<Effect, AllocError>
+    ensures { IfOk result (λ made. (view : Items Drawn) → Prepares store.now.elements view (commands.Unbind arrow.now side) made) }
+{
+    link(store, arrow, side, None)
+}
+
+/// The effect of a new binding of an end of an arrow, or none.
+fn link(
+    store: &Store,
+    arrow: &Text,
+    side: Side,
+    binding: Option<Binding>,
+) -> Result<Effect, AllocError>
+    requires { IfSome binding IsBinding }
+    ensures exact { IfOk result (λ prepared. (e : Drawn) → made_by prepared e ≡ linking.bound_to arrow.now side binding (linking.old_target store.now.elements arrow.now side) e) }
+    ensures sound { IfOk result IsSound }
+{
+    let old = old_target(store, arrow, side)?;
+    let old = apart_from_target(&binding, old);
+    let entry = entry_of(arrow, Role::Arrow)?;
+    let arrow = arrow.try_clone()?;
+    let link = Link {
+        arrow,
+        side,
+        binding,
+        old,
+        entry,
+    };
+    Ok(Effect::Link { link })
+}
+
+/// An entry of a listing.
+fn entry_of(id: &Text, role: Role) -> Result<BoundRef, AllocError>
+    ensures { IfOk result (λ entry. entry ≡ record { id = id.now; role = role }) }
+{
+    let id = id.try_clone()?;
+    Ok(BoundRef { id, role })
+}
+
+/// What the end of the stored arrow alone names.
+fn old_target(store: &Store, arrow: &Text, side: Side) -> Result<Option<Text>, AllocError>
+    ensures { IfOk result (λ old. old ≡ linking.old_target store.now.elements arrow.now side) }
+{
+    match store.get(arrow) {
+        Some(e) => named_by_end(e, side),
+        None => Ok(None),
+    }
+}
+
+/// What an end of an arrow alone names.
+fn named_by_end(e: &Element, side: Side) -> Result<Option<Text>, AllocError>
+    ensures { IfOk result (λ named. named ≡ linking.named_by_end side e.now) }
+{
+    match side {
+        Side::Start => named_apart(&e.start_binding, &e.end_binding),
+        Side::End => named_apart(&e.end_binding, &e.start_binding),
+    }
+}
+
+/// What a binding names, unless another one names it, too.
+fn named_apart(
+    binding: &Option<Binding>,
+    other: &Option<Binding>,
+) -> Result<Option<Text>, AllocError>
+    ensures { IfOk result (λ named. named ≡ apart_from (target_of other.now) (target_of binding.now)) }
+{
+    match binding {
+        Some(binding) if !names(other, &binding.target) => Ok(Some(binding.target.try_clone()?)),
+        _ => Ok(None),
+    }
+}
+
+/// Whether a binding names this id.
+fn names(binding: &Option<Binding>, id: &Text) -> bool
+    ensures { result ≡ is_id id.now (target_of binding.now) }
+{
+    match binding {
+        Some(binding) => *id == binding.target,
+        None => false,
+    }
+}
+
+/// The id, unless it is the target of a binding.
+fn apart_from_target(binding: &Option<Binding>, id: Option<Text>) -> Option<Text>
+    ensures { result ≡ apart_from (target_of binding.now) id }
+{
+    match id {
+        Some(id) if !names(binding, &id) => Some(id),
+        _ => None,
+    }
+}
+
+/// The effect of a text's new container.
+fn label(store: &Store, container: &Text, text: &Text) -> Result<Effect, AllocError>
+    ensures { IfOk result (λ made. (view : Items Drawn) → Prepares store.now.elements view (commands.Label container.now text.now) made) }
+{
+    let old = old_container(store, text)?;
+    let old = apart_from_id(container, old);
+    let entry = entry_of(text, Role::Text)?;
+    let text = text.try_clone()?;
+    let container = container.try_clone()?;
+    let label = Label {
+        text,
+        container,
+        old,
+        entry,
+    };
+    Ok(Effect::Label { label })
+}
+
+/// The id, unless it is this other one.
+fn apart_from_id(other: &Text, id: Option<Text>) -> Option<Text>
+    ensures { result ≡ apart_from (Some other.now) id }
+{
+    match id {
+        Some(id) if id != *other => Some(id),
+        _ => None,
+    }
+}
+
+/// The effect of taking a text out of its container.
+fn unlabel(store: &Store, text: &Text) -> Result<Effect, AllocError>
+    ensures { IfOk result (λ made. (view : Items Drawn) → Prepares store.now.elements view (commands.Unlabel text.now) made) }
+{
+    let old = old_container(store, text)?;
+    let entry = entry_of(text, Role::Text)?;
+    let text = text.try_clone()?;
+    Ok(Effect::Unlabel { text, old, entry })
+}
+
+/// What the stored text names as its container.
+fn old_container(store: &Store, text: &Text) -> Result<Option<Text>, AllocError>
+    ensures { IfOk result (λ old. old ≡ linking.old_container store.now.elements text.now) }
+{
+    match store.get(text) {
+        Some(e) => container_of(e),
+        None => Ok(None),
+    }
+}
+
+/// What an element names as its container.
+fn container_of(e: &Element) -> Result<Option<Text>, AllocError>
+    ensures { IfOk result (λ container. container ≡ e.now.container) }
+{
+    e.container.as_ref().map(Text::try_clone).transpose()
+}

@@ -1,0 +1,265 @@
+//! Why a command is refused before anything of it is made.
+
+ghost use Rattle.std.specs.Prelude.{◌≡◌, Some, None, true, false, is_some, bytes_eq, ◌&&◌, [], ◌∷◌, ◌++◌, IfErr, OnOk};
+ghost use Rattle.elem_store.specs.Updates.{element_of};
+ghost use Rattle.frames_groups.specs.Frames.{is_frame_kind};
+ghost use Rattle.links.specs.Arrows.{names_target};
+ghost use Rattle.links.specs.Names as names;
+ghost use Rattle.view.specs.Shown.{shown};
+ghost use Rattle.effects.specs.Changed.{OnFault};
+ghost use Rattle.effects.specs.Refusals.{refusal_of, existing, missing, misfit, guarded, first_missing, first_frame, spot_ids, unless_right, is_kind_of, is_live_id};
+ghost use Rattle.effects.specs.declared.command.Command.TheVariants as commands;
+ghost use Rattle.effects.specs.declared.command.Refusal.TheVariants as told;
+
+use crate::command::{Command, Refusal, Spot};
+use crate::kinds::{is_arrow, is_container, is_frame, is_live, is_target, is_text};
+use crate::setting::is_protected;
+use board_io::{List, Stop};
+use elem::Element;
+use elem_store::Store;
+use scene_json::Text;
+use view::View;
+
+/// Fails with the first cause for which the command is refused.
+pub(crate) fn check(store: &Store, view: &View, command: &Command) -> Result<(), Stop<Refusal>>
+    ensures ok { OnOk result (refusal_of store.now.elements (shown view.now) command.now ≡ None) }
+    ensures refused { IfErr result (λ stop. OnFault stop (λ refusal. refusal_of store.now.elements (shown view.now) command.now ≡ Some refusal)) }
+{
+    check_new(store, command)?;
+    check_live(store, command)?;
+    check_kinds(store, view, command)?;
+    check_member(command)
+}
+
+/// Fails where a new element's id is stored.
+fn check_new(store: &Store, command: &Command) -> Result<(), Stop<Refusal>>
+    ensures ok { OnOk result (existing store.now.elements command.now ≡ None) }
+    ensures refused { IfErr result (λ stop. OnFault stop (λ refusal. existing store.now.elements command.now ≡ Some refusal)) }
+{
+    match command {
+        Command::Create { element, .. } => check_absent(store, element),
+        _ => Ok(()),
+    }
+}
+
+/// Fails where the element's id is stored.
+fn check_absent(store: &Store, e: &Element) -> Result<(), Stop<Refusal>>
+    ensures ok { OnOk result (is_some (element_of store.now.elements e.now.id) ≡ false) }
+    ensures refused { IfErr result (λ stop. OnFault stop (λ refusal. (is_some (element_of store.now.elements e.now.id) ≡ true) × (refusal ≡ told.Exists e.now.id))) }
+{
+    let id = e.id.try_clone()?;
+    match store.get(&id) {
+        Some(_) => Err(Stop::Fault(Refusal::Exists(id))),
+        None => Ok(()),
+    }
+}
+
+/// Fails where an id that the command names isn't live.
+fn check_live(store: &Store, command: &Command) -> Result<(), Stop<Refusal>>
+    ensures ok { OnOk result (missing store.now.elements command.now ≡ None) }
+    ensures refused { IfErr result (λ stop. OnFault stop (λ refusal. missing store.now.elements command.now ≡ Some refusal)) }
+{
+    match command {
+        Command::Create { spot, .. } => check_spot(store, spot),
+        Command::Set { id, .. } => check_id(store, id),
+        Command::Place { id, spot } => check_place(store, id, spot),
+        Command::Bind { arrow, target, .. } => check_two(store, arrow, target),
+        Command::Unbind { arrow, .. } => check_id(store, arrow),
+        Command::Label { container, text } => check_two(store, container, text),
+        Command::Unlabel { text } => check_id(store, text),
+        Command::Frame { ids, frame } => check_ids_and(store, ids, frame),
+        Command::Delete { ids } => check_ids(store, ids),
+        Command::Unframe { ids } => check_ids(store, ids),
+        Command::Group { ids, .. } => check_ids(store, ids),
+        Command::Ungroup { ids, .. } => check_ids(store, ids),
+    }
+}
+
+/// Fails where no live element has the id.
+fn check_id(store: &Store, id: &Text) -> Result<(), Stop<Refusal>>
+    ensures ok { OnOk result (first_missing store.now.elements (id.now ∷ []) ≡ None) }
+    ensures refused { IfErr result (λ stop. OnFault stop (λ refusal. first_missing store.now.elements (id.now ∷ []) ≡ Some refusal)) }
+{
+    if is_live_id(store, id) {
+        return Ok(());
+    }
+    Err(Stop::Fault(Refusal::NoElement(id.try_clone()?)))
+}
+
+/// Whether a live element has the id.
+fn is_live_id(store: &Store, id: &Text) -> bool
+    ensures { result ≡ is_live_id store.now.elements id.now }
+{
+    match store.get(id) {
+        Some(e) => is_live(e),
+        None => false,
+    }
+}
+
+/// Fails at the first of two ids that isn't live.
+fn check_two(store: &Store, id: &Text, other: &Text) -> Result<(), Stop<Refusal>>
+    ensures ok { OnOk result (first_missing store.now.elements (id.now ∷ other.now ∷ []) ≡ None) }
+    ensures refused { IfErr result (λ stop. OnFault stop (λ refusal. first_missing store.now.elements (id.now ∷ other.now ∷ []) ≡ Some refusal)) }
+{
+    check_id(store, id)?;
+    check_id(store, other)
+}
+
+/// Fails at the first of these ids that isn't live.
+fn check_ids(store: &Store, ids: &List<Text>) -> Result<(), Stop<Refusal>>
+    ensures ok { OnOk result (first_missing store.now.elements ids.now ≡ None) }
+    ensures refused { IfErr result (λ stop. OnFault stop (λ refusal. first_missing store.now.elements ids.now ≡ Some refusal)) }
+{
+    for id in ids.as_slice() {
+        check_id(store, id)?;
+    }
+    Ok(())
+}
+
+/// Fails at the first of these ids and one more that isn't live.
+fn check_ids_and(store: &Store, ids: &List<Text>, id: &Text) -> Result<(), Stop<Refusal>>
+    ensures ok { OnOk result (first_missing store.now.elements (ids.now ++ id.now ∷ []) ≡ None) }
+    ensures refused { IfErr result (λ stop. OnFault stop (λ refusal. first_missing store.now.elements (ids.now ++ id.now ∷ []) ≡ Some refusal)) }
+{
+    check_ids(store, ids)?;
+    check_id(store, id)
+}
+
+/// Fails where the id that a spot names isn't live.
+fn check_spot(store: &Store, spot: &Spot) -> Result<(), Stop<Refusal>>
+    ensures ok { OnOk result (first_missing store.now.elements (spot_ids spot.now) ≡ None) }
+    ensures refused { IfErr result (λ stop. OnFault stop (λ refusal. first_missing store.now.elements (spot_ids spot.now) ≡ Some refusal)) }
+{
+    match spot {
+        Spot::Bottom | Spot::Top => Ok(()),
+        Spot::After(id) => check_id(store, id),
+    }
+}
+
+/// Fails where an element that gets a place, or the one that it is placed above, isn't live, or where they are one.
+fn check_place(store: &Store, id: &Text, spot: &Spot) -> Result<(), Stop<Refusal>>
+    ensures ok { OnOk result (missing store.now.elements (commands.Place id.now spot.now) ≡ None) }
+    ensures refused { IfErr result (λ stop. OnFault stop (λ refusal. missing store.now.elements (commands.Place id.now spot.now) ≡ Some refusal)) }
+{
+    check_id(store, id)?;
+    check_spot(store, spot)?;
+    match spot {
+        Spot::After(other) if *id == *other => {
+            Err(Stop::Fault(Refusal::NoElement(other.try_clone()?)))
+        }
+        _ => Ok(()),
+    }
+}
+
+/// Fails where an element isn't of a kind that the command is for.
+fn check_kinds(store: &Store, view: &View, command: &Command) -> Result<(), Stop<Refusal>>
+    ensures ok { OnOk result (misfit store.now.elements (shown view.now) command.now ≡ None) }
+    ensures refused { IfErr result (λ stop. OnFault stop (λ refusal. misfit store.now.elements (shown view.now) command.now ≡ Some refusal)) }
+{
+    match command {
+        Command::Bind { arrow, target, .. } => {
+            check_right(is_arrow_id(store, arrow), arrow)?;
+            check_right(is_target_id(view, target), target)
+        }
+        Command::Unbind { arrow, .. } => check_right(is_arrow_id(store, arrow), arrow),
+        Command::Label { container, text } => {
+            check_right(is_container_id(store, container), container)?;
+            check_right(is_text_id(store, text), text)
+        }
+        Command::Unlabel { text } => check_right(is_text_id(store, text), text),
+        Command::Frame { ids, frame } => {
+            check_no_frames(store, ids)?;
+            check_right(is_frame_id(store, frame), frame)
+        }
+        _ => Ok(()),
+    }
+}
+
+/// Fails unless the element of the id is of the right kind.
+fn check_right(is_right: bool, id: &Text) -> Result<(), Stop<Refusal>>
+    ensures ok { OnOk result (unless_right is_right id.now ≡ None) }
+    ensures refused { IfErr result (λ stop. OnFault stop (λ refusal. unless_right is_right id.now ≡ Some refusal)) }
+{
+    if is_right {
+        return Ok(());
+    }
+    Err(Stop::Fault(Refusal::WrongKind(id.try_clone()?)))
+}
+
+/// Fails at the first of these ids that is a frame's.
+fn check_no_frames(store: &Store, ids: &List<Text>) -> Result<(), Stop<Refusal>>
+    ensures ok { OnOk result (first_frame store.now.elements ids.now ≡ None) }
+    ensures refused { IfErr result (λ stop. OnFault stop (λ refusal. first_frame store.now.elements ids.now ≡ Some refusal)) }
+{
+    for id in ids.as_slice() {
+        check_right(!is_frame_id(store, id), id)?;
+    }
+    Ok(())
+}
+
+/// Whether the stored element of the id is an arrow.
+fn is_arrow_id(store: &Store, id: &Text) -> bool
+    ensures { result ≡ is_kind_of store.now.elements names.is_arrow id.now }
+{
+    match store.get(id) {
+        Some(e) => is_arrow(e),
+        None => false,
+    }
+}
+
+/// Whether the stored element of the id is a text.
+fn is_text_id(store: &Store, id: &Text) -> bool
+    ensures { result ≡ is_kind_of store.now.elements names.is_text id.now }
+{
+    match store.get(id) {
+        Some(e) => is_text(e),
+        None => false,
+    }
+}
+
+/// Whether the stored element of the id may have a text in it.
+fn is_container_id(store: &Store, id: &Text) -> bool
+    ensures { result ≡ is_kind_of store.now.elements names.can_hold_text id.now }
+{
+    match store.get(id) {
+        Some(e) => is_container(e),
+        None => false,
+    }
+}
+
+/// Whether the stored element of the id is a frame or a magicframe.
+fn is_frame_id(store: &Store, id: &Text) -> bool
+    ensures { result ≡ is_kind_of store.now.elements is_frame_kind id.now }
+{
+    match store.get(id) {
+        Some(e) => is_frame(e),
+        None => false,
+    }
+}
+
+/// Whether the shown element of the id may be bound to.
+fn is_target_id(view: &View, id: &Text) -> bool
+    ensures { result ≡ names_target (shown view.now) (Some id.now) }
+{
+    view.elements().iter().any(|e| is_target_of(e, id))
+}
+
+/// Whether an element is of the id and may be bound to.
+fn is_target_of(e: &Element, id: &Text) -> bool
+    ensures { result ≡ (bytes_eq id.now e.now.id && names.is_target e.now) }
+{
+    *id == e.id && is_target(e)
+}
+
+/// Fails where the member is one that no value can be given.
+fn check_member(command: &Command) -> Result<(), Stop<Refusal>>
+    ensures ok { OnOk result (guarded command.now ≡ None) }
+    ensures refused { IfErr result (λ stop. OnFault stop (λ refusal. guarded command.now ≡ Some refusal)) }
+{
+    match command {
+        Command::Set { member, .. } if is_protected(member) => {
+            Err(Stop::Fault(Refusal::Protected(member.try_clone()?)))
+        }
+        _ => Ok(()),
+    }
+}

@@ -1,0 +1,125 @@
+//! The stored elements, of which each live one may change.
+
+ghost use Rattle.std.specs.Prelude.{◌≡◌, ◌≢◌, ◌<◌, ◌≤◌, ◌++◌, [], Some, None, true, false, find, length, slice_get, if◌then◌else◌, IfErr, IfOk, OnOk};
+ghost use Rattle.std.specs.List.{cons_option};
+ghost use Rattle.std.specs.Option.{option_map};
+ghost use Rattle.elem.specs.Facts.{greatest_whole};
+ghost use Rattle.effects.specs.Changed as changes;
+ghost use Rattle.effects.specs.Changed.{OnFault, is_full, refusal_at};
+ghost use Rattle.effects.specs.Differing.{differs};
+ghost use Rattle.effects.specs.Prepared.{made_by, IsSound};
+
+use crate::command::Refusal;
+use crate::effect::Effect;
+use crate::kinds::is_live;
+use board_io::Stop;
+use delta::{AtLimit, stamp};
+use elem::{Element, same_but_stamp};
+use elem_store::Store;
+use std::alloc::{AllocError, Global};
+
+/// The changed elements of an effect, in the order of their ids.
+pub(crate) fn changes_of(
+    alloc: Global,
+    store: &Store,
+    effect: &Effect,
+    time: u64,
+    nonce: u64,
+) -> Result<Vec<Element>, Stop<Refusal>>
+    requires time { time ≤ greatest_whole }
+    requires nonce { nonce ≤ greatest_whole }
+    requires sound { IsSound effect.now }
+    ensures changed { IfOk result (λ changed. changed.items ≡ changes.changes_of (made_by effect.now) time nonce store.now.elements) }
+    ensures none_full { IfOk result (λ _. find (is_full (made_by effect.now)) store.now.elements ≡ None) }
+    ensures full { IfErr result (λ stop. OnFault stop (λ refusal. option_map refusal_at (find (is_full (made_by effect.now)) store.now.elements) ≡ Some refusal)) }
+{
+    let mut changed = Vec::new(alloc);
+    for i in 0..store.len() {
+        let new = change_of(alloc, effect, element_at(store, i), time, nonce)?;
+        note(&mut changed, new)?;
+    }
+    Ok(changed)
+}
+
+/// The stored element at an index.
+fn element_at(store: &Store, i: usize) -> &Element
+    requires { i < length store.now.elements }
+    ensures { Some result.now ≡ slice_get store.now.elements i }
+{
+    match store.at(i) {
+        Some(e) => e,
+        None => unreachable!(),
+    }
+}
+
+/// Adds an element, if there is one.
+fn note(changed: &mut Vec<Element>, new: Option<Element>) -> Result<(), AllocError>
+    ensures { OnOk result (changed.new.items ≡ changed.old.items ++ cons_option new []) }
+{
+    if let Some(new) = new {
+        changed.push(new)?;
+    }
+    Ok(())
+}
+
+/// What an effect makes of an element, stamped, if that is live and changes.
+fn change_of(
+    alloc: Global,
+    effect: &Effect,
+    e: &Element,
+    time: u64,
+    nonce: u64,
+) -> Result<Option<Element>, Stop<Refusal>>
+    requires time { time ≤ greatest_whole }
+    requires nonce { nonce ≤ greatest_whole }
+    requires sound { IsSound effect.now }
+    ensures changed { IfOk result (λ new. new ≡ changes.change_of (made_by effect.now) time nonce e.now) }
+    ensures free { IfOk result (λ _. is_full (made_by effect.now) e.now ≡ false) }
+    ensures full { IfErr result (λ stop. OnFault stop (λ refusal. (is_full (made_by effect.now) e.now ≡ true) × (refusal ≡ refusal_at e.now))) }
+{
+    if !is_live(e) {
+        return Ok(None);
+    }
+    let Some(new) = changed(alloc, effect, e)? else {
+        return Ok(None);
+    };
+    Ok(Some(stamped(new, time, nonce)?))
+}
+
+/// What an effect makes of an element, if that changes.
+fn changed(alloc: Global, effect: &Effect, e: &Element) -> Result<Option<Element>, AllocError>
+    requires sound { IsSound effect.now }
+    ensures { IfOk result (λ new. new ≡ (if differs e.now (made_by effect.now e.now) then Some (made_by effect.now e.now) else None)) }
+{
+    let Some(new) = effect.apply(alloc, e)? else {
+        return Ok(None);
+    };
+    if same_but_stamp(e, &new) {
+        return Ok(None);
+    }
+    Ok(Some(new))
+}
+
+/// The element with the stamp of a change.
+fn stamped(mut e: Element, time: u64, nonce: u64) -> Result<Element, Stop<Refusal>>
+    requires time { time ≤ greatest_whole }
+    requires nonce { nonce ≤ greatest_whole }
+    ensures stamped { IfOk result (λ new. new ≡ changes.stamped time nonce e) }
+    ensures free { IfOk result (λ _. e.version ≢ greatest_whole) }
+    ensures full { IfErr result (λ stop. OnFault stop (λ refusal. (e.version ≡ greatest_whole) × (refusal ≡ refusal_at e))) }
+{
+    match stamp(&mut e, time, nonce) {
+        Ok(()) => Ok(e),
+        Err(AtLimit) => Err(full_at(&e)),
+    }
+}
+
+/// The refusal of a change of an element at the greatest version.
+fn full_at(e: &Element) -> Stop<Refusal>
+    ensures { OnFault result (λ refusal. refusal ≡ refusal_at e.now) }
+{
+    match e.id.try_clone() {
+        Ok(id) => Stop::Fault(Refusal::VersionFull(id)),
+        Err(_) => Stop::Memory,
+    }
+}
