@@ -101,8 +101,8 @@ not-answered (Some command) service e = cc
 words-asked : (words : List (List ℕ)) (command : Command) → asked words ≡ Some (Answer command) → words ≡ words_of command
 words-asked [] command e = absurd (none-some (Answer command) e)
 words-asked (word ∷ options) command e = elim (cases_Bool (bytes_eq word (codes "serve"))) [
-  | inl t ↦ absurd (not-served (asked_service options) command (rw t at e in e))
-  | inr f ↦ command-words word options command (answered (asked_command word options) command (rw f at e in e))
+  | inl t ↦ absurd (not-served (asked_service options) command (let h = rw t at e in h))
+  | inr f ↦ command-words word options command (answered (asked_command word options) command (let h = rw f at e in h))
 ]
 
 pub words-ask : (command : Command) (words : List (List ℕ)) → asked words ≡ Some (Answer command) ↔ words ≡ words_of command
@@ -111,11 +111,11 @@ words-ask command words = (words-asked words command, λ is. ap asked is ∙ ask
 -- ---- a service that is asked for
 least : (from most : ℕ) (word : List ℕ) (number : ℕ) → number_within from most word ≡ Some number → from ≤ number
 least from most word number e = elim (cases_Bool (is_number_within from most word)) [
-  | inr f ↦ absurd (none-some number (rw f at e in e))
+  | inr f ↦ absurd (none-some number (let h = rw f at e in h))
   | inl t ↦
       let parts = and_parts (bytes_eq word (decimal (digits_value 10 word))) _ t in
       let bounds = and_parts (nat_le from (digits_value 10 word)) _ parts.1 in
-      let same : digits_value 10 word ≡ number = some-same (digits_value 10 word) number (rw t at e in e) in
+      let same : digits_value 10 word ≡ number = some-same (digits_value 10 word) number (let h = rw t at e in h) in
       let low : nat_le from (digits_value 10 word) ≡ true = bounds.0 in
       grind (arith, nat_tests)
 ]
@@ -145,6 +145,6 @@ service-is (port ∷ links ∷ idle ∷ options) service e =
 pub asked-service : (words : List (List ℕ)) (service : Service) → asked words ≡ Some (Serve service) → IsService service
 asked-service [] service e = absurd (none-some (Serve service) e)
 asked-service (word ∷ options) service e = elim (cases_Bool (bytes_eq word (codes "serve"))) [
-  | inl t ↦ service-is options service (served (asked_service options) service (rw t at e in e))
-  | inr f ↦ absurd (not-answered (asked_command word options) service (rw f at e in e))
+  | inl t ↦ service-is options service (served (asked_service options) service (let h = rw t at e in h))
+  | inr f ↦ absurd (not-answered (asked_command word options) service (let h = rw f at e in h))
 ]

@@ -1,6 +1,6 @@
 //! A room that is served: from the scenes that it begins with to the scene that is written at its end.
 
-ghost use Rattle.std.specs.Prelude.{◌≡◌, ◌≢◌, ◌⊎◌, Some, Ok, [], List as Items, IfOk, IfErr, Err};
+ghost use Rattle.std.specs.Prelude.{◌≡◌, ◌≢◌, ◌⊎◌, Some, [], List as Items, IfOk, IfErr, Err};
 ghost use Rattle.board_io.specs.Counts.{Rose};
 ghost use Rattle.room_core.specs.Serving.{at_start, IsServed};
 ghost use Rattle.room_core.specs.Told.{told_of};
@@ -39,7 +39,7 @@ pub(crate) fn serve<S: Source, K: Sink, L: Links>(
     ensures served { IfOk result (λ end. (end ≢ ServeEnd.Memory) × WasServedTo service end
         (record { input = S.seen input.old; output = K.seen output.old; links = links_seen L.port L.given L.sent L.lost L.faults links.old })
         (record { input = S.seen input.new; output = K.seen output.new; links = links_seen L.port L.given L.sent L.lost L.faults links.new })) }
-    ensures rose { result ≡ Ok ServeEnd.LinkFault → Rose (L.faults links.old) (L.faults links.new) }
+    ensures rose { IfOk result (λ end. end ≡ ServeEnd.LinkFault → Rose (L.faults links.old) (L.faults links.new)) }
     ensures fault { IfErr result (λ fault. HasServingCause fault service
         (record { input = S.seen input.old; output = K.seen output.old; links = links_seen L.port L.given L.sent L.lost L.faults links.old })
         (record { input = S.seen input.new; output = K.seen output.new; links = links_seen L.port L.given L.sent L.lost L.faults links.new })) }

@@ -115,7 +115,10 @@ fn number_within(least: u64, most: u64, word: &Bytes) -> Option<u64>
     ensures number { result ≡ number_within least most word.now }
     ensures bound { IfSome result (λ number. number ≤ most) }
 {
-    whole_in(word.as_slice()).filter(|number| least <= *number && *number <= most)
+    match whole_in(word.as_slice()) {
+        Some(number) if least <= number && number <= most => Some(number),
+        _ => None,
+    }
 }
 
 /// The command, which no word is to stand behind.
