@@ -3,7 +3,8 @@
 ghost use Rattle.std.specs.Prelude.{◌≡◌, ℕ, List, [], true};
 ghost use Rattle.frac_keys.specs.Rising.{are_rising};
 ghost use Rattle.elem.specs.Drawn.{Drawn};
-ghost use Rattle.elem_store.specs.Updates.{ids_of, AreStored, IsFreeOfClashes, HaveSameUpdates};
+ghost use Rattle.elem.specs.Said.{AreElements};
+ghost use Rattle.elem_store.specs.Updates.{ids_of, AreStored, HaveSameUpdates};
 ghost use Rattle.board_io.specs.declared.links.LinkEvent.{LinkEvent};
 ghost use Rattle.room_core.specs.Rooms.{RoomState, Happening, IsHeardAs, is_among};
 ghost use Rattle.room_core.specs.Members.{Step, AreSteps, member_updates};
@@ -23,11 +24,11 @@ pub fn member_stores_the_room()
         → AreStored (member_updates link room [] steps) last.elements }
 {}
 
-/// Any list of the same updates stores what the room stores.
+/// Any list of the same updates, which are elements as all that is read is, stores what the room stores.
 pub fn members_agree()
     ensures { (link : ℕ) (room last : RoomState) (steps : List Step) (others news : List Drawn) → room.joined ≡ []
         → are_rising (ids_of room.elements) ≡ true → AreSteps room steps last → is_among last.joined link ≡ true
-        → IsFreeOfClashes (member_updates link room [] steps)
+        → AreElements (member_updates link room [] steps)
         → HaveSameUpdates (member_updates link room [] steps) others → AreStored others news → news ≡ last.elements }
 {}
 
