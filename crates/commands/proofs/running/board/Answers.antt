@@ -1,4 +1,11 @@
-use Rattle.std.proofs.Common.{◌≡◌, Some, sym, subst}
+use Rattle.std.proofs.Common.{◌≡◌, ◌⊎◌, ℕ, List, Some, Result, subst}
+use Rattle.commands.specs.Answers.{IsAnswer}
+use Rattle.commands.specs.Ends.{span, EndsWith, WasRefused}
+use Rattle.commands.specs.Faults.{Noted}
+use Rattle.commands.specs.declared.status.Fault.{Fault}
+use Rattle.commands.specs.declared.status.Refusal.{Refusal}
+use Rattle.commands.specs.declared.status.Status.TheVariants.{Memory}
+use Rattle.commands.specs.declared.words.Command.{Command}
 use Rattle.commands.specs.Words.{asked}
 use Rattle.commands.specs.declared.words.Request.TheVariants.{Answer, Serve}
 use Rattle.commands.proofs.Again.{restores-once, restores-merges}
@@ -51,9 +58,13 @@ returns-in-Some-Serve-clause-states_stand_for g c = states-stand_for
 pub returns-in-Some-Answer-clause-complete : goal.returns-in-Some-Answer-clause-complete
 returns-in-Some-Answer-clause-complete g c command bytes is left reads =
     let same : c.in-Some-Answer.command ≡ command = cc in
-    ?
+    subst (λ (own : Command). (c.answer_run.result ≡ Memory) ⊎ ((answer : Result (List ℕ) Refusal) × IsAnswer own bytes answer
+        × EndsWith answer c.answer_run.result (span (g.K.Sink.seen c.args.output.now) (g.K.Sink.seen c.answer_run.new.output)) (span (g.N.Sink.seen c.args.notes.now) (g.N.Sink.seen c.answer_run.new.notes))))
+    same (c.answer_run.ensures.complete bytes left reads)
 
 pub returns-in-Some-Answer-clause-refused : goal.returns-in-Some-Answer-clause-refused
 returns-in-Some-Answer-clause-refused g c command is refused =
     let same : c.in-Some-Answer.command ≡ command = cc in
-    ?
+    subst (λ (own : Command). (fault : Fault) × WasRefused (Some own) fault (span (g.S.Source.seen c.args.input.now) (g.S.Source.seen c.answer_run.new.input))
+        × Noted fault (g.N.Sink.seen c.args.notes.now) (g.N.Sink.seen c.answer_run.new.notes))
+    same (c.answer_run.ensures.refused refused)
