@@ -1,4 +1,4 @@
-//! The program: the top call over the standard streams and the words of the command line.
+//! The program: the top call over the standard streams, the words of the command line and the sockets of the loopback.
 #![tactic(auto)]
 
 ghost use Rattle.std.specs.Prelude.{◌≡◌};
@@ -7,27 +7,37 @@ ghost use Rattle.commands.specs.Faults.{code_of};
 
 mod words;
 
-use board_io::{List, ScriptLinks, StdSink, StdSource};
+use board_io::{Bytes, List, StdSink, StdSource};
 use commands::{Fault, Status, board};
 use std::alloc::AllocError;
 use std::process::ExitCode;
+use ws_links::WsLinks;
 
-/// Runs the board over the standard streams and the words after the program's name, and ends with its status.
+/// Runs the board over the standard streams, the words after the program's name and links without a socket, and ends with its
+/// status.
 fn main(rt: HostRuntime) -> ExitCode {
-    let alloc = rt.alloc();
     let mut notes = StdSink::new(rt.stderr());
-    let status = match words::of_command_line(&rt) {
-        Ok(words) => board(
-            alloc,
+    let status = match words_and_links(&rt) {
+        Ok((words, mut links)) => board(
+            rt.alloc(),
             words.as_slice(),
             &mut StdSource::new(rt.stdin()),
             &mut StdSink::new(rt.stdout()),
             &mut notes,
-            &mut ScriptLinks::new(alloc, List::new(alloc), List::new(alloc), List::new(alloc)),
+            &mut links,
         ),
         Err(AllocError) => Fault::Memory.noted(&mut notes),
     };
     exit_of(status)
+}
+
+/// The words of the command line, and the links of a room.
+fn words_and_links(
+    rt: &HostRuntime,
+) -> Result<(List<Bytes>, WsLinks<&HostRuntime>), AllocError> {
+    let words = words::of_command_line(rt)?;
+    let links = WsLinks::new(rt.alloc(), rt)?;
+    Ok((words, links))
 }
 
 /// The exit of a run with this status.

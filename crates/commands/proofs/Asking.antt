@@ -1,13 +1,19 @@
 -- Each command is asked for by its words, and by no others.
-use Rattle.std.proofs.Common.{◌≡◌, ◌↔◌, ℕ, List, [], ◌∷◌, Option, Some, None, inl, inr, codes, bytes_eq, if◌then◌else◌, refl, sym, ap, ◌∙◌}
+use Rattle.std.proofs.Common.{◌≡◌, ◌↔◌, ◌≤◌, ℕ, true, List, [], ◌∷◌, Option, Some, None, inl, inr, codes, decimal, nat_le, bytes_eq, if◌then◌else◌, refl, sym, ap, subst, ◌∙◌, lit≤, arith}
 use Rattle.std.specs.Option.{option_map}
-use Rattle.std.proofs.lemmas.Bool.{cases_Bool}
+use Rattle.std.specs.Str.Parse.{digits_value}
+use Rattle.std.proofs.lemmas.Bool.{cases_Bool, and_parts}
+use Rattle.std.proofs.lemmas.Bool.Decides.{nat_tests}
 use Rattle.scene_json.proofs.Collapsed.{bytes_eq-true}
 use Rattle.scene_file.specs.declared.layout.Layout.{Layout}
 use Rattle.scene_file.specs.declared.layout.Layout.TheVariants.{Compact, Pretty}
-use Rattle.commands.specs.Words.{asked, asked_alone, asked_layout, words_of}
+use Rattle.commands.specs.Services.{IsService, number_within, is_number_within, service_of}
+use Rattle.commands.specs.Words.{asked, asked_alone, asked_command, asked_layout, asked_service, words_of}
 use Rattle.commands.specs.declared.words.Command.{Command}
 use Rattle.commands.specs.declared.words.Command.TheVariants.{Restore, Merge, State, Pictures}
+use Rattle.commands.specs.declared.words.Request.{Request}
+use Rattle.commands.specs.declared.words.Request.TheVariants.{Answer, Serve}
+use Rattle.commands.specs.declared.words.Service.{Service}
 
 none-some : {X : Type 0} (x : X) → None ≡ Some x → ⊥
 none-some x e = cc
@@ -15,7 +21,7 @@ none-some x e = cc
 some-same : {X : Type 0} (a b : X) → Some a ≡ Some b → a ≡ b
 some-same a b e = cc
 
-asked-words : (command : Command) → asked (words_of command) ≡ Some command
+asked-words : (command : Command) → asked (words_of command) ≡ Some (Answer command)
 asked-words (Restore Compact) = refl
 asked-words (Restore Pretty) = refl
 asked-words (Merge Compact) = refl
@@ -68,13 +74,77 @@ merge-words : (layout : Layout) → codes "merge" ∷ options_of layout ≡ word
 merge-words Compact = refl
 merge-words Pretty = refl
 
-words-asked : (words : List (List ℕ)) (command : Command) → asked words ≡ Some command → words ≡ words_of command
-words-asked [] command e = absurd (none-some command e)
-words-asked (word ∷ options) command e =
+command-words : (word : List ℕ) (options : List (List ℕ)) (command : Command) → asked_command word options ≡ Some command → word ∷ options ≡ words_of command
+command-words word options command e =
     tested word (codes "restore") options _ _ command (laid-out Restore (codes "restore") options command restore-words)
     (tested word (codes "merge") options _ _ command (laid-out Merge (codes "merge") options command merge-words)
     (tested word (codes "state") options _ _ command (alone State command (codes "state") options refl)
     (tested word (codes "pictures") options _ _ command (alone Pictures command (codes "pictures") options refl) (λ e. absurd (none-some command e))))) e
 
-pub words-ask : (command : Command) (words : List (List ℕ)) → asked words ≡ Some command ↔ words ≡ words_of command
+-- ---- what is asked for is one or the other
+answered : (found : Option Command) (command : Command) → option_map Answer found ≡ Some (Answer command) → found ≡ Some command
+answered None command e = absurd (none-some (Answer command) e)
+answered (Some other) command e = cc
+
+not-served : (found : Option Service) (command : Command) → option_map Serve found ≡ Some (Answer command) → ⊥
+not-served None command e = none-some (Answer command) e
+not-served (Some service) command e = cc
+
+served : (found : Option Service) (service : Service) → option_map Serve found ≡ Some (Serve service) → found ≡ Some service
+served None service e = absurd (none-some (Serve service) e)
+served (Some other) service e = cc
+
+not-answered : (found : Option Command) (service : Service) → option_map Answer found ≡ Some (Serve service) → ⊥
+not-answered None service e = none-some (Serve service) e
+not-answered (Some command) service e = cc
+
+words-asked : (words : List (List ℕ)) (command : Command) → asked words ≡ Some (Answer command) → words ≡ words_of command
+words-asked [] command e = absurd (none-some (Answer command) e)
+words-asked (word ∷ options) command e = elim (cases_Bool (bytes_eq word (codes "serve"))) [
+  | inl t ↦ absurd (not-served (asked_service options) command (let h = rw t at e in h))
+  | inr f ↦ command-words word options command (answered (asked_command word options) command (let h = rw f at e in h))
+]
+
+pub words-ask : (command : Command) (words : List (List ℕ)) → asked words ≡ Some (Answer command) ↔ words ≡ words_of command
 words-ask command words = (words-asked words command, λ is. ap asked is ∙ asked-words command)
+
+-- ---- a service that is asked for
+least : (from most : ℕ) (word : List ℕ) (number : ℕ) → number_within from most word ≡ Some number → from ≤ number
+least from most word number e = elim (cases_Bool (is_number_within from most word)) [
+  | inr f ↦ absurd (none-some number (let h = rw f at e in h))
+  | inl t ↦
+      let parts = and_parts (bytes_eq word (decimal (digits_value 10 word))) _ t in
+      let bounds = and_parts (nat_le from (digits_value 10 word)) _ parts.1 in
+      let same : digits_value 10 word ≡ number = some-same (digits_value 10 word) number (let h = rw t at e in h) in
+      let low : nat_le from (digits_value 10 word) ≡ true = bounds.0 in
+      grind (arith, nat_tests)
+]
+
+made : (port links idle : Option ℕ) (layout : Option Layout) (service : Service) → service_of port links idle layout ≡ Some service
+    → (links ≡ Some service.limits.links) × ((idle ≡ Some service.limits.idle) × (1 ≤ service.limits.events))
+made None links idle layout service e = absurd (none-some service e)
+made (Some port) None idle layout service e = absurd (none-some service e)
+made (Some port) (Some links) None layout service e = absurd (none-some service e)
+made (Some port) (Some links) (Some idle) None service e = absurd (none-some service e)
+made (Some port) (Some links) (Some idle) (Some layout) service e =
+    let same = some-same _ service e in
+    (ap (λ (s : Service). Some s.limits.links) same, (ap (λ (s : Service). Some s.limits.idle) same, subst (λ (s : Service). 1 ≤ s.limits.events) same (lit≤ tt)))
+
+service-is : (options : List (List ℕ)) (service : Service) → asked_service options ≡ Some service → IsService service
+service-is [] service e = absurd (none-some service e)
+service-is (port ∷ []) service e = absurd (none-some service e)
+service-is (port ∷ links ∷ []) service e = absurd (none-some service e)
+service-is (port ∷ links ∷ idle ∷ options) service e =
+    let is = made (number_within 1 65535 port) (number_within 1 1024 links) (number_within 1 4294967295 idle) (asked_layout options) service e in
+    record {
+      links = least 1 1024 links service.limits.links is.0;
+      idle = least 1 4294967295 idle service.limits.idle is.1.0;
+      events = is.1.1;
+    }
+
+pub asked-service : (words : List (List ℕ)) (service : Service) → asked words ≡ Some (Serve service) → IsService service
+asked-service [] service e = absurd (none-some (Serve service) e)
+asked-service (word ∷ options) service e = elim (cases_Bool (bytes_eq word (codes "serve"))) [
+  | inl t ↦ service-is options service (served (asked_service options) service (let h = rw t at e in h))
+  | inr f ↦ absurd (not-answered (asked_command word options) service (let h = rw f at e in h))
+]

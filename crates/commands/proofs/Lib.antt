@@ -7,6 +7,9 @@ pub mod ById
 pub mod Given
 pub mod Inputs
 pub mod Lines
+pub mod Numbers
+pub mod Opening
+pub mod Served
 pub mod Reread
 pub mod Scenes
 pub mod States

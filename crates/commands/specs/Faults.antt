@@ -43,8 +43,11 @@ line_of (fault.Refused (refusal.Text number found)) = codes "board: text " ++ (d
 line_of (fault.Refused (refusal.Extra at)) = codes "board: extra text at byte " ++ (decimal at ++ newline)
 line_of fault.Write = codes "board: write fault" ++ newline
 
--- The notes gained the line of the fault, or a first part of it where their count of faults rose.
+-- The notes gained the line, or a first part of it where their count of faults rose.
+abbrev pub IsNoted : List ℕ → SinkEnd → SinkEnd → Type 0
+IsNoted line before after =
+    Took before after line ⊎ ((n : ℕ) × (n ≤ length line) × Took before after (take n line) × Rose before.faults after.faults)
+
+-- The notes gained the line of the fault.
 abbrev pub Noted : Fault → SinkEnd → SinkEnd → Type 0
-Noted fault before after =
-    Took before after (line_of fault)
-    ⊎ ((n : ℕ) × (n ≤ length (line_of fault)) × Took before after (take n (line_of fault)) × Rose before.faults after.faults)
+Noted fault before after = IsNoted (line_of fault) before after

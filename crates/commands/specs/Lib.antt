@@ -5,4 +5,6 @@ pub mod Ends
 pub mod Faults
 pub mod Input
 pub mod Pictures
+pub mod Services
+pub mod Serving
 pub mod Words

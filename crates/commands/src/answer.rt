@@ -1,7 +1,7 @@
 //! What an input is answered with, command by command.
 
-ghost use Rattle.std.specs.Prelude.{◌≡◌, ◌++◌, [], ◌∷◌, Ok, Err, IfOk};
-ghost use Rattle.scene_file.specs.Heads.{IsJoinedHead};
+ghost use Rattle.std.specs.Prelude.{◌≡◌, ◌++◌, [], ◌∷◌, List as Items, Ok, Err, IfOk, OnOk};
+ghost use Rattle.scene_file.specs.Heads.{Heading, IsJoinedHead};
 ghost use Rattle.commands.specs.Answers.{IsAnswer, IsBoardOf, IsShownAs, IsStoredAs, HasPictures, heads_of, updates_of};
 ghost use Rattle.commands.specs.Faults.{newline};
 ghost use Rattle.commands.specs.declared.status.Refusal.{Refusal};
@@ -72,7 +72,7 @@ fn pictures_text(alloc: Global, scenes: List<Scene>) -> Result<Bytes, AllocError
 }
 
 /// The joined head of these scenes, and what is stored of their elements.
-fn board_of(alloc: Global, scenes: List<Scene>) -> Result<(Head, Store), AllocError>
+pub(crate) fn board_of(alloc: Global, scenes: List<Scene>) -> Result<(Head, Store), AllocError>
     ensures { IfOk result (λ board. IsBoardOf scenes board.0 board.1.elements) }
 {
     let (head, updates) = joined(alloc, scenes)?;
@@ -88,18 +88,32 @@ fn joined(alloc: Global, scenes: List<Scene>) -> Result<(Head, List<Element>), A
     let mut head = Head::new(alloc);
     let mut updates = Vec::new(alloc);
     for scene in scenes.into_vec() {
-        let Scene {
-            head: other,
-            elements,
-        } = scene;
-        join(alloc, &mut head, &other)?;
-        updates.append(&mut elements.into_vec())?;
+        join_scene(alloc, &mut head, &mut updates, scene)?;
     }
     Ok((head, List::from_vec(updates)))
 }
 
+/// Joins the head of one more scene, and appends its elements.
+fn join_scene(
+    alloc: Global,
+    head: &mut Head,
+    updates: &mut Vec<Element>,
+    scene: Scene,
+) -> Result<(), AllocError>
+    ensures head { OnOk result ((heads : Items Heading)
+        → IsJoinedHead heads head.old → IsJoinedHead (heads ++ scene.head ∷ []) head.new) }
+    ensures updates { OnOk result (updates.new.items ≡ updates.old.items ++ scene.elements) }
+{
+    let Scene {
+        head: other,
+        elements,
+    } = scene;
+    join(alloc, head, &other)?;
+    updates.append(&mut elements.into_vec())
+}
+
 /// The text and a newline.
-fn ended(text: Bytes) -> Result<Bytes, AllocError>
+pub(crate) fn ended(text: Bytes) -> Result<Bytes, AllocError>
     ensures { IfOk result (λ ended. ended ≡ text ++ newline) }
 {
     let mut text = text;

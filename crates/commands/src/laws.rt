@@ -13,10 +13,11 @@ ghost use Rattle.commands.specs.Input.{HasScenes};
 ghost use Rattle.commands.specs.Words.{asked, words_of};
 ghost use Rattle.commands.specs.declared.status.Refusal.{Refusal};
 ghost use Rattle.commands.specs.declared.words.Command.{Command};
+ghost use Rattle.commands.specs.declared.words.Request.{Request};
 
 /// A command is asked for by its words, and by no others.
 pub fn words_ask()
-    ensures { (command : Command) (words : List (List ℕ)) → (asked words ≡ Some command) ↔ (words ≡ words_of command) }
+    ensures { (command : Command) (words : List (List ℕ)) → (asked words ≡ Some (Request.Answer command)) ↔ (words ≡ words_of command) }
 {}
 
 /// Each command has an answer to each input, whatever its bytes.

@@ -6,9 +6,10 @@ pub mod laws;
 mod load;
 mod pictures;
 mod running;
+mod serving;
 mod status;
 mod words;
 
 pub use running::board;
 pub use status::{Fault, Refusal, Status};
-pub use words::Command;
+pub use words::{Command, Request, Service};

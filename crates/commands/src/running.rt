@@ -1,21 +1,26 @@
 //! The top call: from the words and the input to the output, the notes and a status.
 
-ghost use Rattle.std.specs.Prelude.{◌≡◌, ◌≢◌, ◌↔◌, ◌⊎◌, ℕ, List, None, IsSome, IfOk, IfErr, OnOk, Result, Ok, Err};
+ghost use Rattle.std.specs.Prelude.{◌≡◌, ◌≢◌, ◌↔◌, ◌⊎◌, ℕ, List, None, Some, IsSome, IfOk, IfErr, OnOk, Result, Ok, Err};
 ghost use Rattle.board_io.specs.Counts.{Rose};
 ghost use Rattle.commands.specs.Again.{RestoresOnce, RestoresMerges, StatesStandFor};
 ghost use Rattle.commands.specs.Answers.{IsAnswer, Converges};
 ghost use Rattle.commands.specs.Causes.{HasCause};
-ghost use Rattle.commands.specs.Ends.{span, EndsWith, GaveWithin, GaveTooMuch, HasLeft, WasDone, WasDoneInPart, WasRefused};
+ghost use Rattle.commands.specs.Ends.{span, EndsWith, GaveWithin, GaveTooMuch, HasLeft, WasDone, WasDoneInPart, WasRead, WasRefused};
 ghost use Rattle.commands.specs.Faults.{status_of, Noted};
+ghost use Rattle.commands.specs.Services.{IsService};
+ghost use Rattle.commands.specs.Serving.{links_seen, EndsServing};
 ghost use Rattle.commands.specs.Words.{asked};
 ghost use Rattle.commands.specs.declared.status.Fault.{Fault};
 ghost use Rattle.commands.specs.declared.status.Refusal.{Refusal};
 ghost use Rattle.commands.specs.declared.words.Command.{Command};
+ghost use Rattle.commands.specs.declared.words.Request.{Request};
+ghost use Rattle.commands.specs.declared.words.Service.{Service};
 
 use crate::answer::answer;
+use crate::serving::{noted_end, serve};
 use crate::status::{Fault, Status};
 use crate::words;
-use crate::words::Command;
+use crate::words::{Command, Request, Service};
 use board_io::{Bytes, Failed, Links, ReadError, Sink, Source, Stop, read_all, write_all};
 use std::alloc::Global;
 
@@ -24,7 +29,7 @@ const LIMIT: usize = 67108864;
 
 /// Does what the words ask for, over this input, output and links. On every answer but `Done` and `Idle` one line on the
 /// fault goes to the notes; a fault of the notes changes no status. The whole output is made before its first byte is
-/// written. No command calls the links yet.
+/// written. No command but `serve` calls the links.
 pub fn board<S: Source, K: Sink, N: Sink, L: Links>(
     alloc: Global,
     words: &[Bytes],
@@ -33,85 +38,149 @@ pub fn board<S: Source, K: Sink, N: Sink, L: Links>(
     notes: &mut N,
     links: &mut L,
 ) -> Status
-    // Usage: no form of a command is asked for, and nothing is read.
+    // Usage: the words are no form of a command, and nothing is read.
     ensures usage { (result ≡ Status.Usage) ↔ (asked words.now ≡ None) }
-    ensures usage_unread { result ≡ Status.Usage → input.new ≡ input.old }
+    ensures usage_unread { result ≡ Status.Usage
+        → (input.new ≡ input.old) × ((links.new ≡ links.old) × Noted Fault.Usage (N.seen notes.old) (N.seen notes.new)) }
 
-    // Done: the input, read to its end, is answered with a text, and that is written.
-    ensures done { result ≡ Status.Done
-        → WasDone (asked words.now) (span (S.seen input.old) (S.seen input.new)) (span (K.seen output.old) (K.seen output.new)) }
+    // A command that answers an input. Done: the input, read to its end, is answered with a text, and that is written.
+    ensures done { (command : Command) → asked words.now ≡ Some (Request.Answer command) → result ≡ Status.Done
+        → WasDone (Some command) (span (S.seen input.old) (S.seen input.new)) (span (K.seen output.old) (K.seen output.new)) }
 
     // Refused: the input is too long, or answered with a fault, and the notes tell it.
-    ensures refused { result ≡ Status.Refused → (fault : Fault)
-        × WasRefused (asked words.now) fault (span (S.seen input.old) (S.seen input.new))
+    ensures refused { (command : Command) → asked words.now ≡ Some (Request.Answer command) → result ≡ Status.Refused → (fault : Fault)
+        × WasRefused (Some command) fault (span (S.seen input.old) (S.seen input.new))
         × Noted fault (N.seen notes.old) (N.seen notes.new) }
 
     // ReadFault and WriteFault: the count of faults rose; what was read was within the limit, and a first part was written.
-    ensures read_fault { result ≡ Status.ReadFault → Rose (S.seen input.old).faults (S.seen input.new).faults
-        × GaveWithin (span (S.seen input.old) (S.seen input.new)) }
-    ensures write_fault { result ≡ Status.WriteFault
-        → WasDoneInPart (asked words.now) (span (S.seen input.old) (S.seen input.new)) (span (K.seen output.old) (K.seen output.new)) }
+    ensures read_fault { (command : Command) → asked words.now ≡ Some (Request.Answer command) → result ≡ Status.ReadFault
+        → Rose (S.seen input.old).faults (S.seen input.new).faults × GaveWithin (span (S.seen input.old) (S.seen input.new)) }
+    ensures write_fault { (command : Command) → asked words.now ≡ Some (Request.Answer command) → result ≡ Status.WriteFault
+        → WasDoneInPart (Some command) (span (S.seen input.old) (S.seen input.new)) (span (K.seen output.old) (K.seen output.new)) }
 
     // Where the input tells its bytes and doesn't fail: Done with the one text that the command answers these bytes with,
     // unless the output fails, or Refused with the one fault; or memory is wanted.
-    ensures complete { (command : Command) (bytes : List ℕ) → asked words.now ≡ Some command
+    ensures complete { (command : Command) (bytes : List ℕ) → asked words.now ≡ Some (Request.Answer command)
         → HasLeft (S.seen input.old) bytes
         → ¬ Rose (S.seen input.old).faults (S.seen input.new).faults
         → (result ≡ Status.Memory) ⊎ ((answer : Result (List ℕ) Refusal) × IsAnswer command bytes answer
         × EndsWith answer result (span (K.seen output.old) (K.seen output.new)) (span (N.seen notes.old) (N.seen notes.new))) }
-    ensures too_long { IsSome (S.seen input.old).left → GaveTooMuch (span (S.seen input.old) (S.seen input.new))
+    ensures too_long { (command : Command) → asked words.now ≡ Some (Request.Answer command)
+        → IsSome (S.seen input.old).left → GaveTooMuch (span (S.seen input.old) (S.seen input.new))
         → (result ≡ Status.Memory)
         ⊎ ((result ≡ Status.Refused) × Noted Fault.TooLong (N.seen notes.old) (N.seen notes.new)) }
 
-    // Inputs with the same updates and the same heads, in whatever order, grouping and repetition, are merged to one
-    // text.
+    // What stays, and what the notes gain.
+    ensures output_kept { (command : Command) → asked words.now ≡ Some (Request.Answer command)
+        → result ≢ Status.Done → result ≢ Status.WriteFault → output.new ≡ output.old }
+    ensures notes_kept { (result ≡ Status.Done) ⊎ (result ≡ Status.Idle) → notes.new ≡ notes.old }
+    ensures noted { (command : Command) → asked words.now ≡ Some (Request.Answer command) → result ≢ Status.Done
+        → (fault : Fault) × (status_of fault ≡ result) × Noted fault (N.seen notes.old) (N.seen notes.new) }
+    ensures links_kept { (command : Command) → asked words.now ≡ Some (Request.Answer command) → links.new ≡ links.old }
+    ensures unlinked { (command : Command) → asked words.now ≡ Some (Request.Answer command)
+        → (result ≢ Status.LinkFault) × (result ≢ Status.Idle) }
+
+    // A room that is served: each end by its cause, and what was read, sent and written by then.
+    ensures served { (service : Service) → asked words.now ≡ Some (Request.Serve service) → EndsServing service
+        (record { input = S.seen input.old; output = K.seen output.old; links = links_seen L.port L.given L.sent L.lost L.faults links.old })
+        (record { input = S.seen input.new; output = K.seen output.new; links = links_seen L.port L.given L.sent L.lost L.faults links.new })
+        (N.seen notes.old) (N.seen notes.new) result }
+    ensures unwritten { (result ≡ Status.Memory) ⊎ ((result ≡ Status.Usage) ⊎ (result ≡ Status.ReadFault)) → output.new ≡ output.old }
+    ensures unserved { result ≡ Status.ReadFault → links.new ≡ links.old }
+
+    // Inputs with the same updates, free of clashes, are merged to one text.
     ensures converges { Converges }
 
     // What was restored or merged is restored as the input itself, and the states of inputs stand for these.
     ensures restores_once { RestoresOnce }
     ensures restores_merges { RestoresMerges }
     ensures states_stand_for { StatesStandFor }
+{
+    match words::asked(words) {
+        None => Fault::Usage.noted(notes),
+        Some(Request::Answer(command)) => answer_run(alloc, command, input, output, notes),
+        Some(Request::Serve(service)) => serve_run(alloc, service, input, output, notes, links),
+    }
+}
 
-    // What stays, and what the notes gain.
+/// Answers the input with a text, which is written, or notes why not.
+fn answer_run<S: Source, K: Sink, N: Sink>(
+    alloc: Global,
+    command: Command,
+    input: &mut S,
+    output: &mut K,
+    notes: &mut N,
+) -> Status
+    ensures done { result ≡ Status.Done
+        → WasDone (Some command) (span (S.seen input.old) (S.seen input.new)) (span (K.seen output.old) (K.seen output.new)) }
+    ensures refused { result ≡ Status.Refused → (fault : Fault)
+        × WasRefused (Some command) fault (span (S.seen input.old) (S.seen input.new))
+        × Noted fault (N.seen notes.old) (N.seen notes.new) }
+    ensures read_fault { result ≡ Status.ReadFault → Rose (S.seen input.old).faults (S.seen input.new).faults
+        × GaveWithin (span (S.seen input.old) (S.seen input.new)) }
+    ensures write_fault { result ≡ Status.WriteFault
+        → WasDoneInPart (Some command) (span (S.seen input.old) (S.seen input.new)) (span (K.seen output.old) (K.seen output.new)) }
+    ensures complete { (bytes : List ℕ) → HasLeft (S.seen input.old) bytes
+        → ¬ Rose (S.seen input.old).faults (S.seen input.new).faults
+        → (result ≡ Status.Memory) ⊎ ((answer : Result (List ℕ) Refusal) × IsAnswer command bytes answer
+        × EndsWith answer result (span (K.seen output.old) (K.seen output.new)) (span (N.seen notes.old) (N.seen notes.new))) }
+    ensures too_long { IsSome (S.seen input.old).left → GaveTooMuch (span (S.seen input.old) (S.seen input.new))
+        → (result ≡ Status.Memory)
+        ⊎ ((result ≡ Status.Refused) × Noted Fault.TooLong (N.seen notes.old) (N.seen notes.new)) }
+    ensures used { result ≢ Status.Usage }
     ensures output_kept { result ≢ Status.Done → result ≢ Status.WriteFault → output.new ≡ output.old }
     ensures notes_kept { result ≡ Status.Done → notes.new ≡ notes.old }
     ensures noted { result ≢ Status.Done
         → (fault : Fault) × (status_of fault ≡ result) × Noted fault (N.seen notes.old) (N.seen notes.new) }
-    ensures links_kept { links.new ≡ links.old }
     ensures unlinked { (result ≢ Status.LinkFault) × (result ≢ Status.Idle) }
 {
-    match run(alloc, words, input, output) {
+    match run(alloc, command, input, output) {
         Ok(()) => Status::Done,
         Err(fault) => fault.noted(notes),
     }
 }
 
-/// Does what the words ask for, over this input and output.
+/// Serves a room that begins with the scenes of the input, and writes the scene at its end, or notes why not.
+fn serve_run<S: Source, K: Sink, N: Sink, L: Links>(
+    alloc: Global,
+    service: Service,
+    input: &mut S,
+    output: &mut K,
+    notes: &mut N,
+    links: &mut L,
+) -> Status
+    requires { IsService service }
+    ensures served { EndsServing service
+        (record { input = S.seen input.old; output = K.seen output.old; links = links_seen L.port L.given L.sent L.lost L.faults links.old })
+        (record { input = S.seen input.new; output = K.seen output.new; links = links_seen L.port L.given L.sent L.lost L.faults links.new })
+        (N.seen notes.old) (N.seen notes.new) result }
+    ensures notes_kept { (result ≡ Status.Done) ⊎ (result ≡ Status.Idle) → notes.new ≡ notes.old }
+    ensures unwritten { (result ≡ Status.Memory) ⊎ (result ≡ Status.ReadFault) → output.new ≡ output.old }
+    ensures unserved { result ≡ Status.ReadFault → links.new ≡ links.old }
+{
+    match serve(alloc, service, input, output, links) {
+        Ok(end) => noted_end(end, notes),
+        Err(fault) => fault.noted(notes),
+    }
+}
+
+/// Answers the input with a text, and writes that.
 fn run<S: Source, K: Sink>(
     alloc: Global,
-    words: &[Bytes],
+    command: Command,
     input: &mut S,
     output: &mut K,
 ) -> Result<(), Fault>
-    ensures usage { (result ≡ Err Fault.Usage) ↔ (asked words.now ≡ None) }
-    ensures usage_unread { result ≡ Err Fault.Usage → input.new ≡ input.old }
+    ensures used { result ≢ Err Fault.Usage }
     ensures done { OnOk result
-        (WasDone (asked words.now) (span (S.seen input.old) (S.seen input.new)) (span (K.seen output.old) (K.seen output.new))) }
-    ensures fault { IfErr result (λ fault. HasCause fault (asked words.now)
+        (WasDone (Some command) (span (S.seen input.old) (S.seen input.new)) (span (K.seen output.old) (K.seen output.new))) }
+    ensures fault { IfErr result (λ fault. HasCause fault (Some command)
         (span (S.seen input.old) (S.seen input.new)) (span (K.seen output.old) (K.seen output.new))) }
     ensures too_long { IsSome (S.seen input.old).left → GaveTooMuch (span (S.seen input.old) (S.seen input.new))
         → (result ≡ Err Fault.Memory) ⊎ (result ≡ Err Fault.TooLong) }
     ensures output_kept { IfErr result (λ fault. fault ≢ Fault.Write → output.new ≡ output.old) }
 {
-    let Some(command) = words::asked(words) else {
-        return Err(Fault::Usage);
-    };
-    let bytes = match read_all(alloc, input, LIMIT) {
-        Ok(bytes) => bytes,
-        Err(Stop::Fault(ReadError::Failed)) => return Err(Fault::Read),
-        Err(Stop::Fault(ReadError::TooLong)) => return Err(Fault::TooLong),
-        Err(Stop::Memory) => return Err(Fault::Memory),
-    };
+    let bytes = input_of(alloc, input)?;
     let text = match answer(alloc, command, bytes) {
         Ok(text) => text,
         Err(Stop::Fault(refusal)) => return Err(Fault::Refused(refusal)),
@@ -120,5 +189,23 @@ fn run<S: Source, K: Sink>(
     match write_all(output, text.as_slice()) {
         Ok(()) => Ok(()),
         Err(Failed) => Err(Fault::Write),
+    }
+}
+
+/// The whole input, within the limit.
+pub(crate) fn input_of<S: Source>(alloc: Global, input: &mut S) -> Result<Bytes, Fault>
+    ensures read { IfOk result (WasRead (span (S.seen input.old) (S.seen input.new))) }
+    ensures read_fault { result ≡ Err Fault.Read → Rose (S.seen input.old).faults (S.seen input.new).faults
+        × GaveWithin (span (S.seen input.old) (S.seen input.new)) }
+    ensures too_long { result ≡ Err Fault.TooLong → GaveTooMuch (span (S.seen input.old) (S.seen input.new)) }
+    ensures long { IsSome (S.seen input.old).left → GaveTooMuch (span (S.seen input.old) (S.seen input.new))
+        → (result ≡ Err Fault.Memory) ⊎ (result ≡ Err Fault.TooLong) }
+    ensures only { IfErr result (λ fault. (fault ≡ Fault.Memory) ⊎ ((fault ≡ Fault.Read) ⊎ (fault ≡ Fault.TooLong))) }
+{
+    match read_all(alloc, input, LIMIT) {
+        Ok(bytes) => Ok(bytes),
+        Err(Stop::Fault(ReadError::Failed)) => Err(Fault::Read),
+        Err(Stop::Fault(ReadError::TooLong)) => Err(Fault::TooLong),
+        Err(Stop::Memory) => Err(Fault::Memory),
     }
 }

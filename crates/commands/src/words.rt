@@ -1,12 +1,18 @@
 //! What the words of a command line ask for.
 
-ghost use Rattle.std.specs.Prelude.{◌≡◌};
-ghost use Rattle.commands.specs.Words.{asked, asked_alone, asked_layout};
+ghost use Rattle.std.specs.Prelude.{◌≡◌, ◌≤◌, ◌<◌, ◌^◌, IfSome};
+ghost use Rattle.commands.specs.Services.{number_within, service_of};
+ghost use Rattle.commands.specs.Words.{asked, asked_alone, asked_command, asked_layout, asked_service};
 
 use board_io::Bytes;
+use room_core::RoomLimits;
 use scene_file::Layout;
+use scene_json::whole_in;
 
-/// What the words ask for.
+/// How many events other than Idle a room is served at most.
+const MOST_EVENTS: u64 = 1_000_000_000;
+
+/// A command that answers an input with a text.
 #[derive(Clone, Copy, Debug, PartialEq, Eq)]
 pub enum Command {
     /// To restore one scene, in this layout.
@@ -19,11 +25,42 @@ pub enum Command {
     Pictures,
 }
 
-/// The command that these words ask for.
-pub fn asked(words: &[Bytes]) -> Option<Command>
+/// How a room is to be served.
+#[derive(Clone, Copy, Debug, PartialEq, Eq)]
+pub struct Service {
+    /// The port of the loopback that it listens on.
+    pub port: u16,
+    /// What it is served up to.
+    pub limits: RoomLimits,
+    /// The layout of the scene at its end.
+    pub layout: Layout,
+}
+
+/// What the words ask for.
+#[derive(Clone, Copy, Debug, PartialEq, Eq)]
+pub enum Request {
+    /// To answer an input with a text.
+    Answer(Command),
+    /// To serve a room that begins with the scenes of an input.
+    Serve(Service),
+}
+
+/// What these words ask for.
+pub fn asked(words: &[Bytes]) -> Option<Request>
     ensures { result ≡ asked words.now }
 {
     let (word, options) = words.split_first()?;
+    if word.as_slice() == b"serve".as_slice() {
+        asked_service(options).map(Request::Serve)
+    } else {
+        asked_command(word, options).map(Request::Answer)
+    }
+}
+
+/// The command of this name with these words behind it.
+fn asked_command(word: &Bytes, options: &[Bytes]) -> Option<Command>
+    ensures { result ≡ asked_command word.now options.now }
+{
     let word = word.as_slice();
     if word == b"restore".as_slice() {
         asked_layout(options).map(Command::Restore)
@@ -35,6 +72,52 @@ pub fn asked(words: &[Bytes]) -> Option<Command>
         asked_alone(Command::Pictures, options)
     } else {
         None
+    }
+}
+
+/// The service that these words say: PORT, LINKS and IDLE, and a layout.
+fn asked_service(options: &[Bytes]) -> Option<Service>
+    ensures { result ≡ asked_service options.now }
+{
+    let [port, links, idle, layout @ ..] = options else {
+        return None;
+    };
+    let port = number_within(1, 65_535, port);
+    let links = number_within(1, 1_024, links);
+    let idle = number_within(1, 4_294_967_295, idle);
+    service_of(port, links, idle, asked_layout(layout))
+}
+
+/// The service with these numbers in this layout, where all are there.
+fn service_of(
+    port: Option<u64>,
+    links: Option<u64>,
+    idle: Option<u64>,
+    layout: Option<Layout>,
+) -> Option<Service>
+    requires { IfSome port (λ port. port < 2 ^ 16) }
+    ensures { result ≡ service_of port links idle layout }
+{
+    Some(Service {
+        port: port? as u16,
+        limits: RoomLimits {
+            links: links?,
+            idle: idle?,
+            events: MOST_EVENTS,
+        },
+        layout: layout?,
+    })
+}
+
+/// The number that the word is in plain decimal, if it is one at least the one number and at most the other.
+fn number_within(least: u64, most: u64, word: &Bytes) -> Option<u64>
+    requires { most ≤ 9007199254740991 }
+    ensures number { result ≡ number_within least most word.now }
+    ensures bound { IfSome result (λ number. number ≤ most) }
+{
+    match whole_in(word.as_slice()) {
+        Some(number) if least <= number && number <= most => Some(number),
+        _ => None,
     }
 }
 

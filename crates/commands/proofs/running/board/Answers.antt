@@ -1,78 +1,70 @@
-use Rattle.std.proofs.Common.{◌≡◌, ◌⊎◌, inl, inr, ℕ, List, Option, Some, Result, Ok, Err, refl, sym, subst, subst₂, ◌∙◌}
-use Rattle.board_io.specs.Counts.{Rose}
-use Rattle.board_io.specs.Ends.{SourceEnd, SinkEnd}
+use Rattle.std.proofs.Common.{◌≡◌, ◌⊎◌, ℕ, List, Some, Result, subst}
 use Rattle.commands.specs.Answers.{IsAnswer}
-use Rattle.commands.specs.Causes.{HasCause}
-use Rattle.commands.specs.Ends.{span, EndsWith, HasLeft, WasDone}
-use Rattle.commands.specs.Faults.{status_of, Noted}
-use Rattle.commands.specs.Words.{asked}
+use Rattle.commands.specs.Ends.{span, EndsWith, WasRefused}
+use Rattle.commands.specs.Faults.{Noted}
 use Rattle.commands.specs.declared.status.Fault.{Fault}
 use Rattle.commands.specs.declared.status.Refusal.{Refusal}
-use Rattle.commands.specs.declared.status.Status.{Status}
-use Rattle.commands.specs.declared.status.Status.TheVariants as status
+use Rattle.commands.specs.declared.status.Status.TheVariants.{Memory}
 use Rattle.commands.specs.declared.words.Command.{Command}
+use Rattle.commands.specs.Words.{asked}
+use Rattle.commands.specs.declared.words.Request.TheVariants.{Answer, Serve}
 use Rattle.commands.proofs.Again.{restores-once, restores-merges}
-use Rattle.commands.proofs.Answering.{text-ends, fault-ends}
-use Rattle.commands.proofs.Existing.{answer-exists}
-use Rattle.commands.proofs.Given.{read-whole}
+use Rattle.commands.proofs.Asking.{asked-service}
 use Rattle.commands.proofs.States.{states-stand_for}
 use Rattle.commands.proofs.Unique.{merges-converge}
 use Rattle.commands.proofs.running.board.Goals as goal
 
--- the ends of runs over an input that tells its bytes
-module _ (asks : Option Command) (command : Command) (bytes : List ℕ) (before after : SourceEnd) (out out_after notes notes_after : SinkEnd) (result : Status)
-    (is : asks ≡ Some command) (left : HasLeft before bytes) where
-  abbrev IsComplete : Type 0
-  IsComplete = (result ≡ status.Memory) ⊎ ((answer : Result (List ℕ) Refusal) × IsAnswer command bytes answer × EndsWith answer result (span out out_after) (span notes notes_after))
+pub serve_run-requires : goal.serve_run-requires
+serve_run-requires g c =
+    let is : asked c.args.words.now ≡ Some (Serve c.in-Some-Serve.service) = cc in
+    asked-service c.args.words.now c.in-Some-Serve.service is
 
-  complete-done : result ≡ status.Done → WasDone asks (span before after) (span out out_after) → IsComplete
-  complete-done done w =
-      let both : Some w.asked ≡ Some command = sym w.is_asked ∙ is in
-      let one : w.asked ≡ command = cc in
-      inr (Ok w.text, subst₂ (λ c b. IsAnswer c b (Ok w.text)) one (read-whole bytes w.bytes before after left w.read) w.answer, inl (done, w.took))
+pub returns-in-None-clause-converges : goal.returns-in-None-clause-converges
+returns-in-None-clause-converges g c = merges-converge
 
-  complete-fault : (f : Fault) → HasCause f asks (span before after) (span out out_after) → result ≡ status_of f → Noted f notes notes_after
-      → (Rose before.faults after.faults → ⊥) → IsComplete
-  complete-fault f cause ended note reads = by (answer-exists command bytes)
-    where
-      by : (answer : Result (List ℕ) Refusal) × IsAnswer command bytes answer → IsComplete
-      by (Ok text, answered) = elim (text-ends asks command bytes (Ok text) before after is left answered text f out out_after refl cause reads) [
-        | inl memory ↦ inl (ended ∙ memory)
-        | inr (failed, rose) ↦ inr (Ok text, answered, inr (ended ∙ failed, rose))
-      ]
-      by (Err why, answered) = elim (fault-ends asks command bytes (Err why) before after is left answered why f out out_after refl cause reads) [
-        | inl memory ↦ inl (ended ∙ memory)
-        | inr (refused, same) ↦ inr (Err why, answered, (ended ∙ refused, subst (λ g. Noted g notes notes_after) same note))
-      ]
+pub returns-in-None-clause-restores_once : goal.returns-in-None-clause-restores_once
+returns-in-None-clause-restores_once g c = restores-once
 
-pub returns-in-Ok-clause-complete : goal.returns-in-Ok-clause-complete
-returns-in-Ok-clause-complete g c command bytes is left reads =
-    complete-done (asked c.args.words.now) command bytes _ _ _ _ _ _ _ is left refl c.in-Ok.ensures.done
+pub returns-in-None-clause-restores_merges : goal.returns-in-None-clause-restores_merges
+returns-in-None-clause-restores_merges g c = restores-merges
 
-pub returns-in-Ok-clause-converges : goal.returns-in-Ok-clause-converges
-returns-in-Ok-clause-converges g c = merges-converge
+pub returns-in-None-clause-states_stand_for : goal.returns-in-None-clause-states_stand_for
+returns-in-None-clause-states_stand_for g c = states-stand_for
 
-pub returns-in-Ok-clause-restores_once : goal.returns-in-Ok-clause-restores_once
-returns-in-Ok-clause-restores_once g c = restores-once
+pub returns-in-Some-Answer-clause-converges : goal.returns-in-Some-Answer-clause-converges
+returns-in-Some-Answer-clause-converges g c = merges-converge
 
-pub returns-in-Ok-clause-restores_merges : goal.returns-in-Ok-clause-restores_merges
-returns-in-Ok-clause-restores_merges g c = restores-merges
+pub returns-in-Some-Answer-clause-restores_once : goal.returns-in-Some-Answer-clause-restores_once
+returns-in-Some-Answer-clause-restores_once g c = restores-once
 
-pub returns-in-Ok-clause-states_stand_for : goal.returns-in-Ok-clause-states_stand_for
-returns-in-Ok-clause-states_stand_for g c = states-stand_for
+pub returns-in-Some-Answer-clause-restores_merges : goal.returns-in-Some-Answer-clause-restores_merges
+returns-in-Some-Answer-clause-restores_merges g c = restores-merges
 
-pub returns-in-Err-clause-complete : goal.returns-in-Err-clause-complete
-returns-in-Err-clause-complete g c command bytes is left reads =
-    complete-fault (asked c.args.words.now) command bytes _ _ _ _ _ _ _ is left c.in-Err.fault c.in-Err.ensures.fault c.noted.ensures.status c.noted.ensures.noted reads
+pub returns-in-Some-Answer-clause-states_stand_for : goal.returns-in-Some-Answer-clause-states_stand_for
+returns-in-Some-Answer-clause-states_stand_for g c = states-stand_for
 
-pub returns-in-Err-clause-converges : goal.returns-in-Err-clause-converges
-returns-in-Err-clause-converges g c = merges-converge
+pub returns-in-Some-Serve-clause-converges : goal.returns-in-Some-Serve-clause-converges
+returns-in-Some-Serve-clause-converges g c = merges-converge
 
-pub returns-in-Err-clause-restores_once : goal.returns-in-Err-clause-restores_once
-returns-in-Err-clause-restores_once g c = restores-once
+pub returns-in-Some-Serve-clause-restores_once : goal.returns-in-Some-Serve-clause-restores_once
+returns-in-Some-Serve-clause-restores_once g c = restores-once
 
-pub returns-in-Err-clause-restores_merges : goal.returns-in-Err-clause-restores_merges
-returns-in-Err-clause-restores_merges g c = restores-merges
+pub returns-in-Some-Serve-clause-restores_merges : goal.returns-in-Some-Serve-clause-restores_merges
+returns-in-Some-Serve-clause-restores_merges g c = restores-merges
 
-pub returns-in-Err-clause-states_stand_for : goal.returns-in-Err-clause-states_stand_for
-returns-in-Err-clause-states_stand_for g c = states-stand_for
+pub returns-in-Some-Serve-clause-states_stand_for : goal.returns-in-Some-Serve-clause-states_stand_for
+returns-in-Some-Serve-clause-states_stand_for g c = states-stand_for
+
+pub returns-in-Some-Answer-clause-complete : goal.returns-in-Some-Answer-clause-complete
+returns-in-Some-Answer-clause-complete g c command bytes is left reads =
+    let same : c.in-Some-Answer.command ≡ command = cc in
+    subst (λ (own : Command). (c.answer_run.result ≡ Memory) ⊎ ((answer : Result (List ℕ) Refusal) × IsAnswer own bytes answer
+        × EndsWith answer c.answer_run.result (span (g.K.Sink.seen c.args.output.now) (g.K.Sink.seen c.answer_run.new.output)) (span (g.N.Sink.seen c.args.notes.now) (g.N.Sink.seen c.answer_run.new.notes))))
+    same (c.answer_run.ensures.complete bytes left reads)
+
+pub returns-in-Some-Answer-clause-refused : goal.returns-in-Some-Answer-clause-refused
+returns-in-Some-Answer-clause-refused g c command is refused =
+    let same : c.in-Some-Answer.command ≡ command = cc in
+    subst (λ (own : Command). (fault : Fault) × WasRefused (Some own) fault (span (g.S.Source.seen c.args.input.now) (g.S.Source.seen c.answer_run.new.input))
+        × Noted fault (g.N.Sink.seen c.args.notes.now) (g.N.Sink.seen c.answer_run.new.notes))
+    same (c.answer_run.ensures.refused refused)

@@ -1,0 +1,31 @@
+-- What the words of a service say. This project's own.
+use Rattle.std.specs.Prelude.{ℕ, ◌≤◌, List, [], ◌∷◌, Bool, ◌&&◌, Option, Some, None, nat_le, bytes_eq, decimal, if◌then◌else◌}
+use Rattle.std.specs.Str.Parse.{digits_value}
+use Rattle.scene_file.specs.declared.layout.Layout.{Layout}
+use Rattle.room_core.specs.declared.limits.RoomLimits.{RoomLimits}
+use Rattle.commands.specs.declared.words.Service.{Service}
+
+-- how many events other than Idle a room is served at most
+abbrev pub most_events : ℕ
+most_events = 1000000000
+
+-- whether a word is a number in plain decimal, at least the one number and at most the other
+abbrev pub is_number_within : ℕ → ℕ → List ℕ → Bool
+is_number_within least most word =
+    bytes_eq word (decimal (digits_value 10 word)) && (nat_le least (digits_value 10 word) && nat_le (digits_value 10 word) most)
+
+-- that number, if the word is one
+abbrev pub number_within : ℕ → ℕ → List ℕ → Option ℕ
+number_within least most word = if is_number_within least most word then Some (digits_value 10 word) else None
+
+-- the service with these numbers in this layout, where all are there
+abbrev pub service_of : Option ℕ → Option ℕ → Option ℕ → Option Layout → Option Service
+service_of (Some port) (Some links) (Some idle) (Some layout) =
+    Some (record { port = port; limits = record { links = links; idle = idle; events = most_events }; layout = layout })
+service_of port links idle layout = None
+
+-- Each of its limits is at least 1.
+pub record IsService (service : Service) : Type 0 where
+  pub links : 1 ≤ service.limits.links
+  pub idle : 1 ≤ service.limits.idle
+  pub events : 1 ≤ service.limits.events

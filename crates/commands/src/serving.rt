@@ -1,0 +1,151 @@
+//! A room that is served: from the scenes that it begins with to the scene that is written at its end.
+
+ghost use Rattle.std.specs.Prelude.{◌≡◌, ◌≢◌, ◌⊎◌, Some, [], List as Items, IfOk, IfErr, Err};
+ghost use Rattle.board_io.specs.Counts.{Rose};
+ghost use Rattle.room_core.specs.Serving.{at_start, IsServed};
+ghost use Rattle.room_core.specs.Told.{told_of};
+ghost use Rattle.scene_file.specs.declared.scene.Scene.{Scene};
+ghost use Rattle.commands.specs.Answers.{IsBoardOf, IsRefusal};
+ghost use Rattle.commands.specs.Input.{HasScenes};
+ghost use Rattle.commands.specs.Services.{IsService};
+ghost use Rattle.commands.specs.Serving.{links_seen, end_line, end_status, HasServingCause, IsSceneOfStored, WasHeld, WasServedTo};
+ghost use Rattle.commands.specs.Faults.{IsNoted};
+ghost use Rattle.commands.specs.declared.status.Fault.{Fault};
+ghost use Rattle.commands.specs.declared.status.Refusal.{Refusal};
+
+use crate::answer::{board_of, ended};
+use crate::load::scenes;
+use crate::running::input_of;
+use crate::status::{Fault, Refusal, Status};
+use crate::words::Service;
+use board_io::{
+    Bytes, Failed, LinkError, Links, Piece, Sink, Source, Stop, write_all, write_pieces,
+};
+use elem_store::Store;
+use room_core::{Room, ServeEnd, serve_room};
+use scene_file::{Head, Layout, scene_text};
+use std::alloc::{AllocError, Global};
+use view::view_of;
+
+/// Reads the scenes that a room begins with, serves it to its end, and writes the scene of what it stores then.
+pub(crate) fn serve<S: Source, K: Sink, L: Links>(
+    alloc: Global,
+    service: Service,
+    input: &mut S,
+    output: &mut K,
+    links: &mut L,
+) -> Result<ServeEnd, Fault>
+    requires { IsService service }
+    ensures served { IfOk result (λ end. (end ≢ ServeEnd.Memory) × WasServedTo service end
+        (record { input = S.seen input.old; output = K.seen output.old; links = links_seen L.port L.given L.sent L.lost L.faults links.old })
+        (record { input = S.seen input.new; output = K.seen output.new; links = links_seen L.port L.given L.sent L.lost L.faults links.new })) }
+    ensures rose { IfOk result (λ end. end ≡ ServeEnd.LinkFault → Rose (L.faults links.old) (L.faults links.new)) }
+    ensures fault { IfErr result (λ fault. HasServingCause fault service
+        (record { input = S.seen input.old; output = K.seen output.old; links = links_seen L.port L.given L.sent L.lost L.faults links.old })
+        (record { input = S.seen input.new; output = K.seen output.new; links = links_seen L.port L.given L.sent L.lost L.faults links.new })) }
+    ensures output_kept { IfErr result (λ fault. fault ≢ Fault.Write → output.new ≡ output.old) }
+    ensures links_kept { IfErr result (λ fault. fault ≢ Fault.Write → fault ≢ Fault.Memory → links.new ≡ links.old) }
+{
+    let bytes = input_of(alloc, input)?;
+    let (head, store) = match begin(alloc, bytes) {
+        Ok(begun) => begun,
+        Err(Stop::Fault(refusal)) => return Err(Fault::Refused(refusal)),
+        Err(Stop::Memory) => return Err(Fault::Memory),
+    };
+    let (end, text) = hold(alloc, service, &head, store, links)?;
+    match write_all(output, text.as_slice()) {
+        Ok(()) => Ok(end),
+        Err(Failed) => Err(Fault::Write),
+    }
+}
+
+/// The joined head of the scenes of an input, and what is stored of them.
+fn begin(alloc: Global, input: Bytes) -> Result<(Head, Store), Stop<Refusal>>
+    ensures begun { IfOk result (λ begun. (scenes : Items Scene) × HasScenes input scenes × IsBoardOf scenes begun.0 begun.1.elements) }
+    ensures refusal { (refusal : Refusal) → result ≡ Err (Stop.Fault refusal) → IsRefusal input refusal }
+{
+    let scenes = scenes(alloc, input)?;
+    Ok(board_of(alloc, scenes)?)
+}
+
+/// Serves a room that begins with this store to its end, and gives the text of its scene then.
+fn hold<L: Links>(
+    alloc: Global,
+    service: Service,
+    head: &Head,
+    store: Store,
+    links: &mut L,
+) -> Result<(ServeEnd, Bytes), Fault>
+    requires { IsService service }
+    ensures held { IfOk result (λ held. WasHeld service head.now store.elements
+        (told_of L.given L.sent L.lost links.old) (told_of L.given L.sent L.lost links.new) held.0 held.1) }
+    ensures end { IfOk result (λ held. held.0 ≢ ServeEnd.Memory) }
+    ensures rose { IfOk result (λ held. held.0 ≡ ServeEnd.LinkFault → Rose (L.faults links.old) (L.faults links.new)) }
+    ensures port { IfOk result (λ held. (held.0 ≡ ServeEnd.LinkFault) ⊎ (L.port links.new ≡ Some service.port)) }
+    ensures memory { IfErr result (λ fault. fault ≡ Fault.Memory) }
+{
+    let mut room = Room::new(alloc, store);
+    let end = serve_on(alloc, service, &mut room, links);
+    if end == ServeEnd::Memory {
+        return Err(Fault::Memory);
+    }
+    match room_text(alloc, head, &room, service.layout) {
+        Ok(text) => Ok((end, text)),
+        Err(AllocError) => Err(Fault::Memory),
+    }
+}
+
+/// Listens on the port, and serves the room to its end.
+fn serve_on<L: Links>(alloc: Global, service: Service, room: &mut Room, links: &mut L) -> ServeEnd
+    requires service { IsService service }
+    requires fresh { room.old.joined ≡ [] }
+    ensures served { IsServed service.limits (at_start room.old) room.new
+        (told_of L.given L.sent L.lost links.old) (told_of L.given L.sent L.lost links.new) result }
+    ensures fault { result ≡ ServeEnd.LinkFault → Rose (L.faults links.old) (L.faults links.new) }
+    ensures port { (result ≡ ServeEnd.LinkFault) ⊎ ((result ≡ ServeEnd.Memory) ⊎ (L.port links.new ≡ Some service.port)) }
+{
+    match links.listen(service.port) {
+        Ok(()) => serve_room(alloc, room, links, &service.limits),
+        Err(LinkError::Failed) => ServeEnd::LinkFault,
+        Err(LinkError::Memory) => ServeEnd::Memory,
+    }
+}
+
+/// The text of the scene that is shown of what the room stores, and a newline.
+fn room_text(alloc: Global, head: &Head, room: &Room, layout: Layout) -> Result<Bytes, AllocError>
+    ensures { IfOk result (IsSceneOfStored layout head.now room.now.elements) }
+{
+    let view = view_of(alloc, room.store())?;
+    ended(scene_text(alloc, head, &view, layout)?)
+}
+
+/// Notes a room's end, where it is a fault, and gives its status. A fault of the notes changes nothing else.
+pub(crate) fn noted_end<N: Sink>(end: ServeEnd, notes: &mut N) -> Status
+    ensures status { result ≡ end_status end }
+    ensures done { (end ≡ ServeEnd.AllClosed) ⊎ (end ≡ ServeEnd.Idle) → notes.new ≡ notes.old }
+    ensures noted { end ≢ ServeEnd.AllClosed → end ≢ ServeEnd.Idle → IsNoted (end_line end) (N.seen notes.old) (N.seen notes.new) }
+{
+    match end {
+        ServeEnd::AllClosed => Status::Done,
+        ServeEnd::Idle => Status::Idle,
+        fault => {
+            let (words, status) = told(fault);
+            let _ = write_pieces(notes, &[Piece::Words(words)]);
+            status
+        }
+    }
+}
+
+/// The line that tells a room's end, which is a fault, and its status.
+fn told(end: ServeEnd) -> (&'static str, Status)
+    requires { (end ≢ ServeEnd.AllClosed) × (end ≢ ServeEnd.Idle) }
+    ensures line { result.0.now ≡ end_line end }
+    ensures status { result.1 ≡ end_status end }
+{
+    match end {
+        ServeEnd::LinkFault => ("board: link fault\n", Status::LinkFault),
+        ServeEnd::LinksFull => ("board: room: links full\n", Status::Refused),
+        ServeEnd::EventsFull => ("board: room: events full\n", Status::Refused),
+        _ => ("board: out of memory\n", Status::Memory),
+    }
+}
