@@ -32,9 +32,7 @@ fn main(rt: HostRuntime) -> ExitCode {
 }
 
 /// The words of the command line, and the links of a room.
-fn words_and_links(
-    rt: &HostRuntime,
-) -> Result<(List<Bytes>, WsLinks<&HostRuntime>), AllocError> {
+fn words_and_links(rt: &HostRuntime) -> Result<(List<Bytes>, WsLinks<&HostRuntime>), AllocError> {
     let words = words::of_command_line(rt)?;
     let links = WsLinks::new(rt.alloc(), rt)?;
     Ok((words, links))

@@ -59,12 +59,12 @@ pub returns-in-Some-Answer-clause-complete : goal.returns-in-Some-Answer-clause-
 returns-in-Some-Answer-clause-complete g c command bytes is left reads =
     let same : c.in-Some-Answer.command ≡ command = cc in
     subst (λ (own : Command). (c.answer_run.result ≡ Memory) ⊎ ((answer : Result (List ℕ) Refusal) × IsAnswer own bytes answer
-        × EndsWith answer c.answer_run.result (span (g.K.Sink.seen c.args.output.now) (g.K.Sink.seen c.answer_run.new.output)) (span (g.N.Sink.seen c.args.notes.now) (g.N.Sink.seen c.answer_run.new.notes))))
+    × EndsWith answer c.answer_run.result (span (g.K.Sink.seen c.args.output.now) (g.K.Sink.seen c.answer_run.new.output)) (span (g.N.Sink.seen c.args.notes.now) (g.N.Sink.seen c.answer_run.new.notes))))
     same (c.answer_run.ensures.complete bytes left reads)
 
 pub returns-in-Some-Answer-clause-refused : goal.returns-in-Some-Answer-clause-refused
 returns-in-Some-Answer-clause-refused g c command is refused =
     let same : c.in-Some-Answer.command ≡ command = cc in
     subst (λ (own : Command). (fault : Fault) × WasRefused (Some own) fault (span (g.S.Source.seen c.args.input.now) (g.S.Source.seen c.answer_run.new.input))
-        × Noted fault (g.N.Sink.seen c.args.notes.now) (g.N.Sink.seen c.answer_run.new.notes))
+    × Noted fault (g.N.Sink.seen c.args.notes.now) (g.N.Sink.seen c.answer_run.new.notes))
     same (c.answer_run.ensures.refused refused)
