@@ -1,11 +1,9 @@
 pub mod InOrder
 pub mod Kept
 pub mod OrderLaws
+pub mod Originals
 pub mod SceneOrder
 pub mod SettledLaws
 pub mod ShownLaws
+pub mod StampLaws
 pub mod StepLaws
-pub mod ContentLaws
-pub mod CopyLaws
-pub mod Redrawn
-pub mod Followed

@@ -1,11 +1,9 @@
 //! What a board shows of its stored elements: the live ones, in scene order, with strictly rising keys.
 #![tactic(auto)]
 
-mod changes;
 mod keys;
 pub mod laws;
 mod order;
-mod redrawing;
 pub mod steps;
 mod view;
 

@@ -1,6 +1,6 @@
 //! The view of a board.
 
-ghost use Rattle.std.specs.Prelude.{◌≡◌, List as Items, true, map, IfOk, IsPermutation, bytes_eq, IsTrue};
+ghost use Rattle.std.specs.Prelude.{◌≡◌, List as Items, true, length, map, Some, All, IfOk, IfSome, IsPermutation, bytes_eq, IsTrue};
 ghost use Rattle.frac_keys.specs.Rising.{are_rising};
 ghost use Rattle.elem.specs.Drawn.{Drawn};
 ghost use Rattle.elem_store.specs.Updates.{element_of, ids_of};
@@ -10,7 +10,7 @@ ghost use Rattle.view.specs.Shown.{as_stored, is_live, live_elements, placed, sh
 use crate::keys::with_repaired_keys;
 use crate::order;
 use board_io::List;
-use elem::Element;
+use elem::{Element, same};
 use elem_store::Store;
 use frames_groups::{settle_frames, settle_groups};
 use links::{settle_arrows, settle_texts};
@@ -18,25 +18,27 @@ use std::alloc::{AllocError, Global};
 use std::marker::Model;
 
 /// What a board shows. Contracts see the live elements that it was made of, as stored, in the order of their ids.
+///
+/// Only the elements that aren't shown as they are stored are held twice.
 #[derive(Drop)]
 pub struct View {
-    /// The live elements, as stored, in the order of their ids.
-    pub(crate) live: Vec<Element>,
+    /// The elements that are shown.
+    shown: List<Element>,
 
-    /// What is shown of them.
-    pub(crate) shown: Vec<Element>,
+    /// The stored elements of those that are shown otherwise than they are stored.
+    originals: List<Element>,
 }
 
 impl Model for View {
     ghost use Rattle.std.specs.Prelude.{List as Items};
     ghost use Rattle.elem.specs.Drawn.{Drawn};
-    ghost use Rattle.view.specs.Shown.{IsView};
+    ghost use Rattle.view.specs.Shown.{all_as_stored, IsView};
 
     ghost Value = { Items Drawn };
 
-    ghost view = { λ v. v.live.items };
+    ghost view = { λ v. all_as_stored v.originals v.shown };
 
-    ghost invariant = { λ v. IsView v.live.items v.shown.items };
+    ghost invariant = { λ v. IsView (all_as_stored v.originals v.shown) v.shown };
 }
 
 /// The view of a store: of all its live elements. Fails only for want of memory.
@@ -44,11 +46,9 @@ pub fn view_of(alloc: Global, store: &Store) -> Result<View, AllocError>
     ensures { IfOk result (λ view. view ≡ live_elements store.now.elements) }
 {
     let live = live_of(alloc, store)?;
-    let shown = shown_of(alloc, copied(alloc, &live)?)?;
-    Ok(View {
-        live,
-        shown: shown.into_vec(),
-    })
+    let shown = shown_of(alloc, live)?;
+    let originals = originals_of(alloc, store, &shown)?;
+    Ok(View { shown, originals })
 }
 
 impl View {
@@ -70,8 +70,8 @@ impl View {
 }
 
 /// The live elements of a store, in the order of their ids.
-fn live_of(alloc: Global, store: &Store) -> Result<Vec<Element>, AllocError>
-    ensures exact { IfOk result (λ live. live.items ≡ live_elements store.now.elements) }
+fn live_of(alloc: Global, store: &Store) -> Result<List<Element>, AllocError>
+    ensures exact { IfOk result (λ live. live ≡ live_elements store.now.elements) }
     ensures ordered { IfOk result (λ _. are_rising (ids_of store.now.elements) ≡ true) }
 {
     let mut live = Vec::new(alloc);
@@ -82,18 +82,7 @@ fn live_of(alloc: Global, store: &Store) -> Result<Vec<Element>, AllocError>
             }
         }
     }
-    Ok(live)
-}
-
-/// Copies of the elements.
-fn copied(alloc: Global, elements: &Vec<Element>) -> Result<List<Element>, AllocError>
-    ensures { IfOk result (λ copies. copies ≡ elements.now.items) }
-{
-    let mut copies = Vec::with_capacity(alloc, elements.len())?;
-    for e in elements {
-        copies.push(e.try_clone()?)?;
-    }
-    Ok(List::from_vec(copies))
+    Ok(List::from_vec(live))
 }
 
 /// Whether an element isn't deleted.
@@ -127,4 +116,23 @@ fn placed_of(alloc: Global, live: List<Element>) -> Result<List<Element>, AllocE
     let mut elements = live.into_vec();
     order::sort(&mut elements)?;
     Ok(List::from_vec(with_repaired_keys(alloc, elements)?))
+}
+
+/// The stored elements of those that are shown otherwise than they are stored, copied.
+fn originals_of(
+    alloc: Global,
+    store: &Store,
+    shown: &List<Element>,
+) -> Result<List<Element>, AllocError>
+    ensures { IfOk result (λ originals. All (λ e. IfSome (element_of store.now.elements e.id) (λ stored. as_stored originals e ≡ stored)) shown.now) }
+{
+    let mut originals = Vec::new(alloc);
+    for e in shown.as_slice() {
+        if let Some(stored) = store.get(&e.id) {
+            if !same(stored, e) {
+                originals.push(stored.try_clone()?)?;
+            }
+        }
+    }
+    Ok(List::from_vec(originals))
 }

@@ -1,10 +1,11 @@
 use Rattle.std.proofs.lemmas.Result.{IfOk-weaker}
+use Rattle.view.specs.Shown.{all_as_stored}
 use Rattle.view.proofs.ShownLaws.{shown-settled, HaveDistinctIds-rising}
 use Rattle.commands.proofs.answer.shown_text.Goals as goal
 
 pub returns : goal.returns
 returns c =
-    let live = c.view.inside.live.items in
+    let live = all_as_stored c.view.inside.originals c.view.inside.shown in
     let settled = shown-settled live (HaveDistinctIds-rising live c.view.invariant.ordered) c.view.invariant.keys in
     IfOk-weaker c.ended.result _ _ (λ text made. record {
       head = c.in_ok-head.head;

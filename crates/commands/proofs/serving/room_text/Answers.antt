@@ -1,12 +1,12 @@
 use Rattle.std.proofs.Common.{◌≡◌, ap, ◌∙◌}
 use Rattle.std.proofs.lemmas.Result.{IfOk-weaker}
-use Rattle.view.specs.Shown.{live_elements}
+use Rattle.view.specs.Shown.{all_as_stored, live_elements}
 use Rattle.view.proofs.ShownLaws.{shown-settled, HaveDistinctIds-rising}
 use Rattle.commands.proofs.serving.room_text.Goals as goal
 
 pub returns : goal.returns
 returns c =
-    let live = c.view.inside.live.items in
+    let live = all_as_stored c.view.inside.originals c.view.inside.shown in
     let settled = shown-settled live (HaveDistinctIds-rising live c.view.invariant.ordered) c.view.invariant.keys in
     let shows = c.in_ok-view.ensures ∙ ap live_elements c.store.ensures in
     IfOk-weaker c.ended.result _ _ (λ text made. record {

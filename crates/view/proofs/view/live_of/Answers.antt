@@ -32,7 +32,7 @@ rising stored h = elim (cases_lt 0 (length stored)) [
 
 pub returns-clause-exact : goal.returns-clause-exact
 returns-clause-exact c =
-    c.loop-i.invariant.made ∙ ap live_elements (take_all c.loop-i.i c.args.store.now.elements (omega (arith, c.len-i-end.ensures)))
+    c.from_vec.ensures ∙ c.loop-i.invariant.made ∙ ap live_elements (take_all c.loop-i.i c.args.store.now.elements (omega (arith, c.len-i-end.ensures)))
 
 pub returns-clause-ordered : goal.returns-clause-ordered
 returns-clause-ordered c =
