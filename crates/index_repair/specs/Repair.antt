@@ -1,5 +1,6 @@
 -- Index repair: a list of optional keys becomes a list of rising ones. This project's own.
-use Rattle.std.specs.Prelude.{◌≡◌, ◌↔◌, ℕ, suc, ◌<◌, List, [], ◌∷◌, ◌++◌, length, slice_get, true, Option, Some, None, if◌then◌else◌}
+use Rattle.std.specs.Prelude.{◌≡◌, ◌↔◌, ℕ, suc, ◌<◌, List, [], ◌∷◌, ◌++◌, length, slice_get, Bool, true, false, not, Option, Some, None, if◌then◌else◌, AllPairs}
+use Rattle.std.specs.List.{list_all}
 use Rattle.frac_keys.specs.Keys.{bytes_less}
 use Rattle.frac_keys.specs.Rising.{ends_rise}
 use Rattle.frac_keys.specs.Between.{keys_between}
@@ -29,15 +30,43 @@ pub record AreKept (keys kept : List (Option (List ℕ))) : Type 0 where
   pub count : length kept ≡ length keys
   pub each : (i : ℕ) (key : List ℕ) → (slice_get kept i ≡ Some (Some key)) ↔ ((slice_get keys i ≡ Some (Some key)) × IsAboveKept kept i key)
 
--- Each run of positions without a key gets the keys between those beside it; a run of this length came before.
-abbrev pub filled_after : Option (List ℕ) → ℕ → List (Option (List ℕ)) → List (List ℕ)
-filled_after low run [] = keys_between low None run
-filled_after low run (None ∷ keys) = filled_after low (suc run) keys
-filled_after low run (Some key ∷ keys) = keys_between low (Some key) run ++ key ∷ filled_after (Some key) 0 keys
+-- Each run of positions without a key gets the keys between those beside it; a run of this length came before. The key
+-- above the last run, if there is one, comes first here.
+abbrev pub filled_after : Option (List ℕ) → Option (List ℕ) → ℕ → List (Option (List ℕ)) → List (List ℕ)
+filled_after above low run [] = keys_between low above run
+filled_after above low run (None ∷ keys) = filled_after above low (suc run) keys
+filled_after above low run (Some key ∷ keys) = keys_between low (Some key) run ++ key ∷ filled_after above (Some key) 0 keys
+
+-- the keys of positions between two ends: those that have one keep it, and each run of others gets the keys between its two
+-- neighbours, among which the ends count
+abbrev pub filled : Option (List ℕ) → Option (List ℕ) → List (Option (List ℕ)) → List (List ℕ)
+filled low above keys = filled_after above low 0 keys
+
+-- the list with the keys repaired, where a key stands above its end, or none does
+unfoldable pub repaired_below : Option (List ℕ) → List (Option (List ℕ)) → List (List ℕ)
+repaired_below above keys = filled None above (kept keys)
 
 -- the list with the keys repaired
-unfoldable pub repaired : List (Option (List ℕ)) → List (List ℕ)
-repaired keys = filled_after None 0 (kept keys)
+abbrev pub repaired : List (Option (List ℕ)) → List (List ℕ)
+repaired keys = repaired_below None keys
+
+-- whether each key of a list is less than one, if there is one
+abbrev pub is_below : Option (List ℕ) → Option (List ℕ) → Bool
+is_below above None = true
+is_below above (Some key) = ends_rise (Some key) above
+
+abbrev pub are_below : Option (List ℕ) → List (Option (List ℕ)) → Bool
+are_below above keys = list_all (is_below above) keys
+
+-- the keys of a list never fall, and positions without one come last
+abbrev pub is_up_to : Option (List ℕ) → Option (List ℕ) → Bool
+is_up_to None None = true
+is_up_to None (Some next) = false
+is_up_to (Some key) None = true
+is_up_to (Some key) (Some next) = not (bytes_less next key)
+
+abbrev pub NeverFall : List (Option (List ℕ)) → Type 0
+NeverFall keys = AllPairs (λ key next. is_up_to key next ≡ true) keys
 
 -- the new keys have those that were kept at their places
 abbrev pub KeepsAll : List (Option (List ℕ)) → List (List ℕ) → Type 0

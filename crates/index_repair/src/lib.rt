@@ -3,12 +3,12 @@
 
 pub mod laws;
 
-ghost use Rattle.std.specs.Prelude.{◌≡◌, ℕ, List, ◌++◌, length, map, Some, option_copied, IfOk, OnOk, IsTrue};
+ghost use Rattle.std.specs.Prelude.{◌≡◌, ℕ, List, ◌++◌, length, map, None, Some, option_copied, IfOk, OnOk, IsTrue};
 ghost use Rattle.std.specs.List.{list_all};
 ghost use Rattle.frac_keys.specs.Keys.{is_key};
 ghost use Rattle.frac_keys.specs.Between.{keys_between};
-ghost use Rattle.frac_keys.specs.Rising.{ends_rise, are_rising, is_key_or_none};
-ghost use Rattle.index_repair.specs.Repair.{kept, repaired, KeepsAll, kept_key};
+ghost use Rattle.frac_keys.specs.Rising.{ends_rise, rise_between, are_rising, is_key_or_none};
+ghost use Rattle.index_repair.specs.Repair.{kept, repaired_below, repaired, are_below, KeepsAll, kept_key};
 
 use board_io::List;
 use frac_keys::{Key, n_between};
@@ -25,6 +25,25 @@ pub fn repair(alloc: Global, keys: &List<Option<Key>>) -> Result<List<Key>, Allo
     ensures new_keys { IfOk result (λ new. IsTrue (list_all is_key new)) }
     ensures old_keys { IfOk result (λ _. IsTrue (list_all is_key_or_none keys.now)) }
 {
+    repair_part(alloc, keys, None)
+}
+
+/// The same of a part of a list, at whose end the key `above` stands in place of the absent neighbour.
+pub fn repair_part(
+    alloc: Global,
+    keys: &List<Option<Key>>,
+    above: Option<&Key>,
+) -> Result<List<Key>, AllocError>
+    requires { IsTrue (are_below (option_copied above) keys.now) }
+    ensures exact { IfOk result (λ new. new ≡ repaired_below (option_copied above.entry) keys.now) }
+    ensures count { IfOk result (λ new. length new ≡ length keys.now) }
+    ensures rise { IfOk result (λ new. IsTrue (rise_between None (option_copied above.entry) new)) }
+    ensures keeps { IfOk result (λ new. KeepsAll (kept keys.now) new) }
+    ensures new_keys { IfOk result (λ new. IsTrue (list_all is_key new)) }
+    ensures old_keys { IfOk result (λ _. IsTrue (list_all is_key_or_none keys.now)) }
+{
+    // So that it is known to be a key.
+    let _above = end_bytes(above);
     let mut new = Vec::new(alloc);
     let mut low = None;
     let mut run = 0;
@@ -39,7 +58,7 @@ pub fn repair(alloc: Global, keys: &List<Option<Key>>) -> Result<List<Key>, Allo
             None => run += 1,
         }
     }
-    push_between(alloc, &mut new, low, None, run)?;
+    push_between(alloc, &mut new, low, above, run)?;
     Ok(List::from_vec(new))
 }
 
@@ -64,6 +83,14 @@ fn is_above(low: Option<&Key>, key: &Key) -> bool
         Some(low) => low.as_bytes() < bytes,
         None => true,
     }
+}
+
+/// The bytes of an end.
+fn end_bytes(end: Option<&Key>) -> Option<&[u8]>
+    ensures value { option_copied result ≡ option_copied end.entry }
+    ensures key { IsTrue (is_key_or_none (option_copied end.entry)) }
+{
+    end.map(|key| key.as_bytes())
 }
 
 /// Appends the keys between two ends.

@@ -6,7 +6,9 @@ ghost use Rattle.elem_store.specs.Updates.{AreStored};
 ghost use Rattle.view.specs.Changes.{AreSameButAt};
 ghost use Rattle.view.specs.Shown.{live_elements};
 
-use crate::view::{View, view_of};
+use crate::order::scene_order;
+use crate::patch::Patch;
+use crate::view::{View, is_live};
 use board_io::List;
 use elem::Element;
 use elem_store::Store;
@@ -21,8 +23,76 @@ impl View {
         ensures view { OnOk result (self.new ≡ live_elements store.now.elements) }
         ensures err { OnErr result (self.new ≡ self.old) }
     {
-        let _ = ids;
-        *self = view_of(*self.shown.allocator(), store)?;
+        let mut changes = Vec::new(*self.shown.allocator());
+        for id in ids.as_slice() {
+            let new = match store.get(id) {
+                Some(e) if is_live(e) => Some(e.try_clone()?),
+                _ => None,
+            };
+            changes.push((id.try_clone()?, new))?;
+        }
+        self.change_all(changes)
+    }
+
+    /// Makes the changes one after the other, or, for want of memory, none.
+    fn change_all(&mut self, changes: Vec<(Text, Option<Element>)>) -> Result<(), AllocError> {
+        let mut done = Vec::new(*self.shown.allocator());
+        for (id, new) in changes {
+            if let Err(error) = self.change(&mut done, &id, new) {
+                self.put_back(done);
+                return Err(error);
+            }
+        }
+        Ok(())
+    }
+
+    /// Puts back what patches changed, the last one first.
+    fn put_back(&mut self, mut done: Vec<Patch>) {
+        while let Some(patch) = done.pop() {
+            let _ = self.put(patch);
+        }
+    }
+
+    /// Makes the element of this id the new one, or takes it away; what puts it back is noted.
+    fn change(
+        &mut self,
+        done: &mut Vec<Patch>,
+        id: &Text,
+        new: Option<Element>,
+    ) -> Result<(), AllocError> {
+        done.reserve(2)?;
+        let old = match self.get(id) {
+            Some(e) => Some(e.try_clone()?),
+            None => None,
+        };
+        match (old, new) {
+            (Some(old), Some(new)) => {
+                if scene_order(&old, &new).is_eq() {
+                    return self.change_one(done, &new, true);
+                }
+                self.change_one(done, &old, false)?;
+                self.change_one(done, &new, true)
+            }
+            (Some(old), None) => self.change_one(done, &old, false),
+            (None, Some(new)) => self.change_one(done, &new, true),
+            (None, None) => Ok(()),
+        }
+    }
+
+    fn change_one(
+        &mut self,
+        done: &mut Vec<Patch>,
+        place: &Element,
+        stays: bool,
+    ) -> Result<(), AllocError> {
+        let new = if stays {
+            Some(place.try_clone()?)
+        } else {
+            None
+        };
+        let patch = self.plan(place, new)?;
+        let back = self.put(patch);
+        done.push(back)?;
         Ok(())
     }
 
@@ -35,32 +105,38 @@ impl View {
         ensures err { OnErr result (self.new ≡ self.old) }
     {
         let alloc = *self.shown.allocator();
-        let store = store_after(alloc, store, changed)?;
-        *self = view_of(alloc, &store)?;
-        Ok(())
+        let after = best_of(alloc, store, changed)?;
+        let changes = changes_to(alloc, &after)?;
+        self.change_all(changes)
     }
 }
 
-/// A store of what is stored after the changed elements are taken.
-fn store_after(alloc: Global, store: &Store, changed: &List<Element>) -> Result<Store, AllocError>
-    ensures { IfOk result (λ after. AreStored (store.now.elements ++ changed.now) after.elements) }
-{
-    let mut updates = stored_elements(alloc, store)?;
+/// What is stored of the ids of the changed elements after these are taken.
+fn best_of(alloc: Global, store: &Store, changed: &List<Element>) -> Result<Store, AllocError> {
+    let mut updates = Vec::new(alloc);
+    for e in changed.as_slice() {
+        if let Some(stored) = store.get(&e.id) {
+            updates.push(stored.try_clone()?)?;
+        }
+    }
     push_copies(&mut updates, changed.as_slice())?;
     Store::from_updates(alloc, List::from_vec(updates))
 }
 
-/// Copies of the stored elements.
-fn stored_elements(alloc: Global, store: &Store) -> Result<Vec<Element>, AllocError>
-    ensures { IfOk result (λ copies. copies.items ≡ store.now.elements) }
-{
-    let mut copies = Vec::with_capacity(alloc, store.len())?;
+/// The live elements of a store by their ids, and none for the ids of the others.
+fn changes_to(alloc: Global, store: &Store) -> Result<Vec<(Text, Option<Element>)>, AllocError> {
+    let mut changes = Vec::new(alloc);
     for i in 0..store.len() {
         if let Some(e) = store.at(i) {
-            copies.push(e.try_clone()?)?;
+            let new = if is_live(e) {
+                Some(e.try_clone()?)
+            } else {
+                None
+            };
+            changes.push((e.id.try_clone()?, new))?;
         }
     }
-    Ok(copies)
+    Ok(changes)
 }
 
 /// Appends copies of the elements.

@@ -2,9 +2,13 @@
 #![tactic(auto)]
 
 mod changes;
+mod cut;
 mod keys;
 pub mod laws;
 mod order;
+mod patch;
+mod reach;
+mod table;
 mod view;
 
 pub use keys::with_repaired_keys;

@@ -17,7 +17,7 @@ pub(crate) fn sort(elements: &mut Vec<Element>) -> Result<(), AllocError>
 }
 
 /// The order of a scene: by index, none last, and then by id.
-fn scene_order(e: &Element, other: &Element) -> Ordering
+pub(crate) fn scene_order(e: &Element, other: &Element) -> Ordering
     ensures { is_lt result ≡ comes_before e.now other.now }
 {
     match (&e.index, &other.index) {

@@ -9,6 +9,7 @@ ghost use Rattle.view.specs.Shown.{as_stored, is_live, live_elements, placed, sh
 
 use crate::keys::with_repaired_keys;
 use crate::order;
+use crate::table::{LinkTable, rows_of};
 use board_io::List;
 use elem::Element;
 use elem_store::Store;
@@ -25,6 +26,9 @@ pub struct View {
 
     /// What is shown of them.
     pub(crate) shown: Vec<Element>,
+
+    /// Who of them names whom.
+    pub(crate) table: LinkTable,
 }
 
 impl Model for View {
@@ -45,9 +49,16 @@ pub fn view_of(alloc: Global, store: &Store) -> Result<View, AllocError>
 {
     let live = live_of(alloc, store)?;
     let shown = shown_of(alloc, copied(alloc, &live)?)?;
+    let mut table = LinkTable::new(alloc);
+    for e in &live {
+        let rows = rows_of(alloc, e)?;
+        table.reserve(4)?;
+        table.change(&e.id, rows);
+    }
     Ok(View {
         live,
         shown: shown.into_vec(),
+        table,
     })
 }
 
@@ -97,7 +108,7 @@ fn copied(alloc: Global, elements: &Vec<Element>) -> Result<List<Element>, Alloc
 }
 
 /// Whether an element isn't deleted.
-fn is_live(e: &Element) -> bool
+pub(crate) fn is_live(e: &Element) -> bool
     ensures { result ≡ is_live e.now }
 {
     !e.deleted
@@ -111,6 +122,14 @@ fn shown_of(alloc: Global, live: List<Element>) -> Result<List<Element>, AllocEr
     ensures keys { IfOk result (λ _. HaveKeysOrNone live) }
 {
     let elements = placed_of(alloc, live)?;
+    settled_of(alloc, elements)
+}
+
+/// The elements with their links, frames and groups settled.
+pub(crate) fn settled_of(
+    alloc: Global,
+    elements: List<Element>,
+) -> Result<List<Element>, AllocError> {
     let elements = settle_texts(alloc, elements)?;
     let elements = settle_arrows(alloc, elements)?;
     let elements = settle_frames(alloc, elements)?;
