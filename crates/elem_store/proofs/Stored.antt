@@ -48,7 +48,7 @@ put-at id e (f ∷ fs) =
     ] refl
 
 -- ---- one update more, and all of them
-taken : (elements : List Drawn) (e : Drawn) → are_rising (ids_of elements) ≡ true → (new : List Drawn) × HasTaken elements e new
+pub taken : (elements : List Drawn) (e : Drawn) → are_rising (ids_of elements) ≡ true → (new : List Drawn) × HasTaken elements e new
 taken elements e rise = elim (cases_Bool (is_taken elements e)) [
   | inl takes ↦ (
     put e elements,

@@ -4,5 +4,7 @@ pub mod OrderLaws
 pub mod SceneOrder
 pub mod SettledLaws
 pub mod ShownLaws
-pub mod StampLaws
+pub mod ContentLaws
 pub mod CopyLaws
+pub mod Redrawn
+pub mod Followed

@@ -77,7 +77,7 @@ indices-keyed [] (key ∷ keys) h = absurd (omega arith)
 indices-keyed (e ∷ es) [] h = absurd (omega arith)
 indices-keyed (e ∷ es) (key ∷ keys) h = ap (λ indices. Some key ∷ indices) (indices-keyed es keys (omega arith))
 
-others-keyed : (es : List Drawn) (keys : List (List ℕ)) → length keys ≡ length es → map without_index (keyed es keys) ≡ map without_index es
+pub others-keyed : (es : List Drawn) (keys : List (List ℕ)) → length keys ≡ length es → map without_index (keyed es keys) ≡ map without_index es
 others-keyed [] keys h = refl
 others-keyed (e ∷ es) [] h = absurd (omega arith)
 others-keyed (e ∷ es) (key ∷ keys) h = ap (λ others. without_index e ∷ others) (others-keyed es keys (omega arith))
@@ -127,7 +127,7 @@ pub AreInSceneOrder-from_keys : (es : List Drawn) → HaveRisingKeys es → AreI
 AreInSceneOrder-from_keys es h = order_from_keys None es h.keys h.each h.rise
 
 -- ---- what is shown of live elements whose indices are keys or none
-keys_of_live : (live : List Drawn) → HaveKeysOrNone live
+pub keys_of_live : (live : List Drawn) → HaveKeysOrNone live
     → AreBetween None None (length (map index_of (in_scene_order live))) (repaired (map index_of (in_scene_order live)))
 keys_of_live live h =
     repaired-law (map index_of (in_scene_order live))
@@ -181,7 +181,7 @@ list_all-of p [] = refl
 list_all-of p (x ∷ xs) = ap (λ b. p x && b) (list_all-of p xs)
 
 -- what settling leaves as it is is the same of what is shown and of what was placed
-same_part : {A : Type 0} (part : Drawn → A) (live : List Drawn) → map (λ e. part (unsettled e)) (shown live) ≡ map (λ e. part (unsettled e)) (placed live)
+pub same_part : {A : Type 0} (part : Drawn → A) (live : List Drawn) → map (λ e. part (unsettled e)) (shown live) ≡ map (λ e. part (unsettled e)) (placed live)
 unfolding shown
 same_part part live = map-less unsettled part (settled (placed live)) (placed live) (unsettled-settled (placed live))
 
@@ -216,6 +216,10 @@ pub shown-settled : (live : List Drawn) → HaveDistinctIds live → HaveKeysOrN
 unfolding shown
 shown-settled live apart h = settled-are (placed live) (placed-distinct live apart h)
 
+pub shown-distinct : (live : List Drawn) → HaveDistinctIds live → HaveKeysOrNone live → HaveDistinctIds (shown live)
+shown-distinct live apart h =
+    IsDistinct-IsPermutation bytes_eq nat_list_eq_equiv.symm (ids_of live) (ids_of (shown live)) (shown-is live h).ids apart
+
 -- ---- the order of the elements plays no part
 pub shown-permuted : (live others : List Drawn) → HaveDistinctIds live → IsPermutation live others → shown others ≡ shown live
 unfolding shown
@@ -231,7 +235,7 @@ pub shown-again : (live others : List Drawn) → HaveDistinctIds live → HaveKe
     → shown (live_elements others) ≡ shown live
 shown-again live others apart h all moved =
     let is = shown-is live h in
-    let distinct : HaveDistinctIds (shown live) = IsDistinct-IsPermutation bytes_eq nat_list_eq_equiv.symm (ids_of live) (ids_of (shown live)) is.ids apart in
+    let distinct = shown-distinct live apart h in
     let passed : live_elements others ≡ others = all_pass is_live others (list_all-permuted is_live (shown live) others moved (is.stay_live all)) in
     ap shown passed ∙ (shown-permuted (shown live) others distinct moved ∙ shown-shown live apart h distinct)
 

@@ -1,8 +1,10 @@
 //! A view that follows the changes of a store.
 
-ghost use Rattle.std.specs.Prelude.{◌≡◌, ◌++◌, List as Items, take, IfOk, OnErr, OnOk};
+ghost use Rattle.std.specs.Prelude.{◌≡◌, ◌++◌, List as Items, true, option_copied, take, IfOk, OnErr, OnOk};
+ghost use Rattle.frac_keys.specs.Rising.{are_rising};
 ghost use Rattle.elem.specs.Drawn.{Drawn};
-ghost use Rattle.elem_store.specs.Updates.{AreStored};
+ghost use Rattle.elem_store.specs.Updates as updates;
+ghost use Rattle.elem_store.specs.Updates.{element_of, ids_of, AreStored};
 ghost use Rattle.view.specs.Changes.{AreSameButAt};
 ghost use Rattle.view.specs.Shown.{live_elements};
 
@@ -10,7 +12,7 @@ use crate::order::scene_order;
 use crate::patch::Patch;
 use crate::view::{View, is_live};
 use board_io::List;
-use elem::Element;
+use elem::{Element, beats};
 use elem_store::Store;
 use scene_json::Text;
 use std::alloc::{AllocError, Global};
@@ -23,6 +25,13 @@ impl View {
         ensures view { OnOk result (self.new ≡ live_elements store.now.elements) }
         ensures err { OnErr result (self.new ≡ self.old) }
     {
+        if let [id] = ids.as_slice() {
+            if let Some(new) = stored(store, id) {
+                if self.redraw_as(new)? {
+                    return Ok(());
+                }
+            }
+        }
         let mut changes = Vec::new(*self.shown.allocator());
         for id in ids.as_slice() {
             let new = match store.get(id) {
@@ -104,10 +113,39 @@ impl View {
             → AreStored (store.now.elements ++ changed.now) stored → self.new ≡ live_elements stored) }
         ensures err { OnErr result (self.new ≡ self.old) }
     {
+        if let [new] = changed.as_slice() {
+            if !is_taken(store, new) {
+                return Ok(());
+            }
+            if self.redraw_as(new)? {
+                return Ok(());
+            }
+        }
         let alloc = *self.shown.allocator();
         let after = best_of(alloc, store, changed)?;
         let changes = changes_to(alloc, &after)?;
         self.change_all(changes)
+    }
+}
+
+/// The stored element of this id.
+fn stored<'a>(store: &'a Store, id: &Text) -> Option<&'a Element>
+    ensures element { option_copied result ≡ element_of store.now.elements id.now }
+    ensures ordered { are_rising (ids_of store.now.elements) ≡ true }
+{
+    // So that it is known that the ids rise.
+    let _first = store.at(0);
+    store.get(id)
+}
+
+/// Whether a store takes the element: its id is new, or it beats the stored one.
+fn is_taken(store: &Store, e: &Element) -> bool
+    ensures taken { result ≡ updates.is_taken store.now.elements e.now }
+    ensures ordered { are_rising (ids_of store.now.elements) ≡ true }
+{
+    match stored(store, &e.id) {
+        Some(old) => beats(e, old),
+        None => true,
     }
 }
 

@@ -8,6 +8,7 @@ pub mod laws;
 mod order;
 mod patch;
 mod reach;
+mod redrawing;
 mod table;
 mod view;
 
