@@ -1,2 +1,4 @@
+pub mod Parts
 pub mod RepairLaws
 pub mod Rows
+pub mod SoFar

@@ -8,7 +8,7 @@ use Rattle.frac_keys.specs.Keys.{is_key, bytes_less}
 use Rattle.frac_keys.specs.Rising.{ends_rise, is_key_or_none, rise_between, are_rising}
 use Rattle.frac_keys.specs.Between.{keys_above, keys_below, keys_inside, keys_between}
 use Rattle.frac_keys.proofs.KeysLaws.{AreBetween, keys_between-law, rise_between-join, rise_between-ends}
-use Rattle.index_repair.specs.Repair.{kept_after, kept, IsAboveKept, AreKept, filled_after, repaired, KeepsAll}
+use Rattle.index_repair.specs.Repair.{kept_after, kept, IsAboveKept, AreKept, filled_after, repaired_below, repaired, is_below, are_below, KeepsAll}
 
 open_above : (a : Option (List ℕ)) → ends_rise a None ≡ true
 open_above None = refl
@@ -23,22 +23,39 @@ joined {a} {b} {m} {n} {xs} {k} {ys} total e key h l = record {
   rise = rise_between-join a b xs k ys h.rise l.rise;
 }
 
+-- a key that is kept before others that are below an end is below it
+rest-below : (above : Option (List ℕ)) (key : Option (List ℕ)) (keys : List (Option (List ℕ))) → are_below above (key ∷ keys) ≡ true → are_below above keys ≡ true
+rest-below above key keys h = (and_parts (is_below above key) (are_below above keys) h).1
+
 -- the repaired keys are as many as the positions, are keys, and rise
-filled-law : (low : Option (List ℕ)) (run : ℕ) (keys : List (Option (List ℕ))) → is_key_or_none low ≡ true → list_all is_key_or_none keys ≡ true
-    → AreBetween low None (run + length keys) (filled_after low run (kept_after low keys))
-filled-law low run [] h l = subst (λ n. AreBetween low None n (keys_between low None run)) (omega arith) (keys_between-law low None run h refl (open_above low))
-filled-law low run (None ∷ keys) h l =
-    subst (λ n. AreBetween low None n (filled_after low (suc run) (kept_after low keys))) (omega arith) (filled-law low (suc run) keys h l)
-filled-law low run (Some key ∷ keys) h l =
+filled-law : (above low : Option (List ℕ)) (run : ℕ) (keys : List (Option (List ℕ))) → is_key_or_none above ≡ true → ends_rise low above ≡ true → are_below above keys ≡ true
+    → is_key_or_none low ≡ true → list_all is_key_or_none keys ≡ true
+    → AreBetween low above (run + length keys) (filled_after above low run (kept_after low keys))
+filled-law above low run [] top rise under h l = subst (λ n. AreBetween low above n (keys_between low above run)) (omega arith) (keys_between-law low above run h top rise)
+filled-law above low run (None ∷ keys) top rise under h l =
+    subst (λ n. AreBetween low above n (filled_after above low (suc run) (kept_after low keys))) (omega arith)
+    (filled-law above low (suc run) keys top rise under h l)
+filled-law above low run (Some key ∷ keys) top rise under h l =
     let p = and_parts (is_key key) (list_all is_key_or_none keys) l in
+    let u = and_parts (ends_rise (Some key) above) (are_below above keys) under in
     cond_both (ends_rise low (Some key)) (Some key ∷ kept_after (Some key) keys) (None ∷ kept_after low keys)
-    (λ kept. AreBetween low None (run + suc (length keys)) (filled_after low run kept))
-    (λ above. joined (run + suc (length keys)) (omega arith) p.0 (keys_between-law low (Some key) run h p.0 above) (filled-law (Some key) 0 keys p.0 p.1))
-    (λ _. subst (λ n. AreBetween low None n (filled_after low (suc run) (kept_after low keys))) (omega arith) (filled-law low (suc run) keys h p.1))
+    (λ kept. AreBetween low above (run + suc (length keys)) (filled_after above low run kept))
+    (λ greater. joined (run + suc (length keys)) (omega arith) p.0 (keys_between-law low (Some key) run h p.0 greater) (filled-law above (Some key) 0 keys top u.0 u.1 p.0 p.1))
+    (λ _. subst (λ n. AreBetween low above n (filled_after above low (suc run) (kept_after low keys))) (omega arith) (filled-law above low (suc run) keys top rise u.1 h p.1))
+
+pub repaired_below-law : (above : Option (List ℕ)) (keys : List (Option (List ℕ))) → is_key_or_none above ≡ true → are_below above keys ≡ true → list_all is_key_or_none keys ≡ true
+    → AreBetween None above (length keys) (repaired_below above keys)
+unfolding repaired_below
+repaired_below-law above keys top under h =
+    subst (λ n. AreBetween None above n (filled_after above None 0 (kept_after None keys))) (omega arith) (filled-law above None 0 keys top refl under refl h)
+
+pub all-below : (keys : List (Option (List ℕ))) → are_below None keys ≡ true
+all-below [] = refl
+all-below (None ∷ keys) = all-below keys
+all-below (Some key ∷ keys) = all-below keys
 
 pub repaired-law : (keys : List (Option (List ℕ))) → list_all is_key_or_none keys ≡ true → AreBetween None None (length keys) (repaired keys)
-unfolding repaired
-repaired-law keys h = subst (λ n. AreBetween None None n (filled_after None 0 (kept_after None keys))) (omega arith) (filled-law None 0 keys refl h)
+repaired-law keys h = repaired_below-law None keys refl (all-below keys) h
 
 -- Keys behind a run of positions without one keep their places behind as many new keys.
 keeps_run : (run : ℕ) (news rest : List (List ℕ)) (keys : List (Option (List ℕ))) → length news ≡ run → KeepsAll keys rest → KeepsAll (replicate run None ++ keys) (news ++ rest)
@@ -51,47 +68,53 @@ longer_run : (run : ℕ) (keys : List (Option (List ℕ))) → replicate run Non
 longer_run zero keys = refl
 longer_run (suc run) keys = ap (λ ks. None ∷ ks) (longer_run run keys)
 
-filled-keeps : (low : Option (List ℕ)) (run : ℕ) (keys : List (Option (List ℕ))) → is_key_or_none low ≡ true → list_all is_key_or_none keys ≡ true
-    → KeepsAll (replicate run None ++ kept_after low keys) (filled_after low run (kept_after low keys))
-filled-keeps low run [] h l =
-    let p = keys_between-law low None run h refl (open_above low) in
-    subst (KeepsAll (replicate run None ++ [])) (append-nil (keys_between low None run)) (keeps_run run (keys_between low None run) [] [] p.count tt)
-filled-keeps low run (None ∷ keys) h l = longer low run keys (filled-keeps low (suc run) keys h l) where
-  longer : (low : Option (List ℕ)) (run : ℕ) (keys : List (Option (List ℕ))) → KeepsAll (replicate (suc run) None ++ kept_after low keys) (filled_after low (suc run) (kept_after low keys))
-      → KeepsAll (replicate run None ++ None ∷ kept_after low keys) (filled_after low (suc run) (kept_after low keys))
-  longer low run keys h = subst (λ ks. KeepsAll ks (filled_after low (suc run) (kept_after low keys))) (sym (longer_run run (kept_after low keys))) h
-filled-keeps low run (Some key ∷ keys) h l =
+filled-keeps : (above low : Option (List ℕ)) (run : ℕ) (keys : List (Option (List ℕ))) → is_key_or_none above ≡ true → ends_rise low above ≡ true → are_below above keys ≡ true
+    → is_key_or_none low ≡ true → list_all is_key_or_none keys ≡ true
+    → KeepsAll (replicate run None ++ kept_after low keys) (filled_after above low run (kept_after low keys))
+filled-keeps above low run [] top rise under h l =
+    let p = keys_between-law low above run h top rise in
+    subst (KeepsAll (replicate run None ++ [])) (append-nil (keys_between low above run)) (keeps_run run (keys_between low above run) [] [] p.count tt)
+filled-keeps above low run (None ∷ keys) top rise under h l = longer above low run keys (filled-keeps above low (suc run) keys top rise under h l) where
+  longer : (above low : Option (List ℕ)) (run : ℕ) (keys : List (Option (List ℕ))) → KeepsAll (replicate (suc run) None ++ kept_after low keys) (filled_after above low (suc run) (kept_after low keys))
+      → KeepsAll (replicate run None ++ None ∷ kept_after low keys) (filled_after above low (suc run) (kept_after low keys))
+  longer above low run keys h = subst (λ ks. KeepsAll ks (filled_after above low (suc run) (kept_after low keys))) (sym (longer_run run (kept_after low keys))) h
+filled-keeps above low run (Some key ∷ keys) top rise under h l =
     let p = and_parts (is_key key) (list_all is_key_or_none keys) l in
+    let u = and_parts (ends_rise (Some key) above) (are_below above keys) under in
     cond_both (ends_rise low (Some key)) (Some key ∷ kept_after (Some key) keys) (None ∷ kept_after low keys)
-    (λ kept. KeepsAll (replicate run None ++ kept) (filled_after low run kept))
-    (λ above.
-    let b = keys_between-law low (Some key) run h p.0 above in
-    keeps_run run (keys_between low (Some key) run) (key ∷ filled_after (Some key) 0 (kept_after (Some key) keys)) (Some key ∷ kept_after (Some key) keys) b.count
-    (refl, filled-keeps (Some key) 0 keys p.0 p.1))
-    (λ _. subst (λ ks. KeepsAll ks (filled_after low (suc run) (kept_after low keys))) (sym (longer_run run (kept_after low keys))) (filled-keeps low (suc run) keys h p.1))
+    (λ kept. KeepsAll (replicate run None ++ kept) (filled_after above low run kept))
+    (λ greater.
+    let b = keys_between-law low (Some key) run h p.0 greater in
+    keeps_run run (keys_between low (Some key) run) (key ∷ filled_after above (Some key) 0 (kept_after (Some key) keys)) (Some key ∷ kept_after (Some key) keys) b.count
+    (refl, filled-keeps above (Some key) 0 keys top u.0 u.1 p.0 p.1))
+    (λ _. subst (λ ks. KeepsAll ks (filled_after above low (suc run) (kept_after low keys))) (sym (longer_run run (kept_after low keys))) (filled-keeps above low (suc run) keys top rise u.1 h p.1))
+
+pub repaired_below-keeps : (above : Option (List ℕ)) (keys : List (Option (List ℕ))) → is_key_or_none above ≡ true → are_below above keys ≡ true → list_all is_key_or_none keys ≡ true
+    → KeepsAll (kept keys) (repaired_below above keys)
+unfolding repaired_below
+repaired_below-keeps above keys top under h = filled-keeps above None 0 keys top refl under refl h
 
 pub repaired-keeps : (keys : List (Option (List ℕ))) → list_all is_key_or_none keys ≡ true → KeepsAll (kept keys) (repaired keys)
-unfolding repaired
-repaired-keeps keys h = filled-keeps None 0 keys refl h
+repaired-keeps keys h = repaired_below-keeps None keys refl (all-below keys) h
 
 -- Rising keys stay as they are.
-none_between : (low : Option (List ℕ)) (high : Option (List ℕ)) → keys_between low high 0 ≡ []
+pub none_between : (low : Option (List ℕ)) (high : Option (List ℕ)) → keys_between low high 0 ≡ []
 unfolding keys_above keys_below keys_inside
 none_between low None = refl
 none_between None (Some b) = refl
 none_between (Some a) (Some b) = refl
 
-filled-rising : (low : Option (List ℕ)) (keys : List (List ℕ)) → rise_between low None keys ≡ true → filled_after low 0 (kept_after low (map Some keys)) ≡ keys
+filled-rising : (low : Option (List ℕ)) (keys : List (List ℕ)) → rise_between low None keys ≡ true → filled_after None low 0 (kept_after low (map Some keys)) ≡ keys
 filled-rising low [] h = none_between low None
 filled-rising low (key ∷ keys) h =
     let p = and_parts (ends_rise low (Some key)) (rise_between (Some key) None keys) h in
     cond_both (ends_rise low (Some key)) (Some key ∷ kept_after (Some key) (map Some keys)) (None ∷ kept_after low (map Some keys))
-    (λ kept. filled_after low 0 kept ≡ key ∷ keys)
+    (λ kept. filled_after None low 0 kept ≡ key ∷ keys)
     (λ _. ap₂ (λ none rest. none ++ key ∷ rest) (none_between low (Some key)) (filled-rising (Some key) keys p.1))
     (λ f. absurd (cc))
 
 pub repaired-rising : (keys : List (List ℕ)) → are_rising keys ≡ true → repaired (map Some keys) ≡ keys
-unfolding repaired
+unfolding repaired_below
 repaired-rising keys h = filled-rising None keys h
 
 -- What is kept, by positions.
@@ -204,6 +227,19 @@ are_rising-neighbours (key ∷ keys) true h = sym (rise_from_neighbours key keys
 are_rising-neighbours (key ∷ keys) false h = sym (fall_from_neighbours key keys h.0 h.1 h.2)
 
 -- All of this in one, for the code.
+pub record AreRepairedBelow (above : Option (List ℕ)) (keys : List (Option (List ℕ))) (new : List (List ℕ)) : Type 0 where
+  pub count : length new ≡ length keys
+  pub rise : rise_between None above new ≡ true
+  pub keeps : KeepsAll (kept keys) new
+  pub new_keys : list_all is_key new ≡ true
+
+pub AreRepairedBelow-from : (above : Option (List ℕ)) (keys : List (Option (List ℕ))) (new : List (List ℕ)) → new ≡ repaired_below above keys → is_key_or_none above ≡ true → are_below above keys ≡ true
+    → list_all is_key_or_none keys ≡ true → AreRepairedBelow above keys new
+AreRepairedBelow-from above keys new e top under h =
+    let between = repaired_below-law above keys top under h in
+    subst (AreRepairedBelow above keys) (sym e)
+    (record { count = between.count; rise = between.rise; keeps = repaired_below-keeps above keys top under h; new_keys = between.are_keys })
+
 pub record AreRepaired (keys : List (Option (List ℕ))) (new : List (List ℕ)) : Type 0 where
   pub count : length new ≡ length keys
   pub rise : are_rising new ≡ true
@@ -212,5 +248,5 @@ pub record AreRepaired (keys : List (Option (List ℕ))) (new : List (List ℕ))
 
 pub AreRepaired-from : (keys : List (Option (List ℕ))) (new : List (List ℕ)) → new ≡ repaired keys → list_all is_key_or_none keys ≡ true → AreRepaired keys new
 AreRepaired-from keys new e h =
-    let between = repaired-law keys h in
-    subst (AreRepaired keys) (sym e) (record { count = between.count; rise = between.rise; keeps = repaired-keeps keys h; new_keys = between.are_keys })
+    let are = AreRepairedBelow-from None keys new e refl (all-below keys) h in
+    record { count = are.count; rise = are.rise; keeps = are.keeps; new_keys = are.new_keys }
