@@ -2,6 +2,9 @@
 #![tactic(auto)]
 
 #[cfg(test)]
+mod view_changes;
+
+#[cfg(test)]
 mod tests {
     use board_io::List;
     use elem::{Binding, BoundRef, Element, Kind, Role, same};

@@ -8,3 +8,8 @@ pub mod ContentLaws
 pub mod CopyLaws
 pub mod Redrawn
 pub mod Followed
+pub mod Cuts
+pub mod Reached
+pub mod ByIds
+pub mod KeyedSettled
+pub mod Untouched
