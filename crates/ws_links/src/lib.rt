@@ -7,6 +7,8 @@ mod link;
 mod origin;
 mod server;
 mod stream;
+#[cfg(test)]
+mod tests;
 mod ws_links;
 
 pub use ws_links::WsLinks;
