@@ -4,6 +4,8 @@
 #[cfg(test)]
 mod copies;
 #[cfg(test)]
+mod ends;
+#[cfg(test)]
 mod held;
 #[cfg(test)]
 mod keys;
