@@ -12,4 +12,6 @@ mod keys;
 #[cfg(test)]
 mod samples;
 #[cfg(test)]
+mod stores;
+#[cfg(test)]
 mod values;
