@@ -10,6 +10,8 @@ mod held;
 #[cfg(test)]
 mod keys;
 #[cfg(test)]
+mod kinds;
+#[cfg(test)]
 mod samples;
 #[cfg(test)]
 mod stores;
