@@ -37,7 +37,15 @@ fn is_local(origin: &[u8]) -> bool {
     ["localhost", "127.0.0.1", "[::1]"]
         .iter()
         .any(|host| match place.strip_prefix(*host) {
-            Some(port) => port.is_empty() || port.starts_with(':'),
+            Some(port) => is_port(port),
             None => false,
         })
+}
+
+/// Whether what follows a host is nothing, or a colon and digits.
+fn is_port(port: &str) -> bool {
+    match port.strip_prefix(':') {
+        Some(digits) => digits.bytes().all(|byte| byte.is_ascii_digit()),
+        None => port.is_empty(),
+    }
 }
