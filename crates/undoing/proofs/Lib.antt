@@ -1,0 +1,4 @@
+pub mod DifferingLaws
+pub mod StepLaws
+pub mod TakenLaws
+pub mod UndoneLaws

@@ -1,0 +1,5 @@
+pub mod Carrying
+pub mod Differing
+pub mod Entries
+pub mod Steps
+pub mod Undoing
