@@ -1,7 +1,8 @@
 -- Elements in the order of their ids: where an id is found among them, and what they are once an element is put.
-use Rattle.std.proofs.Common.{◌≡◌, ℕ, ◌+◌, ◌<◌, ◌≤◌, Bool, true, false, cond, ◌&&◌, List, length, get_or, set, Option, Some, None, Result, Ok, Err, Ordering, Greater, IfOk, IfErr, IfSome, slice_get, insert, is_lt, nat_cmp, bytes_eq, refl, sym, ap, ◌∙◌, subst, inl, inr, length-set, length-take, length-drop, get_or-set_same, arith}
+use Rattle.std.proofs.Common.{◌≡◌, ℕ, ◌+◌, ◌<◌, ◌≤◌, Bool, true, false, cond, ◌&&◌, List, length, get_or, set, Option, Some, None, Result, Ok, Err, Ordering, Greater, IfOk, IfErr, IfSome, slice_get, insert, is_lt, nat_cmp, bytes_eq, if◌then◌else◌, refl, sym, ap, ◌∙◌, subst, inl, inr, length-set, length-take, length-drop, get_or-set_same, arith}
 use Rattle.std.specs.Cmp.Lexicographic.{slice_cmp}
 use Rattle.std.specs.List.Sorted.{IsBinarySearchResult, IsSearchInRange}
+use Rattle.std.specs.Option.{option_map}
 use Rattle.std.specs.Ordering.{ordering_reverse}
 use Rattle.std.proofs.lemmas.Bool.{cases_Bool, cond-true, cond-false, false_from_ne_true}
 use Rattle.std.proofs.lemmas.Cmp.{nat_list_cmp_total}
@@ -14,8 +15,9 @@ use Rattle.frac_keys.specs.Keys.{bytes_less}
 use Rattle.frac_keys.specs.Rising.{are_rising}
 use Rattle.elem.specs.Drawn.{Drawn}
 use Rattle.elem.specs.Facts.{IsElement}
-use Rattle.delta.specs.Applied.{IsApplied, KeepsStamp}
+use Rattle.delta.specs.Applied.{IsApplied}
 use Rattle.delta.specs.Delta.{Delta}
+use Rattle.delta.specs.Pairs.{Pair}
 use Rattle.delta.specs.Parts.{StandsFor}
 use Rattle.elem_store.specs.Places.{IsAt, IsGapFor}
 use Rattle.elem_store.specs.Updates.{is_of, element_of, ids_of}
@@ -24,7 +26,11 @@ use Rattle.elem_store.proofs.Ids.{same_id, of_same}
 use Rattle.elem_store.proofs.Lists.{find-Some}
 use Rattle.elem_store.proofs.Placed.{some_within}
 use Rattle.elem_store.proofs.Rising.{member, earlier_less, less-less}
-use Rattle.snapshot.specs.Carried.{IsCarried, HasCarried, HasPut}
+use Rattle.undoing.specs.Carrying.{with_put}
+use Rattle.undoing.specs.Differing.{same_kind}
+use Rattle.undoing.specs.Undoing.{undone, undone_in}
+use Rattle.snapshot.specs.Carried.{IsCarried, HasCarried, HasPut, carried_to, with_made}
+use Rattle.snapshot.proofs.PutLaws.{HasPut-put}
 
 -- how the id of an element compares with an id
 abbrev pub order_of : List ℕ → Drawn → Ordering
@@ -87,19 +93,6 @@ module _ (elements : List Drawn) (rising : are_rising (ids_of elements) ≡ true
       own true o = refl
       own false o = refl
 
-  -- nothing comes where nothing is held
-  pub HasCarried-absent : (old new : Drawn) → old.kind ≡ new.kind → element_of elements new.id ≡ None → HasCarried elements (Some old) new elements
-  HasCarried-absent old new kind none = record {
-    ordered = rising;
-    own = record {
-      created = λ e. absurd (none-some old (sym e));
-      other_kind = λ stored e other. absurd (other (ap (λ (x : Drawn). x.kind) (sym (same_Some old stored e)) ∙ kind));
-      absent = λ stored e same held. none;
-      changed = λ stored x e same held. absurd (none-some x (sym none ∙ held));
-    };
-    others = λ id f. refl;
-  }
-
 -- an element that was put is carried
 pub HasCarried-put : (before : List Drawn) (old : Option Drawn) (new e : Drawn) (after : List Drawn) → HasPut before e after → e.id ≡ new.id → IsCarried (element_of before new.id) old new (Some e) → HasCarried before old new after
 HasCarried-put before old new e after put id carried = record {
@@ -114,22 +107,65 @@ found-id elements id None h = tt
 found-id elements id (Some e) h = sym (same_id id e (find-Some (is_of id) elements e (sym h)).1)
 
 -- a held element is led as the stored one was
-pub HasCarried-led : (before : List Drawn) (old new held e : Drawn) (after : List Drawn) (part : Delta) → HasPut before e after → old.kind ≡ new.kind → Some held ≡ element_of before new.id → IsElement e → KeepsStamp held e → StandsFor part old new → IsApplied part held e → HasCarried before (Some old) new after
-HasCarried-led before old new held e after part put kind found is kept stands applied =
-    HasCarried-put before (Some old) new e after put (kept.id ∙ found-id before new.id (Some held) found) (record {
-      created = λ none. absurd (none-some old (sym none));
-      other_kind = λ stored same other. absurd (other (ap (λ (x : Drawn). x.kind) (sym (same_Some old stored same)) ∙ kind));
-      absent = λ stored same kinds none. absurd (none-some held (sym (found ∙ none)));
-      changed = λ stored x same kinds some. (
-        e,
-        record {
-          is_element = is;
-          applied = (
-            part,
-            subst (λ o. StandsFor part o new) (same_Some old stored same) stands,
-            subst (λ h. IsApplied part h e) (same_Some held x (found ∙ some)) applied,
-          );
-        },
-        refl,
+pub IsCarried-led : (old new held e : Drawn) (part : Delta) → old.kind ≡ new.kind → IsElement e → StandsFor part old new → IsApplied part held e → IsCarried (Some held) (Some old) new (Some e)
+IsCarried-led old new held e part kind is stands applied = record {
+  created = λ none. absurd (none-some old (sym none));
+  other_kind = λ stored same other. absurd (other (ap (λ (x : Drawn). x.kind) (sym (same_Some old stored same)) ∙ kind));
+  absent = λ stored same kinds none. absurd (none-some held (sym none));
+  changed = λ stored x same kinds some. (
+    e,
+    record {
+      is_element = is;
+      applied = (
+        part,
+        subst (λ o. StandsFor part o new) (same_Some old stored same) stands,
+        subst (λ h. IsApplied part h e) (same_Some held x some) applied,
       );
-    })
+    },
+    refl,
+  );
+}
+
+-- nothing comes where nothing is held
+pub IsCarried-absent : (old new : Drawn) → old.kind ≡ new.kind → IsCarried None (Some old) new None
+IsCarried-absent old new kind = record {
+  created = λ e. absurd (none-some old (sym e));
+  other_kind = λ stored e other. absurd (other (ap (λ (x : Drawn). x.kind) (sym (same_Some old stored e)) ∙ kind));
+  absent = λ stored e same held. refl;
+  changed = λ stored x e same held. absurd (none-some x held);
+}
+
+-- what is made has the id
+undone-id : (pair : Pair) (now : Drawn) → (undone pair now).id ≡ now.id
+unfolding undone
+undone-id pair now = elim (same_kind pair.after.kind now.kind) as (λ b. (if b then undone_in pair now else now).id ≡ now.id) [ true ↦ refl | false ↦ refl ]
+
+pub made-id : (held old : Option Drawn) (new e : Drawn) → IfSome held (λ h. h.id ≡ new.id) → Some e ≡ carried_to held old new → e.id ≡ new.id
+made-id held None new e id h = ap (λ (x : Drawn). x.id) (same_Some e new h)
+made-id held (Some old) new e id h = made (same_kind old.kind new.kind) held id h
+  where
+    made : (b : Bool) (held : Option Drawn) → IfSome held (λ h. h.id ≡ new.id) → Some e ≡ cond b (option_map (undone (record { before = new; after = old })) held) (Some new) → e.id ≡ new.id
+    made false held id h = ap (λ (x : Drawn). x.id) (same_Some e new h)
+    made true None id h = absurd (none-some e (sym h))
+    made true (Some held) id h = ap (λ (x : Drawn). x.id) (same_Some e (undone (record { before = new; after = old }) held) h) ∙ undone-id (record { before = new; after = old }) held ∙ id
+
+-- nothing is made of nothing alone
+pub none-made : (held old : Option Drawn) (new : Drawn) → None ≡ carried_to held old new → held ≡ None
+none-made held None new h = absurd (none-some new h)
+none-made held (Some old) new h = made (same_kind old.kind new.kind) held h
+  where
+    made : (b : Bool) (held : Option Drawn) → None ≡ cond b (option_map (undone (record { before = new; after = old })) held) (Some new) → held ≡ None
+    made false held h = absurd (none-some new h)
+    made true None h = refl
+    made true (Some held) h = absurd (none-some (undone (record { before = new; after = old }) held) h)
+
+-- elements with what a change made are carried
+pub HasCarried-made : (before : List Drawn) (old : Option Drawn) (new : Drawn) (made : Option Drawn) → are_rising (ids_of before) ≡ true → IsCarried (element_of before new.id) old new made → made ≡ carried_to (element_of before new.id) old new → HasCarried before old new (with_made made before)
+HasCarried-made before old new (Some e) rising carried to =
+    HasCarried-put before old new e (with_put e before) (HasPut-put before e rising)
+    (made-id (element_of before new.id) old new e (found-id before new.id (element_of before new.id) refl) to) carried
+HasCarried-made before old new None rising carried to = record {
+  ordered = rising;
+  own = subst (IsCarried (element_of before new.id) old new) (sym (none-made (element_of before new.id) old new to)) carried;
+  others = λ id f. refl;
+}

@@ -1,2 +1,6 @@
+pub mod FollowLaws
+pub mod PutLaws
 pub mod HeldLaws
 pub mod PendingLaws
+pub mod PlanLaws
+pub mod StoredLaws

@@ -1,6 +1,7 @@
 -- Changes that are carried into a snapshot, so that they are no part of what is captured next. This project's own, after
 -- Excalidraw's store.
 use Rattle.std.specs.Prelude.{◌≡◌, ◌≢◌, ℕ, List, true, false, Option, Some, None, if◌then◌else◌}
+use Rattle.std.specs.Option.{option_map}
 use Rattle.frac_keys.specs.Rising.{are_rising}
 use Rattle.elem.specs.Drawn.{Drawn}
 use Rattle.elem.specs.Facts.{IsElement}
@@ -8,6 +9,9 @@ use Rattle.elem_store.specs.Updates.{is_of, element_of, ids_of}
 use Rattle.delta.specs.Delta.{Delta}
 use Rattle.delta.specs.Applied.{IsApplied}
 use Rattle.delta.specs.Parts.{StandsFor}
+use Rattle.undoing.specs.Carrying.{with_put}
+use Rattle.undoing.specs.Differing.{same_kind}
+use Rattle.undoing.specs.Undoing.{undone}
 
 -- the element after the difference of two others was applied to it
 pub record IsLed (old new held result : Drawn) : Type 0 where
@@ -34,3 +38,19 @@ pub record HasCarried (before : List Drawn) (old : Option Drawn) (new : Drawn) (
 pub record HasPut (before : List Drawn) (e : Drawn) (after : List Drawn) : Type 0 where
   pub ordered : are_rising (ids_of after) ≡ true
   pub each : (id : List ℕ) → element_of after id ≡ (if is_of id e then Some e else element_of before id)
+
+-- What a stored change makes of the held element of its id, if there is one, as a function.
+abbrev pub carried_to : Option Drawn → Option Drawn → Drawn → Option Drawn
+carried_to held None new = Some new
+carried_to held (Some old) new =
+    if same_kind old.kind new.kind then option_map (undone (record { before = new; after = old })) held else Some new
+
+-- elements with one more, if there is one
+abbrev pub with_made : Option Drawn → List Drawn → List Drawn
+with_made None elements = elements
+with_made (Some e) elements = with_put e elements
+
+-- Each of these elements has a stored one of its id, which is of its kind.
+abbrev pub AreOfStoredKinds : List Drawn → List Drawn → Type 0
+AreOfStoredKinds elements stored =
+    (id : List ℕ) (e : Drawn) → element_of elements id ≡ Some e → (own : Drawn) × (element_of stored id ≡ Some own) × (same_kind e.kind own.kind ≡ true)

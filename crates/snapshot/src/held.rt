@@ -1,10 +1,11 @@
 //! Elements in the order of their ids.
 
-ghost use Rattle.std.specs.Prelude.{◌≡◌, true, option_copied, IfOk, IfErr, OnOk, OnErr};
+ghost use Rattle.std.specs.Prelude.{◌≡◌, ◌+◌, ◌-◌, ◌<◌, ◌≤◌, true, length, option_copied, IfOk, IfErr, IsOk, OnOk, OnErr, vec_capacity, vec_len};
 ghost use Rattle.frac_keys.specs.Rising.{are_rising};
 ghost use Rattle.elem_store.specs.Places.{IsAt, IsGapFor};
 ghost use Rattle.elem_store.specs.Updates.{element_of, ids_of};
-ghost use Rattle.snapshot.specs.Carried.{HasPut};
+ghost use Rattle.undoing.specs.Carrying.{with_put, with_all_put};
+ghost use Rattle.snapshot.specs.Carried.{with_made};
 
 use elem::Element;
 use scene_json::Text;
@@ -30,15 +31,55 @@ pub(crate) fn find<'a>(elements: &'a Vec<Element>, id: &Text) -> Option<&'a Elem
     }
 }
 
-/// Puts the element in the place of the one of its id, or adds it.
+/// Puts the element in the place of the one of its id, or adds it. It takes no memory where there is room.
 pub(crate) fn put(elements: &mut Vec<Element>, e: Element) -> Result<(), AllocError>
     requires { are_rising (ids_of elements.old.items) ≡ true }
-    ensures ok { OnOk result (HasPut elements.old.items e elements.new.items) }
+    ensures ok { OnOk result (elements.new.items ≡ with_put e elements.old.items) }
     ensures err { OnErr result (elements.new.items ≡ elements.old.items) }
+    ensures room { vec_len elements.old < vec_capacity elements.old → IsOk result }
+    ensures count { vec_len elements.new ≤ vec_len elements.old + 1 }
+    ensures kept { vec_capacity elements.old ≤ vec_capacity elements.new }
 {
     match place_of(elements, &e.id) {
         Ok(i) => elements[i] = e,
         Err(i) => elements.insert(i, e)?,
     }
     Ok(())
+}
+
+/// Puts an element, if there is one.
+pub(crate) fn put_made(elements: &mut Vec<Element>, made: Option<Element>) -> Result<(), AllocError>
+    requires { are_rising (ids_of elements.old.items) ≡ true }
+    ensures ok { OnOk result (elements.new.items ≡ with_made made elements.old.items) }
+    ensures err { OnErr result (elements.new.items ≡ elements.old.items) }
+{
+    match made {
+        Some(e) => put(elements, e),
+        None => Ok(()),
+    }
+}
+
+/// Puts copies of other elements, one after another.
+pub(crate) fn put_copies(elements: &mut Vec<Element>, news: &[Element]) -> Result<(), AllocError>
+    requires { are_rising (ids_of elements.old.items) ≡ true }
+    ensures { OnOk result (elements.new.items ≡ with_all_put news.now elements.old.items) }
+{
+    for e in news {
+        put(elements, e.try_clone()?)?;
+    }
+    Ok(())
+}
+
+/// Puts other elements, for which there is room, one after another. It takes no memory.
+pub(crate) fn put_all(elements: &mut Vec<Element>, news: Vec<Element>)
+    requires rise { are_rising (ids_of elements.old.items) ≡ true }
+    requires room { length news.items + vec_len elements.old ≤ vec_capacity elements.old }
+    ensures { elements.new.items ≡ with_all_put news.items elements.old.items }
+{
+    for e in news {
+        match put(elements, e) {
+            Ok(()) => {}
+            Err(_) => unreachable!(),
+        }
+    }
 }

@@ -1,8 +1,10 @@
 //! What the elements of a board were when they were last captured, and what has changed since.
 #![tactic(auto)]
 
+mod carrying;
 mod held;
+pub mod laws;
 mod pending;
 mod snapshot;
 
-pub use snapshot::Snapshot;
+pub use snapshot::{Snapshot, SnapshotStep};

@@ -1,16 +1,17 @@
 //! What has changed from some elements to those that are stored.
 
-ghost use Rattle.std.specs.Prelude.{◌≡◌, ◌++◌, [], ◌∷◌, true, false, List as Items, option_copied, Contains, IfOk, IfSome, OnOk, IsTrue, ◌↔◌};
+ghost use Rattle.std.specs.Prelude.{◌≡◌, ◌⊎◌, ◌++◌, [], ◌∷◌, true, false, List as Items, Some, option_copied, Contains, IfOk, IfSome, OnOk, IsTrue, ◌↔◌};
 ghost use Rattle.frac_keys.specs.Keys.{bytes_less};
 ghost use Rattle.frac_keys.specs.Rising.{are_rising};
 ghost use Rattle.delta.specs.Facts.{part_ids};
 ghost use Rattle.delta.specs.Pairs.{Pair, IsChanged, IsUnchanged, EntryStandsFor, pair_with};
 ghost use Rattle.elem_store.specs.Updates as updates;
+ghost use Rattle.undoing.specs.Carrying.{with_put, with_all_put};
 ghost use Rattle.snapshot.specs.Pending.{pairs_since};
 
-use crate::held::find;
+use crate::held::{find, put};
 use delta::{Part, are_one_kind, difference};
-use elem::{Element, same_but_stamp};
+use elem::{Element, same, same_but_stamp};
 use elem_store::Store;
 use scene_json::Text;
 use std::alloc::{AllocError, Global};
@@ -29,6 +30,23 @@ pub(crate) fn parts_since(
         if let Some(e) = store.at(i) {
             note(alloc, &mut parts, find(elements, &e.id), e)?;
         }
+    }
+    Ok(parts)
+}
+
+/// The parts from the elements to other ones.
+pub(crate) fn parts_to(
+    alloc: Global,
+    elements: &Vec<Element>,
+    news: &Vec<Element>,
+) -> Result<Vec<Part>, AllocError>
+    requires elements { are_rising (updates.ids_of elements.now.items) ≡ true }
+    requires news { are_rising (updates.ids_of news.now.items) ≡ true }
+    ensures { IfOk result (λ parts. EntryStandsFor parts.items (pairs_since elements.now.items news.now.items)) }
+{
+    let mut parts = Vec::new(alloc);
+    for e in news {
+        note(alloc, &mut parts, find(elements, &e.id), e)?;
     }
     Ok(parts)
 }
@@ -86,4 +104,49 @@ pub(crate) fn copies_of(alloc: Global, store: &Store) -> Result<Vec<Element>, Al
         }
     }
     Ok(copies)
+}
+
+/// Whoever reads an element of a store knows the order of all.
+pub(crate) fn know_order(store: &Store)
+    ensures { are_rising (updates.ids_of store.now.elements) ≡ true }
+{
+    let _ = store.at(0);
+}
+
+/// Copies of the stored elements that aren't the same among the elements.
+pub(crate) fn differing(
+    alloc: Global,
+    elements: &Vec<Element>,
+    store: &Store,
+) -> Result<Vec<Element>, AllocError>
+    requires { are_rising (updates.ids_of elements.now.items) ≡ true }
+    ensures over { IfOk result (λ copies. with_all_put copies.items elements.now.items
+        ≡ with_all_put store.now.elements elements.now.items) }
+    ensures ordered { IfOk result (λ copies. are_rising (updates.ids_of copies.items) ≡ true) }
+    ensures stored { are_rising (updates.ids_of store.now.elements) ≡ true }
+{
+    know_order(store);
+    let mut copies = Vec::new(alloc);
+    for i in 0..store.len() {
+        if let Some(e) = store.at(i) {
+            put_differing(&mut copies, find(elements, &e.id), e)?;
+        }
+    }
+    Ok(copies)
+}
+
+/// Puts a copy of the element, unless the old one is the same.
+fn put_differing(
+    copies: &mut Vec<Element>,
+    old: Option<&Element>,
+    new: &Element,
+) -> Result<(), AllocError>
+    requires { are_rising (updates.ids_of copies.old.items) ≡ true }
+    ensures { OnOk result ((copies.new.items ≡ with_put new.now copies.old.items)
+        ⊎ ((copies.new.items ≡ copies.old.items) × (option_copied old.entry ≡ Some new.now))) }
+{
+    match old {
+        Some(old) if same(old, new) => Ok(()),
+        _ => put(copies, new.try_clone()?),
+    }
 }

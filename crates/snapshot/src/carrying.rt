@@ -1,0 +1,181 @@
+//! Carrying stored changes into elements, so that they are no part of what is captured next.
+
+ghost use Rattle.std.specs.Prelude.{◌≡◌, true, Some, option_copied, IfOk, IfSome, OnOk, OnErr, if◌then◌else◌};
+ghost use Rattle.std.specs.Option.{option_map};
+ghost use Rattle.frac_keys.specs.Rising.{are_rising};
+ghost use Rattle.elem_store.specs.Updates as updates;
+ghost use Rattle.elem_store.specs.Updates.{element_of, ids_of, is_taken, takings};
+ghost use Rattle.undoing.specs.Carrying.{with_put, with_all_put, carried_over, carried_all};
+ghost use Rattle.undoing.specs.Undoing.{undone};
+ghost use Rattle.snapshot.specs.Carried.{IsCarried, HasCarried, carried_to};
+
+use crate::held::{find, put, put_made};
+use crate::pending::know_order;
+use delta::{apply, are_one_kind, difference};
+use elem::{Element, beats};
+use elem_store::Store;
+use scene_json::Text;
+use std::alloc::{AllocError, Global};
+
+/// Carries a stored change into the elements.
+pub(crate) fn carry(
+    alloc: Global,
+    elements: &mut Vec<Element>,
+    old: Option<&Element>,
+    new: &Element,
+) -> Result<(), AllocError>
+    requires rise { are_rising (ids_of elements.old.items) ≡ true }
+    requires id { IfSome (option_copied old) (λ old. old.id ≡ new.now.id) }
+    ensures ok { OnOk result (HasCarried elements.old.items (option_copied old.entry) new.now elements.new.items) }
+    ensures over { OnOk result (elements.new.items ≡ carried_over (option_copied old.entry) new.now elements.old.items) }
+    ensures err { OnErr result (elements.new.items ≡ elements.old.items) }
+{
+    let made = carried(alloc, find(elements, &new.id), old, new)?;
+    put_made(elements, made)
+}
+
+/// What a stored change makes of the held element of its id.
+fn carried(
+    alloc: Global,
+    held: Option<&Element>,
+    old: Option<&Element>,
+    new: &Element,
+) -> Result<Option<Element>, AllocError>
+    requires held_id { IfSome (option_copied held) (λ held. held.id ≡ new.now.id) }
+    requires id { IfSome (option_copied old) (λ old. old.id ≡ new.now.id) }
+    ensures is { IfOk result (IsCarried (option_copied held.entry) (option_copied old.entry) new.now) }
+    ensures to { IfOk result (λ made. made ≡ carried_to (option_copied held.entry) (option_copied old.entry) new.now) }
+{
+    match old {
+        Some(old) => changed(alloc, held, old, new),
+        None => Ok(Some(new.try_clone()?)),
+    }
+}
+
+/// What a change of a stored element makes of the held one: a new element of another kind takes its place.
+fn changed(
+    alloc: Global,
+    held: Option<&Element>,
+    old: &Element,
+    new: &Element,
+) -> Result<Option<Element>, AllocError>
+    requires held_id { IfSome (option_copied held) (λ held. held.id ≡ new.now.id) }
+    requires id { old.now.id ≡ new.now.id }
+    ensures is { IfOk result (IsCarried (option_copied held.entry) (Some old.now) new.now) }
+    ensures to { IfOk result (λ made. made ≡ carried_to (option_copied held.entry) (Some old.now) new.now) }
+{
+    if are_one_kind(&old.kind, &new.kind) {
+        follow(alloc, held, old, new)
+    } else {
+        Ok(Some(new.try_clone()?))
+    }
+}
+
+/// Makes the change from one element to another one of its kind in the held one, if there is one.
+fn follow(
+    alloc: Global,
+    held: Option<&Element>,
+    old: &Element,
+    new: &Element,
+) -> Result<Option<Element>, AllocError>
+    requires held_id { IfSome (option_copied held) (λ held. held.id ≡ new.now.id) }
+    requires id { old.now.id ≡ new.now.id }
+    requires kind { old.now.kind ≡ new.now.kind }
+    ensures is { IfOk result (IsCarried (option_copied held.entry) (Some old.now) new.now) }
+    ensures to { IfOk result (λ made.
+        made ≡ option_map (undone (record { before = new.now; after = old.now })) (option_copied held.entry)) }
+{
+    let Some(held) = held else {
+        return Ok(None);
+    };
+    // Whoever reads a field knows that it is an element.
+    let _ = &held.deleted;
+    let _ = &old.deleted;
+    let _ = &new.deleted;
+    let part = difference(alloc, Some(old), new)?;
+    let made = apply(alloc, &part, held)?;
+    Ok(Some(made))
+}
+
+/// The elements that carrying makes of the held ones, for each of a list that becomes stored.
+pub(crate) fn carrying(
+    alloc: Global,
+    held: &Vec<Element>,
+    store: &Store,
+    list: &[Element],
+) -> Result<Vec<Element>, AllocError>
+    requires { are_rising (ids_of held.now.items) ≡ true }
+    ensures step { IfOk result (λ step. with_all_put step.items held.now.items
+        ≡ carried_all (takings store.now.elements list.now) held.now.items) }
+    ensures ordered { IfOk result (λ step. are_rising (ids_of step.items) ≡ true) }
+{
+    know_order(store);
+    let mut newer = Vec::new(alloc);
+    let mut step = Vec::new(alloc);
+    for e in list {
+        carry_one(alloc, held, store, &mut newer, &mut step, e)?;
+    }
+    Ok(step)
+}
+
+/// Carries an element into the step, if it becomes stored over the store with the newer ones.
+fn carry_one(
+    alloc: Global,
+    held: &Vec<Element>,
+    store: &Store,
+    newer: &mut Vec<Element>,
+    step: &mut Vec<Element>,
+    e: &Element,
+) -> Result<(), AllocError>
+    requires held { are_rising (ids_of held.now.items) ≡ true }
+    requires newer { are_rising (ids_of newer.old.items) ≡ true }
+    requires step { are_rising (ids_of step.old.items) ≡ true }
+    ensures newer { let stored = with_all_put newer.old.items store.now.elements in
+        OnOk result (newer.new.items ≡ (if is_taken stored e.now then with_put e.now newer.old.items else newer.old.items)) }
+    ensures step { let stored = with_all_put newer.old.items store.now.elements in
+        let now = with_all_put step.old.items held.now.items in
+        OnOk result (with_all_put step.new.items held.now.items
+        ≡ (if is_taken stored e.now then carried_over (element_of stored e.now.id) e.now now else now)) }
+    ensures ordered { OnOk result (are_rising (ids_of step.new.items) ≡ true) }
+{
+    let old = stored_over(newer, store, &e.id);
+    if !is_newer(e, old) {
+        return Ok(());
+    }
+    let made = carried(alloc, find_over(step, held, &e.id), old, e)?;
+    put_made(step, made)?;
+    put(newer, e.try_clone()?)
+}
+
+/// The element of this id: a newer one, or what is stored.
+fn stored_over<'a>(newer: &'a Vec<Element>, store: &'a Store, id: &Text) -> Option<&'a Element>
+    requires { are_rising (ids_of newer.now.items) ≡ true }
+    ensures { option_copied result ≡ element_of (with_all_put newer.now.items store.now.elements) id.now }
+{
+    match find(newer, id) {
+        Some(e) => Some(e),
+        None => store.get(id),
+    }
+}
+
+/// The element of this id: that of the step, or the held one.
+fn find_over<'a>(step: &'a Vec<Element>, held: &'a Vec<Element>, id: &Text) -> Option<&'a Element>
+    requires step { are_rising (ids_of step.now.items) ≡ true }
+    requires held { are_rising (ids_of held.now.items) ≡ true }
+    ensures { option_copied result ≡ element_of (with_all_put step.now.items held.now.items) id.now }
+{
+    match find(step, id) {
+        Some(e) => Some(e),
+        None => find(held, id),
+    }
+}
+
+/// Whether the element becomes stored over the old one of its id, if there is one.
+fn is_newer(e: &Element, old: Option<&Element>) -> bool
+    ensures { result ≡ updates.is_newer e.now (option_copied old.entry) }
+{
+    match old {
+        Some(old) => beats(e, old),
+        None => true,
+    }
+}
