@@ -27,7 +27,7 @@ use Rattle.history.proofs.PlanLaws.{reverse-cons}
 use Rattle.history.specs.Stacks.{OnFull, HasStepped, HasStoredIds, HaveStoredIds}
 use Rattle.history.specs.Steps.{stamped, Reverts, IsNow, IsFull, IsFullId, IsLeastFull, IsStep, ComesOf}
 
-reverse-Contains : {X : Type 0} (xs : List X) (x : X) → Contains (reverse xs) x → Contains xs x
+pub reverse-Contains : {X : Type 0} (xs : List X) (x : X) → Contains (reverse xs) x → Contains xs x
 reverse-Contains [] x c = absurd (omega (arith, c.1))
 reverse-Contains (y ∷ ys) x c =
     elim (Contains-push_cases (reverse ys) y x (subst (λ zs. Contains zs x) (reverse-cons y ys) c)) [
@@ -48,7 +48,7 @@ step-none store time nonce = record {
 }
 
 -- the id of an element that comes of a part
-came-id : (store : List Drawn) (time nonce : ℕ) (part : Delta) (now reverted e : Drawn) → element_of store part.id ≡ Some now → KeepsStamp now reverted → e ≡ stamped time nonce reverted → part.id ≡ e.id
+pub came-id : (store : List Drawn) (time nonce : ℕ) (part : Delta) (now reverted e : Drawn) → element_of store part.id ≡ Some now → KeepsStamp now reverted → e ≡ stamped time nonce reverted → part.id ≡ e.id
 came-id store time nonce part now reverted e stored kept is =
     same_id part.id now (find-Some (is_of part.id) store now stored).1 ∙ sym kept.id ∙ sym (ap (λ (d : Drawn). d.id) is)
 

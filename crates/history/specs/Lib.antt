@@ -1,3 +1,4 @@
+pub mod Pairs
 pub mod Places
 pub mod Stacks
 pub mod Steps
