@@ -1,4 +1,4 @@
--- No effect changes an element's id, kind, version or file.
+-- No effect and no command changes an element's id, kind, version or file.
 use Rattle.std.proofs.Common.{◌≡◌, ℕ, Bool, true, false, ◌&&◌, List, Option, Some, None, bytes_eq, if◌then◌else◌, nat_cmp, refl, ◌∙◌}
 use Rattle.std.specs.BTreeSet.{contains}
 use Rattle.std.specs.Cmp.Lexicographic.{slice_cmp}
@@ -6,14 +6,19 @@ use Rattle.elem.specs.declared.kind.Kind.{Kind}
 use Rattle.elem.specs.declared.parts.BoundRef.{BoundRef}
 use Rattle.elem.specs.declared.parts.Binding.{Binding}
 use Rattle.elem.specs.Drawn.{Drawn}
+use Rattle.links.specs.Entries.{arrow_entry, text_entry}
 use Rattle.links.specs.Names.{is_id, is_arrow, is_text, target_of}
+use Rattle.effects.specs.declared.command.Command.{Command}
+use Rattle.effects.specs.declared.command.Command.TheVariants as commands
 use Rattle.effects.specs.declared.command.Side.{Side}
 use Rattle.effects.specs.declared.command.Side.TheVariants.{Start, End}
 use Rattle.effects.specs.declared.effect.Effect.{Effect}
 use Rattle.effects.specs.declared.effect.Effect.TheVariants as effects
 use Rattle.effects.specs.Deleting.{without_names}
-use Rattle.effects.specs.Effects.{with_group, without_group}
-use Rattle.effects.specs.Linking.{listed, unlisted, with_entry, without_entry, with_end, with_end_of, with_container_of, with_text_of, with_text_alone, without_container_of}
+use Rattle.effects.specs.Effects.{effect, with_group, without_group}
+use Rattle.effects.specs.Linking.{listed, unlisted, with_entry, without_entry, with_end, with_end_of, with_container_of, with_text_of, with_text_alone, without_container_of, bound_to, old_target, old_container}
+use Rattle.effects.specs.Naming.{is_among, apart_from}
+use Rattle.effects.specs.Placing.{settled, key_at, key_in}
 use Rattle.effects.specs.Prepared.{made_by, settled_in}
 use Rattle.effects.specs.Settings.{with_member}
 
@@ -41,7 +46,7 @@ listed-keeps id entry e = one_of (is_id e.id id) e (record e { bound = with_entr
 unlisted-keeps : (id : Option (List ℕ)) (entry : BoundRef) (e : Drawn) → self_of (unlisted id entry e) ≡ self_of e
 unlisted-keeps id entry e = one_of (is_id e.id id) e (record e { bound = without_entry entry e.bound }) e refl refl
 
-with_end_of-keeps : (arrow : List ℕ) (side : Side) (binding : Option Binding) (e : Drawn) → self_of (with_end_of arrow side binding e) ≡ self_of e
+pub with_end_of-keeps : (arrow : List ℕ) (side : Side) (binding : Option Binding) (e : Drawn) → self_of (with_end_of arrow side binding e) ≡ self_of e
 with_end_of-keeps arrow side binding e = one_of (bytes_eq arrow e.id && is_arrow e.kind) e (with_end side binding e) e (with_end-keeps side binding e) refl
 
 with_container_of-keeps : (text container : List ℕ) (e : Drawn) → self_of (with_container_of text container e) ≡ self_of e
@@ -74,3 +79,30 @@ made_by-keeps (effects.Unlabel text old entry) e =
 made_by-keeps (effects.Frame ids frame) e = one_of (contains (slice_cmp nat_cmp) ids e.id) e (record e { frame = frame }) e refl refl
 made_by-keeps (effects.Group ids group) e = one_of (contains (slice_cmp nat_cmp) ids e.id) e (record e { groups = with_group group e.groups }) e refl refl
 made_by-keeps (effects.Ungroup ids group) e = one_of (contains (slice_cmp nat_cmp) ids e.id) e (record e { groups = without_group group e.groups }) e refl refl
+
+bound_to-keeps : (arrow : List ℕ) (side : Side) (binding : Option Binding) (old : Option (List ℕ)) (e : Drawn) → self_of (bound_to arrow side binding old e) ≡ self_of e
+bound_to-keeps arrow side binding old e =
+    unlisted-keeps (apart_from (target_of binding) old) (arrow_entry arrow) (listed (target_of binding) (arrow_entry arrow) (with_end_of arrow side binding e))
+    ∙ listed-keeps (target_of binding) (arrow_entry arrow) (with_end_of arrow side binding e)
+    ∙ with_end_of-keeps arrow side binding e
+
+pub effect-keeps : (stored shown : List Drawn) (command : Command) (e : Drawn) → self_of (effect stored shown command e) ≡ self_of e
+effect-keeps stored shown (commands.Create element spot) e = refl
+effect-keeps stored shown (commands.Set id name value) e = one_of (bytes_eq id e.id) e (with_member name value e) e refl refl
+effect-keeps stored shown (commands.Delete ids) e = one_of (is_among ids e.id) e (record e { deleted = true }) (without_names (is_among ids) e) refl refl
+effect-keeps stored shown (commands.Place id spot) e =
+    one_of (bytes_eq id e.id) e (record (settled shown e) { index = key_at shown spot id (key_in shown id) }) (settled shown e) refl refl
+effect-keeps stored shown (commands.Bind arrow side target rest) e =
+    bound_to-keeps arrow side (Some (record { target = target; rest = rest })) (old_target stored arrow side) e
+effect-keeps stored shown (commands.Unbind arrow side) e = bound_to-keeps arrow side None (old_target stored arrow side) e
+effect-keeps stored shown (commands.Label container text) e =
+    let old = apart_from (Some container) (old_container stored text) in
+    unlisted-keeps old (text_entry text) (with_text_of text container (with_container_of text container e))
+    ∙ with_text_of-keeps text container (with_container_of text container e)
+    ∙ with_container_of-keeps text container e
+effect-keeps stored shown (commands.Unlabel text) e =
+    unlisted-keeps (old_container stored text) (text_entry text) (without_container_of text e) ∙ without_container_of-keeps text e
+effect-keeps stored shown (commands.Frame ids frame) e = one_of (is_among ids e.id) e (record e { frame = Some frame }) e refl refl
+effect-keeps stored shown (commands.Unframe ids) e = one_of (is_among ids e.id) e (record e { frame = None }) e refl refl
+effect-keeps stored shown (commands.Group ids group) e = one_of (is_among ids e.id) e (record e { groups = with_group group e.groups }) e refl refl
+effect-keeps stored shown (commands.Ungroup ids group) e = one_of (is_among ids e.id) e (record e { groups = without_group group e.groups }) e refl refl

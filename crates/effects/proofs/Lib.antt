@@ -7,3 +7,5 @@ pub mod PlacingLaws
 pub mod SettingLaws
 pub mod WalkingLaws
 pub mod PreparingLaws
+pub mod OutcomeLaws
+pub mod CommandLaws

@@ -48,7 +48,7 @@ pub ends_rise-none : (low : Option (List ℕ)) → ends_rise low None ≡ true
 ends_rise-none None = refl
 ends_rise-none (Some low) = refl
 
-ends_rise-trans : (low : Option (List ℕ)) (key : List ℕ) (high : Option (List ℕ)) → ends_rise low (Some key) ≡ true → ends_rise (Some key) high ≡ true → ends_rise low high ≡ true
+pub ends_rise-trans : (low : Option (List ℕ)) (key : List ℕ) (high : Option (List ℕ)) → ends_rise low (Some key) ≡ true → ends_rise (Some key) high ≡ true → ends_rise low high ≡ true
 ends_rise-trans None key high a b = refl
 ends_rise-trans (Some low) key None a b = refl
 ends_rise-trans (Some low) key (Some high) a b = bytes_less-trans low key high a b

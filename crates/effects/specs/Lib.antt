@@ -2,6 +2,7 @@ pub mod Changed
 pub mod Deleting
 pub mod Differing
 pub mod Effects
+pub mod Given
 pub mod Limits
 pub mod Linking
 pub mod Naming

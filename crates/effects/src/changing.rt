@@ -4,7 +4,7 @@ ghost use Rattle.std.specs.Prelude.{◌≡◌, ◌≤◌, None, false, IfErr, If
 ghost use Rattle.std.specs.List.{prefix_len};
 ghost use Rattle.frac_keys.specs.Keys.{bytes_less};
 ghost use Rattle.elem.specs.Facts.{greatest_whole};
-ghost use Rattle.view.specs.Shown.{shown};
+ghost use Rattle.view.specs.Shown.{HaveRisingKeys};
 ghost use Rattle.effects.specs.Changed as changes;
 ghost use Rattle.effects.specs.Changed.{OnFault, outcome};
 ghost use Rattle.effects.specs.Limits.{IsWithinLimits};
@@ -20,15 +20,14 @@ use elem::Element;
 use elem_store::Store;
 use frac_keys::Key;
 use std::alloc::{AllocError, Global};
-use view::View;
 
-/// The elements that a command changes on a board, as they become, in the order of their ids; or why it is refused. `view`
+/// The elements that a command changes on a board, as they become, in the order of their ids; or why it is refused. `shown`
 /// is what the board shows. Each that changes is stamped with the time and the nonce. The board itself stays: whoever calls
 /// stores the elements.
 pub fn changed(
     alloc: Global,
     store: &Store,
-    view: &View,
+    shown: &[Element],
     command: &Command,
     time: u64,
     nonce: u64,
@@ -36,13 +35,14 @@ pub fn changed(
     requires time { time ≤ greatest_whole }
     requires nonce { nonce ≤ greatest_whole }
     requires limits { IsWithinLimits command.now }
-    ensures exact { IfOk result (λ changed. outcome store.now.elements (shown view.now) command.now time nonce ≡ Ok changed) }
-    ensures refused { IfErr result (λ stop. OnFault stop (λ refusal. outcome store.now.elements (shown view.now) command.now time nonce ≡ Err refusal)) }
+    requires keys { HaveRisingKeys shown.now }
+    ensures exact { IfOk result (λ changed. outcome store.now.elements shown.now command.now time nonce ≡ Ok changed) }
+    ensures refused { IfErr result (λ stop. OnFault stop (λ refusal. outcome store.now.elements shown.now command.now time nonce ≡ Err refusal)) }
 {
-    check(store, view, command)?;
-    let effect = prepared(alloc, store, view, command)?;
+    check(store, shown, command)?;
+    let effect = prepared(alloc, store, shown, command)?;
     let mut changed = changes_of(alloc, store, &effect, time, nonce)?;
-    let new = created(alloc, view, command, time, nonce)?;
+    let new = created(alloc, shown, command, time, nonce)?;
     add_created(&mut changed, new)?;
     Ok(List::from_vec(changed))
 }
@@ -50,18 +50,19 @@ pub fn changed(
 /// The new element of a command, if it creates one.
 fn created(
     alloc: Global,
-    view: &View,
+    shown: &[Element],
     command: &Command,
     time: u64,
     nonce: u64,
 ) -> Result<Option<Element>, AllocError>
     requires time { time ≤ greatest_whole }
     requires nonce { nonce ≤ greatest_whole }
-    ensures { IfOk result (λ new. new ≡ changes.created (shown view.now) command.now time nonce) }
+    requires keys { HaveRisingKeys shown.now }
+    ensures { IfOk result (λ new. new ≡ changes.created shown.now command.now time nonce) }
 {
     match command {
         Command::Create { element, spot } => {
-            Ok(Some(created_at(alloc, view, element, spot, time, nonce)?))
+            Ok(Some(created_at(alloc, shown, element, spot, time, nonce)?))
         }
         _ => Ok(None),
     }
@@ -70,7 +71,7 @@ fn created(
 /// The new element, with a key at the spot.
 fn created_at(
     alloc: Global,
-    view: &View,
+    shown: &[Element],
     e: &Element,
     spot: &Spot,
     time: u64,
@@ -78,22 +79,24 @@ fn created_at(
 ) -> Result<Element, AllocError>
     requires time { time ≤ greatest_whole }
     requires nonce { nonce ≤ greatest_whole }
-    ensures { IfOk result (λ new. new ≡ changes.created_at (shown view.now) e.now spot.now time nonce) }
+    requires keys { HaveRisingKeys shown.now }
+    ensures { IfOk result (λ new. new ≡ changes.created_at shown.now e.now spot.now time nonce) }
 {
-    let key = key_of_new(alloc, view, e, spot)?;
+    let key = key_of_new(alloc, shown, e, spot)?;
     Ok(fresh(e.try_clone()?, key, time, nonce))
 }
 
 /// The key of a new element at a spot.
 fn key_of_new(
     alloc: Global,
-    view: &View,
+    shown: &[Element],
     e: &Element,
     spot: &Spot,
 ) -> Result<Option<Key>, AllocError>
-    ensures { IfOk result (λ key. key ≡ placing.key_at (shown view.now) spot.now e.now.id None) }
+    requires { HaveRisingKeys shown.now }
+    ensures { IfOk result (λ key. key ≡ placing.key_at shown.now spot.now e.now.id None) }
 {
-    key_at(alloc, view.elements(), spot, &e.id, &None)
+    key_at(alloc, shown, spot, &e.id, &None)
 }
 
 /// The element as a new one, with this key.

@@ -4,6 +4,17 @@ use board_io::List;
 use elem::Element;
 use scene_json::{Member, Raw, Text};
 
+/// How a change goes into the history of whoever makes it.
+#[derive(Clone, Copy, Debug, PartialEq, Eq)]
+pub enum Capture {
+    /// It is an entry, together with what was pending.
+    Now,
+    /// It is pending until a later change, undo or redo.
+    Later,
+    /// It is no part of an entry, as what others change.
+    Never,
+}
+
 /// An end of an arrow.
 #[derive(Clone, Copy, Debug, PartialEq, Eq)]
 pub enum Side {

@@ -7,6 +7,7 @@ mod deleting;
 mod effect;
 mod framing;
 mod kinds;
+pub mod laws;
 mod linking;
 mod placing;
 mod preparing;
@@ -15,4 +16,4 @@ mod setting;
 mod walking;
 
 pub use changing::changed;
-pub use command::{Command, Refusal, Side, Spot};
+pub use command::{Capture, Command, Refusal, Side, Spot};

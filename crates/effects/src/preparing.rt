@@ -9,7 +9,7 @@ ghost use Rattle.scene_json.specs.Value.{IsCompact};
 ghost use Rattle.elem.specs.Drawn.{Drawn};
 ghost use Rattle.elem.specs.Facts.{IsBinding};
 ghost use Rattle.links.specs.Names.{is_id, target_of};
-ghost use Rattle.view.specs.Shown.{shown};
+ghost use Rattle.view.specs.Shown.{HaveRisingKeys};
 ghost use Rattle.effects.specs.Limits.{IsWithinLimits, IsRest};
 ghost use Rattle.effects.specs.Linking as linking;
 ghost use Rattle.effects.specs.Naming.{apart_from};
@@ -29,24 +29,24 @@ use frac_keys::Key;
 use scene_json::{Member, Raw, Text};
 use std::alloc::{AllocError, Global};
 use std::collections::BTreeSet;
-use view::View;
 
 /// What a command makes of the live elements.
 pub(crate) fn prepared(
     alloc: Global,
     store: &Store,
-    view: &View,
+    shown: &[Element],
     command: &Command,
 ) -> Result<Effect, AllocError>
     requires open { guarded command.now ≡ None }
     requires limits { IsWithinLimits command.now }
-    ensures { IfOk result (Prepares store.now.elements (shown view.now) command.now) }
+    requires keys { HaveRisingKeys shown.now }
+    ensures { IfOk result (Prepares store.now.elements shown.now command.now) }
 {
     match command {
-        Command::Create { element, spot } => settle(alloc, view, element, spot),
+        Command::Create { element, spot } => settle(alloc, shown, element, spot),
         Command::Set { id, member, value } => set(id, member, value),
         Command::Delete { ids } => delete(alloc, ids),
-        Command::Place { id, spot } => place(alloc, view, id, spot),
+        Command::Place { id, spot } => place(alloc, shown, id, spot),
         Command::Bind {
             arrow,
             side,
@@ -64,10 +64,15 @@ pub(crate) fn prepared(
 }
 
 /// The effect of a new element on the others.
-fn settle(alloc: Global, view: &View, element: &Element, spot: &Spot) -> Result<Effect, AllocError>
-    ensures { IfOk result (λ made. (stored : Items Drawn) → Prepares stored (shown view.now) (commands.Create element.now spot.now) made) }
+fn settle(
+    alloc: Global,
+    shown: &[Element],
+    element: &Element,
+    spot: &Spot,
+) -> Result<Effect, AllocError>
+    ensures { IfOk result (λ made. (stored : Items Drawn) → Prepares stored shown.now (commands.Create element.now spot.now) made) }
 {
-    let keys = keys_of(alloc, view.elements())?;
+    let keys = keys_of(alloc, shown)?;
     Ok(Effect::Settle { keys })
 }
 
@@ -138,13 +143,13 @@ fn set_of(alloc: Global, ids: &List<Text>) -> Result<BTreeSet<Text>, AllocError>
 }
 
 /// The effect of placing an element.
-fn place(alloc: Global, view: &View, id: &Text, spot: &Spot) -> Result<Effect, AllocError>
-    ensures { IfOk result (λ made. (stored : Items Drawn) → Prepares stored (shown view.now) (commands.Place id.now spot.now) made) }
+fn place(alloc: Global, shown: &[Element], id: &Text, spot: &Spot) -> Result<Effect, AllocError>
+    requires { HaveRisingKeys shown.now }
+    ensures { IfOk result (λ made. (stored : Items Drawn) → Prepares stored shown.now (commands.Place id.now spot.now) made) }
 {
-    let elements = view.elements();
-    let keys = keys_of(alloc, elements)?;
+    let keys = keys_of(alloc, shown)?;
     let old = key_in(&keys, id)?;
-    let key = key_at(alloc, elements, spot, id, &old)?;
+    let key = key_at(alloc, shown, spot, id, &old)?;
     let id = id.try_clone()?;
     Ok(Effect::Place { keys, id, key })
 }

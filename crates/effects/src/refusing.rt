@@ -5,7 +5,6 @@ ghost use Rattle.elem_store.specs.Updates.{element_of};
 ghost use Rattle.frames_groups.specs.Frames.{is_frame_kind};
 ghost use Rattle.links.specs.Arrows.{names_target};
 ghost use Rattle.links.specs.Names as names;
-ghost use Rattle.view.specs.Shown.{shown};
 ghost use Rattle.effects.specs.Changed.{OnFault};
 ghost use Rattle.effects.specs.Refusals.{refusal_of, existing, missing, misfit, guarded, first_missing, first_frame, spot_ids, unless_right, is_kind_of, is_live_id};
 ghost use Rattle.effects.specs.declared.command.Command.TheVariants as commands;
@@ -18,16 +17,19 @@ use board_io::{List, Stop};
 use elem::Element;
 use elem_store::Store;
 use scene_json::Text;
-use view::View;
 
 /// Fails with the first cause for which the command is refused.
-pub(crate) fn check(store: &Store, view: &View, command: &Command) -> Result<(), Stop<Refusal>>
-    ensures ok { OnOk result (refusal_of store.now.elements (shown view.now) command.now ≡ None) }
-    ensures refused { IfErr result (λ stop. OnFault stop (λ refusal. refusal_of store.now.elements (shown view.now) command.now ≡ Some refusal)) }
+pub(crate) fn check(
+    store: &Store,
+    shown: &[Element],
+    command: &Command,
+) -> Result<(), Stop<Refusal>>
+    ensures ok { OnOk result (refusal_of store.now.elements shown.now command.now ≡ None) }
+    ensures refused { IfErr result (λ stop. OnFault stop (λ refusal. refusal_of store.now.elements shown.now command.now ≡ Some refusal)) }
 {
     check_new(store, command)?;
     check_live(store, command)?;
-    check_kinds(store, view, command)?;
+    check_kinds(store, shown, command)?;
     check_member(command)
 }
 
@@ -152,14 +154,14 @@ fn check_place(store: &Store, id: &Text, spot: &Spot) -> Result<(), Stop<Refusal
 }
 
 /// Fails where an element isn't of a kind that the command is for.
-fn check_kinds(store: &Store, view: &View, command: &Command) -> Result<(), Stop<Refusal>>
-    ensures ok { OnOk result (misfit store.now.elements (shown view.now) command.now ≡ None) }
-    ensures refused { IfErr result (λ stop. OnFault stop (λ refusal. misfit store.now.elements (shown view.now) command.now ≡ Some refusal)) }
+fn check_kinds(store: &Store, shown: &[Element], command: &Command) -> Result<(), Stop<Refusal>>
+    ensures ok { OnOk result (misfit store.now.elements shown.now command.now ≡ None) }
+    ensures refused { IfErr result (λ stop. OnFault stop (λ refusal. misfit store.now.elements shown.now command.now ≡ Some refusal)) }
 {
     match command {
         Command::Bind { arrow, target, .. } => {
             check_right(is_arrow_id(store, arrow), arrow)?;
-            check_right(is_target_id(view, target), target)
+            check_right(is_target_id(shown, target), target)
         }
         Command::Unbind { arrow, .. } => check_right(is_arrow_id(store, arrow), arrow),
         Command::Label { container, text } => {
@@ -238,10 +240,10 @@ fn is_frame_id(store: &Store, id: &Text) -> bool
 }
 
 /// Whether the shown element of the id may be bound to.
-fn is_target_id(view: &View, id: &Text) -> bool
-    ensures { result ≡ names_target (shown view.now) (Some id.now) }
+fn is_target_id(shown: &[Element], id: &Text) -> bool
+    ensures { result ≡ names_target shown.now (Some id.now) }
 {
-    view.elements().iter().any(|e| is_target_of(e, id))
+    shown.iter().any(|e| is_target_of(e, id))
 }
 
 /// Whether an element is of the id and may be bound to.
