@@ -1,0 +1,5 @@
+pub mod ContentLaws
+pub mod CopyLaws
+pub mod Followed
+pub mod PlacedLaws
+pub mod Redrawn

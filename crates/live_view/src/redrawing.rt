@@ -1,0 +1,172 @@
+//! An element that takes the place of one that is the same but for its stamp, its file and its further members: nothing
+//! else that is shown changes.
+
+ghost use Rattle.std.specs.Prelude.{◌≡◌, ◌<◌, Some, Ok, true, false, map, OnErr, length, slice_get, slice_set, IfOk, IfSome, IsTrue, IsSomeAnd, bytes_eq, vec_len};
+ghost use Rattle.live_view.specs.Changes.{outline, redrawn_as, HasRedrawn, IsRedrawn};
+
+use crate::live::LiveView;
+use crate::order::scene_order;
+use board_io::List;
+use elem::{Element, same};
+use scene_json::Text;
+use std::alloc::{AllocError, Global};
+use std::cmp::Ordering;
+
+/// The new element and what is shown of it, with the places in a view at which those of its id are held and shown.
+#[derive(Drop)]
+struct Redrawing {
+    held_at: usize,
+    held: Element,
+    shown_at: usize,
+    shown: Element,
+}
+
+impl LiveView {
+    /// Lets the element take the place of that of its id, if they have one outline, and tells whether they do. For want of
+    /// memory nothing changes.
+    pub(crate) fn redraw_as(&mut self, new: &Element) -> Result<bool, AllocError>
+        ensures new { result ≡ Ok true → HasRedrawn self.old new.now self.new }
+        ensures old { OnErr result (self.new ≡ self.old) }
+        ensures other { result ≡ Ok false → self.new ≡ self.old }
+    {
+        let Some(redrawing) = self.redrawing(new)? else {
+            return Ok(false);
+        };
+        self.redraw(redrawing);
+        Ok(true)
+    }
+
+    /// How the element takes the place of that of its id, if they have one outline.
+    fn redrawing(&self, new: &Element) -> Result<Option<Redrawing>, AllocError>
+        ensures { IfOk result (λ found. IfSome found (λ r.
+            (r.held ≡ new.now) × IsRedrawn self.now new.now r.held_at r.shown_at r.shown)) }
+    {
+        let alloc = *self.live.allocator();
+        let Some(held_at) = place_of_id(&self.live, &new.id) else {
+            return Ok(None);
+        };
+        let old = &self.live[held_at];
+        if !have_one_outline(alloc, old, new)? {
+            return Ok(None);
+        }
+        let Some(shown_at) = place_shown(&self.live, &self.shown, new) else {
+            return Ok(None);
+        };
+        let shown = redrawn(&self.shown[shown_at], new)?;
+        Ok(Some(Redrawing {
+            held_at,
+            held: new.try_clone()?,
+            shown_at,
+            shown,
+        }))
+    }
+
+    /// Puts the new element in its places. It takes no memory.
+    fn redraw(&mut self, redrawing: Redrawing)
+        requires { IsRedrawn self.old redrawing.held redrawing.held_at redrawing.shown_at redrawing.shown }
+        ensures { self.new ≡ map (redrawn_as redrawing.held) self.old }
+    {
+        let Redrawing {
+            held_at,
+            held,
+            shown_at,
+            shown,
+        } = redrawing;
+        replace(&mut self.live, held_at, held);
+        replace(&mut self.shown, shown_at, shown);
+    }
+}
+
+/// Puts the element at this place.
+fn replace(elements: &mut Vec<Element>, place: usize, e: Element)
+    requires { place < length elements.old.items }
+    ensures { elements.new.items ≡ slice_set elements.old.items place e }
+{
+    elements[place] = e;
+}
+
+/// The place of the element of this id among elements in the order of their ids, if it is found.
+fn place_of_id(elements: &Vec<Element>, id: &Text) -> Option<usize>
+    ensures { IfSome result (λ i. IsSomeAnd (slice_get elements.now.items i) (λ e. e.id ≡ id.now)) }
+{
+    let i = elements.binary_search_by(|e| e.id.cmp(id)).ok()?;
+    is_at(elements, i, id).then_some(i)
+}
+
+/// The place of what is shown of this element among the shown elements, if it is found: they stand in scene order.
+fn place_shown(live: &Vec<Element>, shown: &Vec<Element>, e: &Element) -> Option<usize>
+    ensures { IfSome result (λ i. IsSomeAnd (slice_get shown.now.items i) (λ s. s.id ≡ e.now.id)) }
+{
+    let i = shown.binary_search_by(|s| order_of(live, s, e)).ok()?;
+    is_at(shown, i, &e.id).then_some(i)
+}
+
+/// Whether the element at this place is of this id.
+fn is_at(elements: &Vec<Element>, i: usize, id: &Text) -> bool
+    ensures { IsTrue result → IsSomeAnd (slice_get elements.now.items i) (λ e. e.id ≡ id.now) }
+{
+    match elements.get(i) {
+        Some(e) => has_id(e, id),
+        None => false,
+    }
+}
+
+/// Whether an element is of this id.
+fn has_id(e: &Element, id: &Text) -> bool
+    ensures { IsTrue result → e.now.id ≡ id.now }
+{
+    e.id == *id
+}
+
+/// How the stored element of a shown one compares with another stored one in scene order.
+fn order_of(live: &Vec<Element>, shown: &Element, e: &Element) -> Ordering {
+    match place_of_id(live, &shown.id) {
+        Some(i) => scene_order(&live[i], e),
+        None => Ordering::Less,
+    }
+}
+
+/// Whether two elements have one outline.
+fn have_one_outline(alloc: Global, e: &Element, other: &Element) -> Result<bool, AllocError>
+    ensures { IfOk result (λ one. IsTrue one → outline e.now ≡ outline other.now) }
+{
+    let outline = outline_of(alloc, e)?;
+    let other_outline = outline_of(alloc, other)?;
+    Ok(same(&outline, &other_outline))
+}
+
+/// The outline of an element, copied.
+fn outline_of(alloc: Global, e: &Element) -> Result<Element, AllocError>
+    ensures { IfOk result (λ new. new ≡ outline e.now) }
+{
+    let mut new = e.try_clone()?;
+    new.version = 0;
+    new.nonce = 0;
+    new.updated = 0;
+    new.file = None;
+    new.rest = List::new(alloc);
+    Ok(new)
+}
+
+/// A copy of the shown element with the stamp, the file and the further members of the new one of its id.
+fn redrawn(shown: &Element, new: &Element) -> Result<Element, AllocError>
+    requires id { new.now.id ≡ shown.now.id }
+    requires kind { new.now.kind ≡ shown.now.kind }
+    ensures { IfOk result (λ e. e ≡ redrawn_as new.now shown.now) }
+{
+    Ok(with_content(shown.try_clone()?, new.try_clone()?))
+}
+
+/// The shown element with the stamp, the file and the further members of the new one of its id.
+fn with_content(mut shown: Element, new: Element) -> Element
+    requires id { new.id ≡ shown.id }
+    requires kind { new.kind ≡ shown.kind }
+    ensures { result ≡ redrawn_as new shown }
+{
+    shown.version = new.version;
+    shown.nonce = new.nonce;
+    shown.updated = new.updated;
+    shown.file = new.file;
+    shown.rest = new.rest;
+    shown
+}
