@@ -6,4 +6,4 @@ pub mod laws;
 mod taking;
 
 pub use held::Held;
-pub use taking::reconcile;
+pub use taking::{free_copies, reconcile};

@@ -34,7 +34,7 @@ pub fn reconcile(
 }
 
 /// Copies of the elements whose ids aren't held, in their order.
-fn free_copies(alloc: Global, list: &[Element], held: &Held) -> Result<Vec<Element>, AllocError>
+pub fn free_copies(alloc: Global, list: &[Element], held: &Held) -> Result<Vec<Element>, AllocError>
     ensures { IfOk result (λ copies. copies.items ≡ free_elements held.now list.now) }
 {
     let mut copies = Vec::new(alloc);

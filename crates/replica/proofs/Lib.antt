@@ -1,0 +1,15 @@
+mod GivenLaws
+mod StoredLaws
+mod BoardLaws
+mod TurnLaws
+mod ReplicaLaws
+mod CallLaws
+mod TellingLaws
+pub mod Backward
+pub mod TakenAt
+pub mod Leading
+pub mod Agreeing
+pub mod Changing
+pub mod Ways
+pub mod Moving
+pub mod Delivering

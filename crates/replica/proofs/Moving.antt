@@ -1,0 +1,258 @@
+-- States between changes, undos and redos: what was stored after each change, and the ways to it.
+use Rattle.std.proofs.Common.{◌≡◌, ◌≤◌, ◌<◌, ℕ, zero, suc, ◌+◌, ◌-◌, Bool, true, false, ◌&&◌, List, [], ◌∷◌, length, take, filter, Some, None, Ok, Contains, refl, sym, ap, ◌∙◌, subst, arith}
+use Rattle.std.specs.Option.{option_map}
+use Rattle.std.proofs.lemmas.Bool.{cond-false}
+use Rattle.std.proofs.lemmas.List.{take_all}
+use Rattle.frac_keys.specs.Rising.{are_rising}
+use Rattle.elem.specs.Drawn.{Drawn}
+use Rattle.elem.specs.Order.{unstamped}
+use Rattle.elem.specs.Said.{AreElements}
+use Rattle.elem_store.specs.Updates.{element_of, ids_of}
+use Rattle.elem_store.proofs.Lists.{Contains-head, Contains-cons}
+use Rattle.elem_store.proofs.Rising.{member}
+use Rattle.delta.specs.Pairs.{Pair, pair_with, pairs_from}
+use Rattle.delta.proofs.RisingIds.{Contains-map}
+use Rattle.undoing.specs.Carrying.{taken_all}
+use Rattle.undoing.specs.Differing.{same_kind, differ, is_changed, pending}
+use Rattle.undoing.specs.Steps.{step}
+use Rattle.undoing.proofs.DifferingLaws.{differ-same}
+use Rattle.undoing.proofs.TakenLaws.{taken_all-rising}
+use Rattle.replica.specs.Back.{AgreesWith, IsAs, IsCaptured, IsChange, changed, changed_all, AreChanges, Call, IsDone, undone_all, redone_all, AreUndone, AreRedone}
+use Rattle.replica.specs.Sound.{IsSoundState}
+use Rattle.replica.specs.State.{State, noted, stored_with, undo_on, redo_on, after_undo_of, after_redo_of, after_undo, after_redo}
+use Rattle.replica.proofs.Agreeing.{agrees-itself, agrees-from, same-bare, looks-same}
+use Rattle.replica.proofs.Changing.{pending-meets, leads-before, new-elements, new-rising, new-alike, new-entry, new-visible, changed-state}
+use Rattle.replica.proofs.Leading.{SameAs, some-bare}
+use Rattle.replica.proofs.Ways.{IsWay, way-stepped, way-found}
+
+-- ---- where nothing is pending, a capture leaves the stacks
+filter-none : {X : Type 0} (p : X → Bool) (xs : List X) → ((x : X) → Contains xs x → p x ≡ false) → filter p xs ≡ []
+filter-none p [] none = refl
+filter-none p (x ∷ xs) none =
+    cond-false (p x) (x ∷ filter p xs) (filter p xs) (none x (Contains-head x xs)) ∙ filter-none p xs (λ y c. none y (Contains-cons x xs y c))
+
+and-false : (b c : Bool) → c ≡ false → (b && c) ≡ false
+and-false true c h = h
+and-false false c h = refl
+
+pending-none : (snapshot stored : List Drawn) → are_rising (ids_of stored) ≡ true → SameAs snapshot stored → pending snapshot stored ≡ []
+pending-none snapshot stored rise same = filter-none is_changed (pairs_from (element_of snapshot) stored) (λ pair c.
+    let of = Contains-map (λ (e : Drawn). pair_with (element_of snapshot e.id) e) stored pair c in
+    let was = some-bare (element_of snapshot of.0.id) (unstamped of.0) (same of.0.id ∙ ap (option_map unstamped) (member None None stored of.0 rise of.1)) in
+    let is : record { before = was.0; after = of.0 } ≡ pair = sym (ap (λ o. pair_with o of.0) was.1) ∙ of.2 in
+    subst (λ p. is_changed p ≡ false) is (and-false (same_kind was.0.kind of.0.kind) (differ was.0 of.0) (differ-same was.0 of.0 was.2)))
+
+-- ---- what was stored after each change, before and behind one of them
+abbrev pub earlier : (ℕ → List Drawn) → ℕ → List (List Drawn)
+earlier stored_at zero = []
+earlier stored_at (suc i) = stored_at i ∷ earlier stored_at i
+
+abbrev pub later : (ℕ → List Drawn) → ℕ → ℕ → List (List Drawn)
+later stored_at zero i = []
+later stored_at (suc k) i = stored_at (suc i) ∷ later stored_at k (suc i)
+
+-- A state stands at the place i of these: undo is a way over all the earlier ones, and redo over the next k ones.
+pub record IsAt (stored_at : ℕ → List Drawn) (i k : ℕ) (s : State) : Type 0 where
+  pub elements : AreElements s.stored
+  pub rise : are_rising (ids_of s.stored) ≡ true
+  pub same : SameAs s.snapshot s.stored
+  pub agrees : AgreesWith (stored_at i) s.stored
+  pub on : IsWay (earlier stored_at i) s.stored s.undo
+  pub back : IsWay (later stored_at k i) s.stored s.redo
+
+module _ (stored_at : ℕ → List Drawn) where
+  -- ---- one undo, and one redo
+  module _ (i k : ℕ) (s : State) (call : Call) where
+    undone-one : IsAt stored_at (suc i) k s → IsDone call (undo_on call.time call.nonce s) → IsAt stored_at i (suc k) (after_undo call.time call.nonce s)
+    undone-one at done =
+        let none = pending-none s.snapshot s.stored at.rise at.same in
+        let found : step s.stored call.time call.nonce s.undo s.redo ≡ Some (Ok done.turn) =
+        ap (λ e. step s.stored call.time call.nonce (noted e s).undo (noted e s).redo) (sym none) ∙ done.is in
+        let own = way-stepped (stored_at i) (stored_at (suc i)) (earlier stored_at i) (later stored_at k (suc i)) s.stored call.time call.nonce
+        at.elements at.rise done.time done.nonce at.agrees s.undo s.redo at.on at.back done.turn found in
+        subst (IsAt stored_at i (suc k)) (sym (ap (λ o. after_undo_of o s) done.is)) (record {
+          elements = own.elements;
+          rise = own.rise;
+          same = λ id. refl;
+          agrees = own.agrees;
+          on = own.on;
+          back = own.back;
+        })
+
+    redone-one : IsAt stored_at i (suc k) s → IsDone call (redo_on call.time call.nonce s) → IsAt stored_at (suc i) k (after_redo call.time call.nonce s)
+    redone-one at done =
+        let none = pending-none s.snapshot s.stored at.rise at.same in
+        let found : step s.stored call.time call.nonce s.redo s.undo ≡ Some (Ok done.turn) =
+        ap (λ e. step s.stored call.time call.nonce (noted e s).redo (noted e s).undo) (sym none) ∙ done.is in
+        let own = way-stepped (stored_at (suc i)) (stored_at i) (later stored_at k (suc i)) (earlier stored_at i) s.stored call.time call.nonce
+        at.elements at.rise done.time done.nonce at.agrees s.redo s.undo at.back at.on done.turn found in
+        subst (IsAt stored_at (suc i) k) (sym (ap (λ o. after_redo_of o s) done.is)) (record {
+          elements = own.elements;
+          rise = own.rise;
+          same = λ id. refl;
+          agrees = own.agrees;
+          on = own.back;
+          back = own.on;
+        })
+
+  -- an entry is found where an earlier or a later place is left
+  undo-found : (i k : ℕ) (s : State) (time nonce : ℕ) → IsAt stored_at (suc i) k s → undo_on time nonce s ≡ None → ⊥
+  undo-found i k s time nonce at none =
+      way-found (stored_at i) (earlier stored_at i) s.stored at.elements s.undo s.redo at.on time nonce
+      (ap (λ e. step s.stored time nonce (noted e s).undo (noted e s).redo) (sym (pending-none s.snapshot s.stored at.rise at.same)) ∙ none)
+
+  redo-found : (i k : ℕ) (s : State) (time nonce : ℕ) → IsAt stored_at i (suc k) s → redo_on time nonce s ≡ None → ⊥
+  redo-found i k s time nonce at none =
+      way-found (stored_at (suc i)) (later stored_at k (suc i)) s.stored at.elements s.redo s.undo at.back time nonce
+      (ap (λ e. step s.stored time nonce (noted e s).redo (noted e s).undo) (sym (pending-none s.snapshot s.stored at.rise at.same)) ∙ none)
+
+  -- ---- successive ones
+  undone-more : (undos : List Call) (n i k : ℕ) (s : State) → length undos + i ≡ n → IsAt stored_at n k s → AreUndone undos s → IsAt stored_at i (length undos + k) (undone_all undos s)
+  undone-more [] n i k s place at done =
+      let here : n ≡ i = omega arith in
+      let there : k ≡ 0 + k = omega arith in
+      subst (λ l. IsAt stored_at i l s) there (subst (λ m. IsAt stored_at m k s) here at)
+  undone-more (call ∷ undos) n i k s place at done =
+      let here : n ≡ suc (length undos + i) = omega arith in
+      let there : length undos + suc k ≡ suc (length undos) + k = omega arith in
+      let next = undone-one (length undos + i) k s call (subst (λ m. IsAt stored_at m k s) here at) done.0 in
+      subst (λ l. IsAt stored_at i l (undone_all undos (after_undo call.time call.nonce s))) there
+      (undone-more undos (length undos + i) i (suc k) (after_undo call.time call.nonce s) refl next done.1)
+
+  redone-more : (redos : List Call) (n i k : ℕ) (s : State) → length redos + k ≡ n → IsAt stored_at i n s → AreRedone redos s → IsAt stored_at (length redos + i) k (redone_all redos s)
+  redone-more [] n i k s place at done =
+      let here : n ≡ k = omega arith in
+      let there : i ≡ 0 + i = omega arith in
+      subst (λ j. IsAt stored_at j k s) there (subst (λ m. IsAt stored_at i m s) here at)
+  redone-more (call ∷ redos) n i k s place at done =
+      let here : n ≡ suc (length redos + k) = omega arith in
+      let there : length redos + suc i ≡ suc (length redos) + i = omega arith in
+      let next = redone-one i (length redos + k) s call (subst (λ m. IsAt stored_at i m s) here at) done.0 in
+      subst (λ j. IsAt stored_at j k (redone_all redos (after_redo call.time call.nonce s))) there
+      (redone-more redos (length redos + k) (suc i) k (after_redo call.time call.nonce s) refl next done.1)
+
+  -- ---- changes
+  -- From all that agrees with what is stored, undo is a way over all that was stored earlier.
+  pub record IsReady (i : ℕ) (s : State) : Type 0 where
+    pub elements : AreElements s.stored
+    pub rise : are_rising (ids_of s.stored) ≡ true
+    pub before : AreElements s.snapshot
+    pub same : SameAs s.snapshot s.stored
+    pub on : (now : List Drawn) → AgreesWith s.stored now → IsWay (earlier stored_at i) now s.undo
+
+  changed-ready : (i : ℕ) (s : State) (given : List Drawn) → s.stored ≡ stored_at i → IsReady i s → IsChange s.stored given → IsReady (suc i) (changed given s)
+  changed-ready i s given here ready change =
+      let news : List Drawn = taken_all given s.stored in
+      let are = new-elements s given change ready.rise ready.elements ready.before ready.same in
+      let rise = new-rising s given change ready.rise ready.elements ready.before ready.same in
+      let alike = new-alike s given change ready.rise ready.elements ready.before ready.same in
+      subst (IsReady (suc i)) (sym (changed-state s given change ready.rise ready.elements ready.before ready.same)) (record {
+        elements = are;
+        rise = rise;
+        before = are;
+        same = λ id. refl;
+        on = λ now agrees. (
+          new-entry s given change ready.rise ready.elements ready.before ready.same,
+          new-visible s given change ready.rise ready.elements ready.before ready.same,
+          pending-meets s.snapshot news ready.before are rise alike now agrees,
+          λ next leads.
+              let was : AgreesWith s.stored next = agrees-from s.snapshot s.stored next ready.same (leads-before s.snapshot news ready.before are rise alike now next agrees leads) in
+              (subst (λ old. AgreesWith old next) here was, ready.on next was),
+        );
+      })
+
+  changed-at : (givens : List (List Drawn)) (i : ℕ) (s : State) → ((k : ℕ) → (changed_all (take k givens) s).stored ≡ stored_at (k + i)) → IsReady i s → AreChanges givens s
+      → IsAt stored_at (length givens + i) 0 (changed_all givens s)
+  changed-at [] i s places ready changes =
+      let here : i ≡ 0 + i = omega arith in
+      let was : s.stored ≡ stored_at i = places 0 ∙ ap stored_at (sym here) in
+      subst (λ j. IsAt stored_at j 0 s) here (record {
+        elements = ready.elements;
+        rise = ready.rise;
+        same = ready.same;
+        agrees = subst (λ old. AgreesWith old s.stored) was (agrees-itself s.stored);
+        on = ready.on s.stored (agrees-itself s.stored);
+        back = tt;
+      })
+  changed-at (given ∷ givens) i s places ready changes =
+      let here : i ≡ 0 + i = omega arith in
+      let was : s.stored ≡ stored_at i = places 0 ∙ ap stored_at (sym here) in
+      let there : length givens + suc i ≡ suc (length givens) + i = omega arith in
+      let next : (k : ℕ) → (changed_all (take k givens) (changed given s)).stored ≡ stored_at (k + suc i) =
+      λ k. places (suc k) ∙ ap stored_at (let e : suc k + i ≡ k + suc i = omega arith in e) in
+      subst (λ j. IsAt stored_at j 0 (changed_all givens (changed given s))) there
+      (changed-at givens (suc i) (changed given s) next (changed-ready i s given was ready changes.0) changes.1)
+
+-- ---- from a sound state on which nothing is pending
+noted-stored : (entry : List Pair) (s : State) → (noted entry s).stored ≡ s.stored
+noted-stored [] s = refl
+noted-stored (pair ∷ entry) s = refl
+
+rising-all : (givens : List (List Drawn)) (s : State) → are_rising (ids_of s.stored) ≡ true → are_rising (ids_of (changed_all givens s).stored) ≡ true
+rising-all [] s rise = rise
+rising-all (given ∷ givens) s rise =
+    let t : State = stored_with given s in
+    rising-all givens (changed given s)
+    (ap (λ (es : List Drawn). are_rising (ids_of es)) (noted-stored (pending t.snapshot t.stored) t) ∙ taken_all-rising s.stored given rise)
+
+module _ (s : State) (givens : List (List Drawn)) (sound : IsSoundState s) (still : IsCaptured s) (changes : AreChanges givens s) where
+  -- what was stored after so many of the changes
+  abbrev stored_after : ℕ → List Drawn
+  stored_after i = (changed_all (take i givens) s).stored
+
+  at-end : IsAt stored_after (length givens + 0) 0 (changed_all givens s)
+  at-end =
+      changed-at stored_after givens 0 s (λ k. ap stored_after (let e : k ≡ k + 0 = omega arith in e)) (record {
+        elements = sound.stored_elements;
+        rise = sound.stored_rise;
+        before = sound.snapshot_elements;
+        same = same-bare s.snapshot s.stored still;
+        on = λ now agrees. tt;
+      }) changes
+
+  is-as : (i k : ℕ) (now : State) → IsAt stored_after i k now → IsAs (changed_all (take i givens) s) now
+  is-as i k now at = record {
+    agrees = at.agrees;
+    looks = looks-same (stored_after i) now.stored (rising-all (take i givens) s sound.stored_rise) at.rise at.agrees;
+  }
+
+  module _ (undos : List Call) (few : length undos ≤ length givens) (done : AreUndone undos (changed_all givens s)) where
+    undone-at : IsAt stored_after (length givens - length undos) (length undos + 0) (undone_all undos (changed_all givens s))
+    undone-at =
+        let place : length undos + (length givens - length undos) ≡ length givens + 0 = omega arith in
+        undone-more stored_after undos (length givens + 0) (length givens - length undos) 0 (changed_all givens s) place at-end done
+
+    pub undone-is : IsAs (changed_all (take (length givens - length undos) givens) s) (undone_all undos (changed_all givens s))
+    undone-is = is-as (length givens - length undos) (length undos + 0) (undone_all undos (changed_all givens s)) undone-at
+
+    pub undone-all : length undos ≡ length givens → IsAs s (undone_all undos (changed_all givens s))
+    undone-all same =
+        let none : length givens - length undos ≡ 0 = omega arith in
+        subst (λ i. IsAs (changed_all (take i givens) s) (undone_all undos (changed_all givens s))) none undone-is
+
+    pub undo-is_found : length undos < length givens → (time nonce : ℕ) → undo_on time nonce (undone_all undos (changed_all givens s)) ≡ None → ⊥
+    undo-is_found less time nonce =
+        let place : length givens - length undos ≡ suc (length givens - length undos - 1) = omega arith in
+        undo-found stored_after (length givens - length undos - 1) (length undos + 0) (undone_all undos (changed_all givens s)) time nonce
+        (subst (λ i. IsAt stored_after i (length undos + 0) (undone_all undos (changed_all givens s))) place undone-at)
+
+    module _ (redos : List Call) (fewer : length redos ≤ length undos) (repeated : AreRedone redos (undone_all undos (changed_all givens s))) where
+      redone-at : IsAt stored_after (length redos + (length givens - length undos)) (length undos - length redos) (redone_all redos (undone_all undos (changed_all givens s)))
+      redone-at =
+          let place : length redos + (length undos - length redos) ≡ length undos + 0 = omega arith in
+          redone-more stored_after redos (length undos + 0) (length givens - length undos) (length undos - length redos) (undone_all undos (changed_all givens s)) place undone-at repeated
+
+      pub redone-is : IsAs (changed_all (take (length redos + (length givens - length undos)) givens) s) (redone_all redos (undone_all undos (changed_all givens s)))
+      redone-is =
+          is-as (length redos + (length givens - length undos)) (length undos - length redos) (redone_all redos (undone_all undos (changed_all givens s))) redone-at
+
+      pub redo-is_found : length redos < length undos → (time nonce : ℕ) → redo_on time nonce (redone_all redos (undone_all undos (changed_all givens s))) ≡ None → ⊥
+      redo-is_found less time nonce =
+          let place : length undos - length redos ≡ suc (length undos - length redos - 1) = omega arith in
+          redo-found stored_after (length redos + (length givens - length undos)) (length undos - length redos - 1) (redone_all redos (undone_all undos (changed_all givens s))) time nonce
+          (subst (λ k. IsAt stored_after (length redos + (length givens - length undos)) k (redone_all redos (undone_all undos (changed_all givens s)))) place redone-at)
+
+      pub redone-all : length redos ≡ length undos → IsAs (changed_all givens s) (redone_all redos (undone_all undos (changed_all givens s)))
+      redone-all same =
+          let whole : length givens ≤ length redos + (length givens - length undos) = omega arith in
+          subst (λ gs. IsAs (changed_all gs s) (redone_all redos (undone_all undos (changed_all givens s)))) (take_all (length redos + (length givens - length undos)) givens whole) redone-is

@@ -1,0 +1,144 @@
+-- The parts of a replica without their room, and what holds of them. This project's own.
+use Rattle.std.specs.Prelude.{◌≡◌, ℕ, List, Bool, true, not, All, IsSome}
+use Rattle.frac_keys.specs.Rising.{are_rising}
+use Rattle.elem.specs.Drawn.{Drawn}
+use Rattle.elem.specs.Said.{AreElements}
+use Rattle.elem_store.specs.Updates.{element_of, ids_of, is_taken, takings}
+use Rattle.delta.specs.Delta.{Delta}
+use Rattle.delta.specs.Pairs.{EntryStandsFor}
+use Rattle.view.specs.Shown.{live_elements}
+use Rattle.effects.specs.declared.command.Capture.{Capture}
+use Rattle.effects.specs.declared.command.Capture.TheVariants.{Now, Later, Never}
+use Rattle.history.specs.Pairs.{StackStandsFor}
+use Rattle.history.specs.Stacks.{Stacks, HaveStoredIds, HasStepped, AreUnseen, StopsAt, noted, side}
+use Rattle.history.specs.declared.step.Step.{Step}
+use Rattle.history.specs.declared.step.Step.TheVariants.{Done, Nothing}
+use Rattle.undoing.specs.Carrying.{taken_all, carried_all}
+use Rattle.undoing.specs.Differing.{pending}
+use Rattle.replica.specs.declared.board.Board.{Board}
+use Rattle.replica.specs.State.{State}
+
+-- what is stored and shown, the snapshot and the stacks
+pub record Told : Type 0 where
+  pub stored : List Drawn
+  pub view : List Drawn
+  pub snapshot : List Drawn
+  pub stacks : Stacks
+
+abbrev pub told : Board → Told
+told board = record {
+  stored = board.store.elements;
+  view = board.view;
+  snapshot = board.snapshot.elements;
+  stacks = board.history.stacks;
+}
+
+-- A state is of the same elements, and the entries of members stand for those of whole elements.
+pub record ToldStandsFor (t : Told) (s : State) : Type 0 where
+  pub stored : t.stored ≡ s.stored
+  pub snapshot : t.snapshot ≡ s.snapshot
+  pub undo : StackStandsFor t.stacks.undo s.undo
+  pub redo : StackStandsFor t.stacks.redo s.redo
+
+-- Each id of these elements is one of those.
+abbrev pub AreKnown : List Drawn → List Drawn → Type 0
+AreKnown elements stored = (id : List ℕ) → IsSome (element_of elements id) → IsSome (element_of stored id)
+
+-- What holds of every board: it shows what is stored; of stored elements and snapshot the ids rise, and they are elements;
+-- the ids of the snapshot and of both stacks are stored.
+pub record IsSound (t : Told) : Type 0 where
+  pub view : t.view ≡ live_elements t.stored
+  pub stored_rise : are_rising (ids_of t.stored) ≡ true
+  pub snapshot_rise : are_rising (ids_of t.snapshot) ≡ true
+  pub stored_elements : AreElements t.stored
+  pub snapshot_elements : AreElements t.snapshot
+  pub known : AreKnown t.snapshot t.stored
+  pub undo_ids : HaveStoredIds t.stored t.stacks.undo
+  pub redo_ids : HaveStoredIds t.stored t.stacks.redo
+
+-- They are sound, and a state stands behind them.
+abbrev pub IsTold : Told → Type 0
+IsTold t = IsSound t × ((s : State) × ToldStandsFor t s)
+
+abbrev pub IsBoard : Board → Type 0
+IsBoard board = IsTold (told board)
+
+-- The ids of changed elements rise, and each of them becomes stored.
+pub record AreGiven (stored given : List Drawn) : Type 0 where
+  pub rise : are_rising (ids_of given) ≡ true
+  pub taken : All (λ e. is_taken stored e ≡ true) given
+
+-- ---- what is stored
+-- Updates were taken, and the snapshot and the stacks stay.
+pub record HasTakenAll (old : Told) (list : List Drawn) (new : Told) : Type 0 where
+  pub elements : AreElements list
+  pub stored : new.stored ≡ taken_all list old.stored
+  pub view : new.view ≡ live_elements (taken_all list old.stored)
+  pub snapshot : new.snapshot ≡ old.snapshot
+  pub stacks : new.stacks ≡ old.stacks
+
+-- Updates were taken, and carried into the snapshot.
+pub record HasCarriedAll (old : Told) (list : List Drawn) (new : Told) : Type 0 where
+  pub elements : AreElements list
+  pub stored : new.stored ≡ taken_all list old.stored
+  pub view : new.view ≡ live_elements (taken_all list old.stored)
+  pub snapshot : new.snapshot ≡ carried_all (takings old.stored list) old.snapshot
+  pub stacks : new.stacks ≡ old.stacks
+
+-- Updates were taken, and captured with what was pending.
+pub record HasCaptured (old : Told) (list : List Drawn) (new : Told) : Type 0 where
+  pub entry : List Delta
+  pub stands : EntryStandsFor entry (pending old.snapshot (taken_all list old.stored))
+  pub elements : AreElements list
+  pub stored : new.stored ≡ taken_all list old.stored
+  pub view : new.view ≡ live_elements (taken_all list old.stored)
+  pub snapshot : new.snapshot ≡ taken_all list old.stored
+  pub stacks : new.stacks ≡ noted entry old.stacks
+
+-- What a change gave was stored, captured as asked.
+abbrev pub HasStoredGiven : Capture → Told → List Drawn → Told → Type 0
+HasStoredGiven Now old given new = HasCaptured old given new
+HasStoredGiven Later old given new = HasTakenAll old given new
+HasStoredGiven Never old given new = HasCarriedAll old given new
+
+-- ---- a step
+-- the stored elements after what a step gave was taken
+abbrev pub stored_by : Step → List Drawn → List Drawn
+stored_by (Done given) stored = taken_all given stored
+stored_by Nothing stored = stored
+
+-- What a step gives becomes stored.
+abbrev pub GivesTaken : List Drawn → Step → Type 0
+GivesTaken stored (Done given) = AreGiven stored given
+GivesTaken stored Nothing = Unit {0}
+
+abbrev pub GivesElements : Step → Type 0
+GivesElements (Done given) = AreElements given
+GivesElements Nothing = Unit {0}
+
+-- What a step gave was taken, the snapshot is of what is stored then, and these are the stacks.
+pub record HasPut (old : Told) (step : Step) (after : Stacks) (new : Told) : Type 0 where
+  pub elements : GivesElements step
+  pub stored : new.stored ≡ stored_by step old.stored
+  pub view : new.view ≡ live_elements (stored_by step old.stored)
+  pub snapshot : new.snapshot ≡ stored_by step old.stored
+  pub stacks : new.stacks ≡ after
+
+-- How the stacks came, by what the step answers: for undo, or for redo with the stacks exchanged.
+abbrev pub ComesOf : Bool → List Drawn → ℕ → ℕ → Step → Stacks → Stacks → Type 0
+ComesOf undo stored time nonce (Done given) old new =
+    HasStepped stored time nonce given (side undo old) (side (not undo) old) (side undo new) (side (not undo) new)
+ComesOf undo stored time nonce Nothing old new = AreUnseen stored (side undo old) × (new ≡ old)
+
+-- One step of undo or redo, from what was pending on.
+pub record HasTurned (undo : Bool) (old : Told) (time nonce : ℕ) (step : Step) (new : Told) : Type 0 where
+  pub entry : List Delta
+  pub stands : EntryStandsFor entry (pending old.snapshot old.stored)
+  pub comes : ComesOf undo old.stored time nonce step (noted entry old.stacks) new.stacks
+  pub put : HasPut old step new.stacks new
+
+-- The step of undo or redo stops at the element of this id.
+pub record HasStopped (undo : Bool) (old : Told) (id : List ℕ) : Type 0 where
+  pub entry : List Delta
+  pub stands : EntryStandsFor entry (pending old.snapshot old.stored)
+  pub stops : StopsAt old.stored (side undo (noted entry old.stacks)) id

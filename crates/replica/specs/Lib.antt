@@ -1,0 +1,5 @@
+pub mod Back
+pub mod Boards
+pub mod Sound
+pub mod Standing
+pub mod State

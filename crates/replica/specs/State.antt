@@ -1,0 +1,103 @@
+-- What a replica is, and what each call makes of it, over whole elements. This project's own, after Excalidraw's store and
+-- history.
+use Rattle.std.specs.Prelude.{◌≡◌, ℕ, List, [], ◌∷◌, Option, Some, None, Result, Ok, Err}
+use Rattle.elem.specs.Drawn.{Drawn}
+use Rattle.elem_store.specs.Updates.{takings}
+use Rattle.delta.specs.Pairs.{Pair}
+use Rattle.reconcile.specs.Ids.{free_elements}
+use Rattle.view.specs.Shown.{live_elements, shown}
+use Rattle.effects.specs.Changed.{outcome}
+use Rattle.effects.specs.declared.command.Capture.{Capture}
+use Rattle.effects.specs.declared.command.Capture.TheVariants.{Now, Later, Never}
+use Rattle.effects.specs.declared.command.Command.{Command}
+use Rattle.effects.specs.declared.command.Refusal.{Refusal}
+use Rattle.history.specs.declared.step.Step.{Step}
+use Rattle.history.specs.declared.step.Step.TheVariants.{Done, Nothing}
+use Rattle.undoing.specs.Carrying.{taken_all, carried_all}
+use Rattle.undoing.specs.Differing.{pending}
+use Rattle.undoing.specs.Steps.{Turn, step}
+
+-- The stored elements and those of the snapshot, in the order of their ids; the entries that can be undone and redone, the
+-- next one first, each the elements before and after that it is of; and the ids that are held.
+pub record State : Type 0 where
+  pub stored : List Drawn
+  pub snapshot : List Drawn
+  pub undo : List (List Pair)
+  pub redo : List (List Pair)
+  pub held : List (List ℕ)
+
+-- with nothing
+abbrev pub nothing : State
+nothing = record { stored = []; snapshot = []; undo = []; redo = []; held = [] }
+
+-- An entry that isn't empty is the next one to undo, and nothing can be redone; an empty one changes nothing.
+abbrev pub noted : List Pair → State → State
+noted [] s = s
+noted (pair ∷ pairs) s = record s { undo = (pair ∷ pairs) ∷ s.undo; redo = [] }
+
+-- what is pending is captured: it is noted, and the snapshot is what is stored
+abbrev pub captured : State → State
+captured s = record (noted (pending s.snapshot s.stored) s) { snapshot = s.stored }
+
+-- after updates were taken; those that become stored are carried into the snapshot, or not
+abbrev pub stored_with : List Drawn → State → State
+stored_with list s = record s { stored = taken_all list s.stored }
+
+abbrev pub carried_with : List Drawn → State → State
+carried_with list s = record (stored_with list s) { snapshot = carried_all (takings s.stored list) s.snapshot }
+
+-- ---- a change
+-- the changed elements of a command, or its refusal
+abbrev pub outcome_on : Command → ℕ → ℕ → State → Result (List Drawn) Refusal
+outcome_on command time nonce s = outcome s.stored (shown (live_elements s.stored)) command time nonce
+
+-- after these were changed: now captured with what was pending, or later, or carried into the snapshot
+abbrev pub after_given : Capture → List Drawn → State → State
+after_given Now given s = captured (stored_with given s)
+after_given Later given s = stored_with given s
+after_given Never given s = carried_with given s
+
+abbrev pub after_outcome : Capture → Result (List Drawn) Refusal → State → State
+after_outcome capture (Ok given) s = after_given capture given s
+after_outcome capture (Err refusal) s = s
+
+abbrev pub after_change : Command → Capture → ℕ → ℕ → State → State
+after_change command capture time nonce s = after_outcome capture (outcome_on command time nonce s) s
+
+-- ---- a delivery
+-- after a list was delivered: the elements whose ids aren't held are taken
+abbrev pub after_delivery : List Drawn → State → State
+after_delivery list s = carried_with (free_elements s.held list) s
+
+-- ---- undo and redo
+-- What is pending is captured, and then one step is made; nothing comes where no entry is seen, and the capture stands.
+abbrev pub undo_on : ℕ → ℕ → State → Option (Result Turn (List ℕ))
+undo_on time nonce s = step s.stored time nonce (captured s).undo (captured s).redo
+
+abbrev pub redo_on : ℕ → ℕ → State → Option (Result Turn (List ℕ))
+redo_on time nonce s = step s.stored time nonce (captured s).redo (captured s).undo
+
+-- after a step: its elements are taken and the snapshot is what is stored then; where an element is full nothing is changed
+abbrev pub turned : Turn → State → State
+turned turn s = record s { stored = taken_all turn.given s.stored; snapshot = taken_all turn.given s.stored }
+
+abbrev pub after_undo_of : Option (Result Turn (List ℕ)) → State → State
+after_undo_of None s = captured s
+after_undo_of (Some (Err id)) s = s
+after_undo_of (Some (Ok turn)) s = record (turned turn s) { undo = turn.from; redo = turn.to }
+
+abbrev pub after_redo_of : Option (Result Turn (List ℕ)) → State → State
+after_redo_of None s = captured s
+after_redo_of (Some (Err id)) s = s
+after_redo_of (Some (Ok turn)) s = record (turned turn s) { undo = turn.to; redo = turn.from }
+
+abbrev pub after_undo : ℕ → ℕ → State → State
+after_undo time nonce s = after_undo_of (undo_on time nonce s) s
+
+abbrev pub after_redo : ℕ → ℕ → State → State
+after_redo time nonce s = after_redo_of (redo_on time nonce s) s
+
+-- what a step answers: it gives the elements, or nothing comes
+abbrev pub IsStepAnswer : Step → Option (Result Turn (List ℕ)) → Type 0
+IsStepAnswer (Done given) found = (turn : Turn) × (found ≡ Some (Ok turn)) × (given ≡ turn.given)
+IsStepAnswer Nothing found = found ≡ None

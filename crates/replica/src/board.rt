@@ -1,0 +1,279 @@
+//! What a replica stores, shows, and knows of its changes. Each call makes all that it needs first, in the order plans, copies
+//! and room, view, and then puts it in place, which takes no memory.
+
+ghost use Rattle.std.specs.Prelude.{◌≡◌, ◌≤◌, ◌<◌, [], true, false, length, Ok, Err, IfOk, IfErr, OnOk, OnErr};
+ghost use Rattle.frac_keys.specs.Rising.{are_rising};
+ghost use Rattle.elem.specs.Facts.{greatest_whole};
+ghost use Rattle.elem.specs.Said.{AreElements};
+ghost use Rattle.elem_store.specs.Updates.{ids_of};
+ghost use Rattle.view.specs.Shown.{live_elements, shown};
+ghost use Rattle.effects.specs.Changed.{outcome, OnFault};
+ghost use Rattle.effects.specs.Limits.{IsWithinLimits};
+ghost use Rattle.history.specs.Stacks as stacks;
+ghost use Rattle.history.specs.Stacks.{FitsIn, OnFull, noted};
+ghost use Rattle.undoing.specs.Carrying.{taken_all, with_all_put};
+ghost use Rattle.replica.specs.Boards.{told, AreGiven, GivesElements, GivesTaken, HasCaptured, HasCarriedAll, HasPut, HasStopped, HasStoredGiven, HasTakenAll, HasTurned, IsBoard, stored_by};
+
+use crate::telling::tell_all;
+use board_io::{List, Stop};
+use delta::{Entry, VersionFull};
+use effects::{Capture, Command, Refusal, changed};
+use elem::Element;
+use elem_store::Store;
+use history::{History, HistoryStep, Step};
+use live_view::LiveView;
+use snapshot::{Snapshot, SnapshotStep};
+use std::alloc::{AllocError, Global};
+
+/// The stored elements, their view, the snapshot and the history.
+#[derive(Drop)]
+pub(crate) struct Board {
+    pub(crate) store: Store,
+    pub(crate) view: LiveView,
+    pub(crate) snapshot: Snapshot,
+    pub(crate) history: History,
+}
+
+impl Board {
+    /// With nothing stored.
+    pub(crate) fn new(alloc: Global) -> Board
+        ensures { told result ≡ record { stored = []; view = []; snapshot = []; stacks = record { undo = []; redo = [] } } }
+    {
+        Board {
+            store: Store::new(alloc),
+            view: LiveView::new(alloc),
+            snapshot: Snapshot::new(alloc),
+            history: History::new(alloc),
+        }
+    }
+
+    /// The elements that a command changes, as they become.
+    pub(crate) fn given(
+        &self,
+        alloc: Global,
+        command: &Command,
+        time: u64,
+        nonce: u64,
+    ) -> Result<List<Element>, Stop<Refusal>>
+        requires time { time ≤ greatest_whole }
+        requires nonce { nonce ≤ greatest_whole }
+        requires limits { IsWithinLimits command.now }
+        ensures exact { IfOk result (λ given. outcome self.now.store.elements (shown self.now.view) command.now time nonce ≡ Ok given) }
+        ensures refused { IfErr result (λ stop. OnFault stop (λ refusal. outcome self.now.store.elements (shown self.now.view) command.now time nonce ≡ Err refusal)) }
+    {
+        let shown = self.view.elements();
+        changed(alloc, &self.store, shown, command, time, nonce)
+    }
+
+    /// Stores what a change gave, captured as asked.
+    pub(crate) fn store_given(
+        &mut self,
+        alloc: Global,
+        capture: Capture,
+        given: &[Element],
+    ) -> Result<(), AllocError>
+        requires board { IsBoard self.old }
+        requires given { AreGiven self.old.store.elements given.now }
+        ensures ok { OnOk result (HasStoredGiven capture (told self.old) given.now (told self.new)) }
+        ensures err { OnErr result (told self.new ≡ told self.old) }
+    {
+        match capture {
+            Capture::Now => self.store_captured(alloc, given),
+            Capture::Later => self.store_alone(alloc, given),
+            Capture::Never => self.store_carried(alloc, given),
+        }
+    }
+
+    /// Stores what a change gave, and captures it with what was pending.
+    fn store_captured(&mut self, alloc: Global, given: &[Element]) -> Result<(), AllocError>
+        requires board { IsBoard self.old }
+        requires given { AreGiven self.old.store.elements given.now }
+        ensures ok { OnOk result (HasCaptured (told self.old) given.now (told self.new)) }
+        ensures err { OnErr result (told self.new ≡ told self.old) }
+    {
+        let (step, entry) = self.snapshot.plan_capture(&self.store, given)?;
+        self.history.reserve()?;
+        take(alloc, &mut self.store, &mut self.view, given)?;
+        self.snapshot.put(step);
+        note(&mut self.history, entry);
+        Ok(())
+    }
+
+    /// Stores updates, and leaves the snapshot and the history.
+    fn store_alone(&mut self, alloc: Global, list: &[Element]) -> Result<(), AllocError>
+        requires board { IsBoard self.old }
+        ensures ok { OnOk result (HasTakenAll (told self.old) list.now (told self.new)) }
+        ensures err { OnErr result (told self.new ≡ told self.old) }
+    {
+        take(alloc, &mut self.store, &mut self.view, list)
+    }
+
+    /// Stores updates, and carries those that become stored into the snapshot.
+    pub(crate) fn store_carried(
+        &mut self,
+        alloc: Global,
+        list: &[Element],
+    ) -> Result<(), AllocError>
+        requires board { IsBoard self.old }
+        ensures ok { OnOk result (HasCarriedAll (told self.old) list.now (told self.new)) }
+        ensures err { OnErr result (told self.new ≡ told self.old) }
+    {
+        let step = self.snapshot.plan_carry(&self.store, list)?;
+        take(alloc, &mut self.store, &mut self.view, list)?;
+        self.snapshot.put(step);
+        Ok(())
+    }
+
+    /// Captures what is pending and takes one entry back.
+    pub(crate) fn undo(
+        &mut self,
+        alloc: Global,
+        time: u64,
+        nonce: u64,
+    ) -> Result<Step, Stop<VersionFull>>
+        requires board { IsBoard self.old }
+        requires time { time ≤ greatest_whole }
+        requires nonce { nonce ≤ greatest_whole }
+        ensures ok { IfOk result (λ step. HasTurned true (told self.old) time nonce step (told self.new)) }
+        ensures full { IfErr result (λ stop. OnFull stop (HasStopped true (told self.old))) }
+        ensures err { OnErr result (told self.new ≡ told self.old) }
+    {
+        let (captured, pending) = self.snapshot.plan_capture(&self.store, &[])?;
+        self.history.reserve()?;
+        let (planned, step) = self.history.plan_undo(pending, &self.store, time, nonce)?;
+        self.put_step(alloc, captured, planned, &step)?;
+        Ok(step)
+    }
+
+    /// Captures what is pending and takes one undo back.
+    pub(crate) fn redo(
+        &mut self,
+        alloc: Global,
+        time: u64,
+        nonce: u64,
+    ) -> Result<Step, Stop<VersionFull>>
+        requires board { IsBoard self.old }
+        requires time { time ≤ greatest_whole }
+        requires nonce { nonce ≤ greatest_whole }
+        ensures ok { IfOk result (λ step. HasTurned false (told self.old) time nonce step (told self.new)) }
+        ensures full { IfErr result (λ stop. OnFull stop (HasStopped false (told self.old))) }
+        ensures err { OnErr result (told self.new ≡ told self.old) }
+    {
+        let (captured, pending) = self.snapshot.plan_capture(&self.store, &[])?;
+        self.history.reserve()?;
+        let (planned, step) = self.history.plan_redo(pending, &self.store, time, nonce)?;
+        self.put_step(alloc, captured, planned, &step)?;
+        Ok(step)
+    }
+
+    /// Puts a planned step in place: stores what it gives, of which the snapshot is then.
+    fn put_step(
+        &mut self,
+        alloc: Global,
+        captured: SnapshotStep,
+        planned: HistoryStep,
+        step: &Step,
+    ) -> Result<(), AllocError>
+        requires board { IsBoard self.old }
+        requires given { GivesTaken self.old.store.elements step.now }
+        requires captured { with_all_put captured self.old.snapshot.elements ≡ self.old.store.elements }
+        requires room { length captured ≤ self.old.snapshot.spare }
+        requires spare { 0 < self.old.history.spare }
+        requires fits { FitsIn planned self.old.history.stacks }
+        ensures ok { OnOk result (HasPut (told self.old) step.now (stacks.put_step planned self.old.history.stacks) (told self.new)) }
+        ensures err { OnErr result (told self.new ≡ told self.old) }
+    {
+        self.put_elements(alloc, captured, step)?;
+        self.history.put(planned);
+        Ok(())
+    }
+
+    /// Puts the elements of a planned step in place.
+    fn put_elements(
+        &mut self,
+        alloc: Global,
+        captured: SnapshotStep,
+        step: &Step,
+    ) -> Result<(), AllocError>
+        requires board { IsBoard self.old }
+        requires given { GivesTaken self.old.store.elements step.now }
+        requires captured { with_all_put captured self.old.snapshot.elements ≡ self.old.store.elements }
+        requires room { length captured ≤ self.old.snapshot.spare }
+        ensures elements { OnOk result (GivesElements step.now) }
+        ensures stored { OnOk result (self.new.store.elements ≡ stored_by step.now self.old.store.elements) }
+        ensures view { OnOk result (self.new.view ≡ live_elements (stored_by step.now self.old.store.elements)) }
+        ensures snapshot { OnOk result (self.new.snapshot.elements ≡ stored_by step.now self.old.store.elements) }
+        ensures history { self.new.history ≡ self.old.history }
+        ensures err { OnErr result (told self.new ≡ told self.old) }
+    {
+        match step {
+            Step::Done(given) => self.store_step(alloc, given.as_slice()),
+            Step::Nothing => {
+                self.snapshot.put(captured);
+                Ok(())
+            }
+        }
+    }
+
+    /// Stores what a step gives, of which the snapshot is then.
+    fn store_step(&mut self, alloc: Global, given: &[Element]) -> Result<(), AllocError>
+        requires board { IsBoard self.old }
+        requires given { AreGiven self.old.store.elements given.now }
+        ensures elements { OnOk result (AreElements given.now) }
+        ensures stored { OnOk result (self.new.store.elements ≡ taken_all given.now self.old.store.elements) }
+        ensures view { OnOk result (self.new.view ≡ live_elements (taken_all given.now self.old.store.elements)) }
+        ensures snapshot { OnOk result (self.new.snapshot.elements ≡ taken_all given.now self.old.store.elements) }
+        ensures history { self.new.history ≡ self.old.history }
+        ensures err { OnErr result (told self.new ≡ told self.old) }
+    {
+        let (captured, _) = self.snapshot.plan_capture(&self.store, given)?;
+        take(alloc, &mut self.store, &mut self.view, given)?;
+        self.snapshot.put(captured);
+        Ok(())
+    }
+}
+
+/// Takes the elements into the store and the view.
+fn take(
+    alloc: Global,
+    store: &mut Store,
+    view: &mut LiveView,
+    list: &[Element],
+) -> Result<(), AllocError>
+    requires rise { are_rising (ids_of store.old.elements) ≡ true }
+    requires view { view.old ≡ live_elements store.old.elements }
+    ensures elements { AreElements list.now }
+    ensures stored { OnOk result (store.new.elements ≡ taken_all list.now store.old.elements) }
+    ensures view { OnOk result (view.new ≡ live_elements (taken_all list.now store.old.elements)) }
+    ensures err_stored { OnErr result (store.new.elements ≡ store.old.elements) }
+    ensures err_view { OnErr result (view.new ≡ view.old) }
+{
+    tell_all(list);
+    let copies = copies_of(alloc, list)?;
+    store.reserve(list.len())?;
+    view.take(store, list)?;
+    store.take_all(copies);
+    Ok(())
+}
+
+/// Copies of the elements.
+fn copies_of(alloc: Global, list: &[Element]) -> Result<List<Element>, AllocError>
+    ensures { IfOk result (λ copies. copies ≡ list.now) }
+{
+    let mut copies = Vec::new(alloc);
+    for e in list {
+        copies.push(e.try_clone()?)?;
+    }
+    Ok(List::from_vec(copies))
+}
+
+/// Notes an entry for which there is room. It takes no memory.
+fn note(history: &mut History, entry: Entry)
+    requires { 0 < history.old.spare }
+    ensures { history.new.stacks ≡ noted entry history.old.stacks }
+{
+    match history.note(entry) {
+        Ok(()) => {}
+        Err(AllocError) => unreachable!(),
+    }
+}

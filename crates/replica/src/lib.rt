@@ -1,0 +1,10 @@
+//! Replicas of a board: what each stores and shows, its history, and what commands, deliveries, undo and redo make of it.
+#![tactic(auto)]
+
+mod board;
+pub mod laws;
+mod replica;
+mod telling;
+
+pub use effects::{Capture, Command, Refusal, Side, Spot};
+pub use replica::Replica;

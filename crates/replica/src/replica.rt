@@ -1,0 +1,173 @@
+//! A replica.
+
+ghost use Rattle.std.specs.Prelude.{◌≡◌, ◌≤◌, Some, Ok, Err, length, IsOk, IsTrue, IfOk, IfErr, OnOk, OnErr};
+ghost use Rattle.elem.specs.Facts.{greatest_whole};
+ghost use Rattle.view.specs.Shown.{live_elements, shown};
+ghost use Rattle.effects.specs.Changed.{OnFault, outcome};
+ghost use Rattle.effects.specs.Limits.{IsWithinLimits};
+ghost use Rattle.history.specs.Stacks.{OnFull};
+ghost use Rattle.reconcile.specs.Ids.{free_elements, is_held, HasAdded, HasDropped};
+ghost use Rattle.replica.specs.Standing.{StandsFor};
+ghost use Rattle.replica.specs.State as state;
+ghost use Rattle.replica.specs.State.{State};
+
+use crate::board::Board;
+use board_io::{List, Stop};
+use delta::VersionFull;
+use effects::{Capture, Command, Refusal};
+use elem::Element;
+use elem_store::Store;
+use history::Step;
+use live_view::LiveView;
+use reconcile::{Held, free_copies};
+use scene_json::Text;
+use std::alloc::{AllocError, Global};
+use std::marker::Model;
+
+/// One of several boards that are changed apart and told of each other's changes. Contracts see its stored elements, its
+/// snapshot, its stacks of entries and the ids that are held; for want of memory they are as before each call.
+///
+/// `specs/State.antt` says over whole elements what each call makes of a replica; a clause on a call is for every state that
+/// the replica stands for.
+#[derive(Drop)]
+pub struct Replica {
+    alloc: Global,
+    board: Board,
+    held: Held,
+}
+
+impl Model for Replica {
+    ghost use Rattle.replica.specs.Boards.{IsBoard};
+    ghost use Rattle.replica.specs.Standing.{Kept};
+
+    ghost Value = { Kept };
+
+    ghost view = { λ r. record {
+      stored = r.board.store.elements;
+      snapshot = r.board.snapshot.elements;
+      stacks = r.board.history.stacks;
+      held = r.held;
+    } };
+
+    ghost invariant = { λ r. IsBoard r.board };
+}
+
+impl Replica {
+    /// With nothing stored.
+    pub fn new(alloc: Global) -> Replica
+        ensures { StandsFor result state.nothing }
+    {
+        Replica {
+            alloc,
+            board: Board::new(alloc),
+            held: Held::new(alloc),
+        }
+    }
+
+    /// Makes a change: the elements that the command changes are stored, and given in the order of their ids; or it is
+    /// refused, and nothing is changed. Each that changes is stamped with the time and the nonce.
+    pub fn change(
+        &mut self,
+        command: &Command,
+        capture: Capture,
+        time: u64,
+        nonce: u64,
+    ) -> Result<List<Element>, Stop<Refusal>>
+        requires time { time ≤ greatest_whole }
+        requires nonce { nonce ≤ greatest_whole }
+        requires limits { IsWithinLimits command.now }
+        ensures given { IfOk result (λ given. outcome self.old.stored (shown (live_elements self.old.stored)) command.now time nonce ≡ Ok given) }
+        ensures refused { IfErr result (λ stop. OnFault stop (λ refusal. outcome self.old.stored (shown (live_elements self.old.stored)) command.now time nonce ≡ Err refusal)) }
+        ensures after { OnOk result ((s : State) → StandsFor self.old s → StandsFor self.new (state.after_change command.now capture time nonce s)) }
+        ensures err { OnErr result (self.new ≡ self.old) }
+    {
+        let given = self.board.given(self.alloc, command, time, nonce)?;
+        self.board
+            .store_given(self.alloc, capture, given.as_slice())?;
+        Ok(given)
+    }
+
+    /// Takes the elements of a list whose ids aren't held, carries those that become stored into the snapshot, and tells how
+    /// many were taken.
+    pub fn deliver(&mut self, list: &[Element]) -> Result<u64, AllocError>
+        ensures count { IfOk result (λ count. count ≡ length (free_elements self.old.held list.now)) }
+        ensures after { OnOk result ((s : State) → StandsFor self.old s → StandsFor self.new (state.after_delivery list.now s)) }
+        ensures err { OnErr result (self.new ≡ self.old) }
+    {
+        let free = free_copies(self.alloc, list, &self.held)?;
+        self.board.store_carried(self.alloc, free.as_slice())?;
+        Ok(free.len() as u64)
+    }
+
+    /// Holds the id: updates for it that are delivered aren't taken. It wants no memory where the id is held.
+    pub fn hold(&mut self, id: &Text) -> Result<(), AllocError>
+        ensures held { OnOk result (HasAdded self.old.held id.now self.new.held) }
+        ensures kept { OnOk result (self.new ≡ record self.old { held = self.new.held }) }
+        ensures known { IsTrue (is_held self.old.held id.now) → IsOk result }
+        ensures err { OnErr result (self.new ≡ self.old) }
+    {
+        self.held.add(id)
+    }
+
+    /// Holds the id no more. It takes no memory.
+    pub fn release(&mut self, id: &Text)
+        ensures held { HasDropped self.old.held id.now self.new.held }
+        ensures kept { self.new ≡ record self.old { held = self.new.held } }
+    {
+        self.held.drop_id(id)
+    }
+
+    /// Captures what is pending, and then takes the topmost entry that is seen back: the elements that change are stored,
+    /// and given in the order of their ids. `Nothing` comes exactly where no entry is seen; the capture stands. `VersionFull`
+    /// names the least id of those that would change and stand at the greatest version; then nothing is changed.
+    pub fn undo(&mut self, time: u64, nonce: u64) -> Result<Step, Stop<VersionFull>>
+        requires time { time ≤ greatest_whole }
+        requires nonce { nonce ≤ greatest_whole }
+        ensures step { IfOk result (λ step. (s : State) → StandsFor self.old s → state.IsStepAnswer step (state.undo_on time nonce s)) }
+        ensures full { IfErr result (λ stop. OnFull stop (λ id. (s : State) → StandsFor self.old s → state.undo_on time nonce s ≡ Some (Err id))) }
+        ensures after { OnOk result ((s : State) → StandsFor self.old s → StandsFor self.new (state.after_undo time nonce s)) }
+        ensures err { OnErr result (self.new ≡ self.old) }
+    {
+        self.board.undo(self.alloc, time, nonce)
+    }
+
+    /// Captures what is pending, and then takes the topmost undo that is seen back, as `undo` does with the stacks exchanged.
+    pub fn redo(&mut self, time: u64, nonce: u64) -> Result<Step, Stop<VersionFull>>
+        requires time { time ≤ greatest_whole }
+        requires nonce { nonce ≤ greatest_whole }
+        ensures step { IfOk result (λ step. (s : State) → StandsFor self.old s → state.IsStepAnswer step (state.redo_on time nonce s)) }
+        ensures full { IfErr result (λ stop. OnFull stop (λ id. (s : State) → StandsFor self.old s → state.redo_on time nonce s ≡ Some (Err id))) }
+        ensures after { OnOk result ((s : State) → StandsFor self.old s → StandsFor self.new (state.after_redo time nonce s)) }
+        ensures err { OnErr result (self.new ≡ self.old) }
+    {
+        self.board.redo(self.alloc, time, nonce)
+    }
+
+    /// What it stores. It takes no memory.
+    pub fn store(&self) -> &Store
+        ensures { result.now.elements ≡ self.now.stored }
+    {
+        &self.board.store
+    }
+
+    /// What it shows: always the view of what it stores. It takes no memory.
+    pub fn view(&self) -> &LiveView
+        ensures { result.now ≡ live_elements self.now.stored }
+    {
+        &self.board.view
+    }
+
+    /// How many entries can be undone. It takes no memory.
+    pub fn undo_len(&self) -> u64
+        ensures { result ≡ length self.now.stacks.undo }
+    {
+        self.board.history.undo_len()
+    }
+
+    /// How many entries can be redone. It takes no memory.
+    pub fn redo_len(&self) -> u64
+        ensures { result ≡ length self.now.stacks.redo }
+    {
+        self.board.history.redo_len()
+    }
+}
