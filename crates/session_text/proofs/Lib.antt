@@ -1,0 +1,10 @@
+pub mod Behind
+pub mod FormsOne
+pub mod Kept
+pub mod Lacking
+pub mod PicksMore
+pub mod Readings
+pub mod RowsOne
+pub mod SessionsOne
+pub mod Values
+pub mod Words

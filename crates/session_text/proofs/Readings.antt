@@ -1,0 +1,98 @@
+-- What is read, or the first fault, of one reading after the other.
+use Rattle.std.proofs.Common.{◌≡◌, ◌⊎◌, inl, inr, Result, Ok, Err, refl, sym, ap, subst, ◌∙◌}
+use Rattle.board_io.specs.declared.stop.Stop.{Stop}
+use Rattle.board_io.specs.declared.stop.Stop.TheVariants.{Fault, Memory}
+use Rattle.elem_read.proofs.Decided.{Decided}
+use Rattle.session_text.specs.Reads.{Or, Gives, Then, Answers, IsAnswer}
+use Rattle.session_text.specs.Reads.Then.{goes_on, ends}
+use Rattle.session_text.specs.declared.fault.TextFault.{TextFault}
+
+abbrev pub given : {A : Type 0} → A → Result A TextFault
+given x = Ok x
+
+abbrev pub refused : {A : Type 0} → TextFault → Result A TextFault
+refused fault = Err fault
+
+pub given-same : {A : Type 0} {x y : A} → given x ≡ given y → x ≡ y
+given-same e = cc
+
+pub refused-same : (A : Type 0) (f g : TextFault) → refused {A = A} f ≡ refused {A = A} g → f ≡ g
+refused-same A f g e = cc
+
+pub apart : {A : Type 0} (x : A) (f : TextFault) → given x ≡ refused f → ⊥
+apart x f e = cc
+
+-- Something is read or there is a first fault, and one of both alone.
+pub record IsOne {A : Type 0} (Reads : Result A TextFault → Type 0) : Type 0 where
+  pub some : (answer : Result A TextFault) × Reads answer
+  pub once : (a b : Result A TextFault) → Reads a → Reads b → a ≡ b
+
+pub gives-one : {A : Type 0} (x : A) → IsOne (Gives x)
+gives-one x = record { some = (Ok x, refl); once = λ a b e f. e ∙ sym f }
+
+pub or-one : {A : Type 0} (Is : A → Type 0) (fault : TextFault) → Decided Is → ((x y : A) → Is x → Is y → x ≡ y) → IsOne (Or Is fault)
+or-one {A = A} Is fault decided alike = record { some = by decided; once = one }
+  where
+    by : Decided Is → (answer : Result A TextFault) × Or Is fault answer
+    by (inl (x, is)) = (Ok x, is)
+    by (inr none) = (Err fault, (none, refl))
+
+    one : (a b : Result A TextFault) → Or Is fault a → Or Is fault b → a ≡ b
+    one (Ok x) (Ok y) is also = ap given (alike x y is also)
+    one (Ok x) (Err f) is also = absurd (also.0 x is)
+    one (Err f) (Ok y) is also = absurd (is.0 y also)
+    one (Err f) (Err g) is also = ap refused (is.1 ∙ sym also.1)
+
+pub then-one : {A B : Type 0} (First : Result A TextFault → Type 0) (Next : A → Result B TextFault → Type 0) → IsOne First → ((x : A) → First (Ok x) → IsOne (Next x)) → IsOne (Then First Next)
+then-one {A = A} {B = B} First Next first next = record { some = by first.some.0 first.some.1; once = one }
+  where
+    by : (answer : Result A TextFault) → First answer → (b : Result B TextFault) × Then First Next b
+    by (Ok x) is = let more = (next x is).some in (more.0, goes_on x is more.1)
+    by (Err fault) is = (Err fault, ends fault is refl)
+
+    one : (a b : Result B TextFault) → Then First Next a → Then First Next b → a ≡ b
+    one a b (goes_on x is more) (goes_on y also other) =
+        let same : x ≡ y = given-same (first.once (Ok x) (Ok y) is also) in
+        (next x is).once a b more (subst (λ z. Next z b) (sym same) other)
+    one a b (goes_on x is more) (ends g also f) = absurd (apart x g (first.once (Ok x) (Err g) is also))
+    one a b (ends f is e) (goes_on y also other) = absurd (apart y f (first.once (Ok y) (Err f) also is))
+    one a b (ends f is e) (ends g also e') = e ∙ (ap refused (refused-same A f g (first.once (Err f) (Err g) is also)) ∙ sym e')
+
+-- ---- what was read first, where something is read
+pub then-ok : {A B : Type 0} (First : Result A TextFault → Type 0) (Next : A → Result B TextFault → Type 0) (y : B) → Then First Next (Ok y) → (x : A) × First (Ok x) × Next x (Ok y)
+then-ok First Next y (goes_on x is more) = (x, is, more)
+then-ok First Next y (ends fault is e) = absurd (apart y fault e)
+
+pub gives-ok : {A : Type 0} (x y : A) → Gives x (Ok y) → y ≡ x
+gives-ok x y e = given-same e
+
+-- ---- calls
+pub went_on : {A B : Type 0} {First : Result A TextFault → Type 0} {Next : A → Result B TextFault → Type 0} {x : A} {result : Result B (Stop TextFault)}
+    → IsAnswer First (Ok x) → IsAnswer (Next x) result → IsAnswer (Then First Next) result
+went_on {A = A} {B = B} {First = First} {Next = Next} {x = x} {result = result} is more = record { read = by result more.read }
+  where
+    by : (r : Result B (Stop TextFault)) → Answers (Next x) r → Answers (Then First Next) r
+    by (Ok y) reads = goes_on x is.read reads
+    by (Err (Fault fault)) reads = goes_on x is.read reads
+    by (Err Memory) reads = tt
+
+pub stopped : {A B : Type 0} {First : Result A TextFault → Type 0} {Next : A → Result B TextFault → Type 0} {stop : Stop TextFault}
+    → IsAnswer First (Err stop) → IsAnswer (Then First Next) (Err stop)
+stopped {A = A} {B = B} {First = First} {Next = Next} {stop = stop} is = record { read = by stop is.read }
+  where
+    by : (s : Stop TextFault) → Answers {A = A} First (Err s) → Answers {A = B} (Then First Next) (Err s)
+    by (Fault fault) reads = ends fault reads refl
+    by Memory reads = tt
+
+pub given_last : {A : Type 0} {x : A} → IsAnswer (Gives x) (Ok x)
+given_last = record { read = refl }
+
+-- want of memory
+pub wanting : {A : Type 0} {Reads : Result A TextFault → Type 0} → IsAnswer Reads (Err Memory)
+wanting = record { read = tt }
+
+pub told : {A : Type 0} (Reads : Result A TextFault → Type 0) (stop : Stop TextFault) (fault : TextFault) → IsAnswer Reads (Err stop) → stop ≡ Fault fault → Reads (Err fault)
+told Reads stop fault is same = by (subst (λ (s : Stop TextFault). IsAnswer Reads (Err s)) same is)
+  where
+    by : IsAnswer Reads (Err (Fault fault)) → Reads (Err fault)
+    by is = is.read

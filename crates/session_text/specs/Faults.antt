@@ -1,0 +1,15 @@
+-- What is told of the fault of a session's text. This project's own.
+use Rattle.std.specs.Prelude.{ℕ, List, ◌++◌, codes, decimal}
+use Rattle.scene_json.specs.Faults.{json_words}
+use Rattle.elem_read.specs.Faults as elements
+use Rattle.scene_file.specs.Faults as scenes
+use Rattle.session_text.specs.Names.{word_of}
+use Rattle.session_text.specs.declared.fault.TextFault.{TextFault}
+use Rattle.session_text.specs.declared.fault.TextFault.TheVariants.{Json, NotObject, Member, Scene, Element}
+
+abbrev pub fault_words : TextFault → List ℕ
+fault_words (Json fault) = json_words fault
+fault_words NotObject = codes "not an object"
+fault_words (Member name) = codes "member " ++ word_of name
+fault_words (Scene fault) = codes "scene: " ++ scenes.fault_words fault
+fault_words (Element place fault) = codes "element " ++ (decimal place ++ (codes ": " ++ elements.word_of fault))

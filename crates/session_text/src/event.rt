@@ -1,0 +1,56 @@
+//! The events of a session.
+
+use board_io::List;
+use effects::{Capture, Command};
+use elem::Element;
+use scene_json::Text;
+
+/// What is delivered of a message. Messages are counted from 0, and so are the elements of one.
+#[derive(Clone, Copy, Debug, PartialEq, Eq)]
+pub enum Pick {
+    /// All elements of the message with this number.
+    All(u64),
+    /// Of the message with the first number the element with the second one, if it has so many.
+    One(u64, u64),
+}
+
+/// An event of a session: what happens at one replica. Replicas are counted from 0.
+#[derive(Drop)]
+pub enum Event {
+    /// A command of the user there, at a time.
+    Change {
+        at: u64,
+        time: u64,
+        capture: Capture,
+        command: Command,
+    },
+    /// Elements from elsewhere, as a message.
+    Update {
+        elements: List<Element>,
+    },
+    /// What is picked of messages comes to a replica, as one list.
+    Deliver {
+        to: u64,
+        picks: List<Pick>,
+    },
+    /// Updates of this element are held off from now on.
+    Hold {
+        at: u64,
+        id: Text,
+    },
+    /// Updates of this element are taken again.
+    Release {
+        at: u64,
+        id: Text,
+    },
+    /// The user undoes a step.
+    Undo {
+        at: u64,
+        time: u64,
+    },
+    /// The user redoes a step.
+    Redo {
+        at: u64,
+        time: u64,
+    },
+}
