@@ -1,0 +1,9 @@
+pub mod HeldLaws
+pub mod SeatLaws
+pub mod WorldLaws
+pub mod TakenLaws
+pub mod ClashLaws
+pub mod ReportLaws
+pub mod TextLaws
+pub mod Deciding
+pub mod PrintedLaws

@@ -1,0 +1,172 @@
+-- What a replica holds and stores after each call, and what its seat then stands for.
+use Rattle.std.proofs.Common.{◌≡◌, ℕ, ◌+◌, List, [], ◌∷◌, ◌++◌, length, Option, Some, None, Result, Ok, Err, refl, sym, ap, ◌∙◌, subst, add-zero, length-append}
+use Rattle.elem.specs.Drawn.{Drawn}
+use Rattle.delta.specs.Pairs.{Pair}
+use Rattle.view.specs.Shown.{live_elements, shown}
+use Rattle.effects.specs.Changed.{outcome}
+use Rattle.effects.specs.declared.command.Capture.{Capture}
+use Rattle.effects.specs.declared.command.Capture.TheVariants.{Now, Later, Never}
+use Rattle.effects.specs.declared.command.Command.{Command}
+use Rattle.effects.specs.declared.command.Refusal.{Refusal}
+use Rattle.reconcile.specs.Ids.{AreRising, free_elements}
+use Rattle.history.specs.Pairs.{StackStandsFor}
+use Rattle.undoing.specs.Carrying.{taken_all}
+use Rattle.undoing.specs.Differing.{pending}
+use Rattle.undoing.specs.Steps.{Turn}
+use Rattle.replica.specs.Standing.{StandsFor, Kept}
+use Rattle.replica.specs.State.{State, noted, captured, stored_with, outcome_on, after_outcome, after_change, after_delivery, undo_on, after_undo, after_undo_of, redo_on, after_redo, after_redo_of}
+use Rattle.session.specs.declared.seat.Seat.{Seat as Held}
+use Rattle.session.specs.declared.outcome.Outcome.{Outcome}
+use Rattle.session.specs.declared.outcome.Outcome.TheVariants.{Given, Refused}
+use Rattle.session.specs.Standing.{SeatStandsFor, IsActed}
+use Rattle.session.specs.Worlds.{Seat, Act, acted, change_on, delivered, given_of, holding, of_command, of_step, redo_of, undo_of}
+
+-- ---- what stays over a call, and what is stored then
+noted-held : (pairs : List Pair) (s : State) → (noted pairs s).held ≡ s.held
+noted-held [] s = refl
+noted-held (pair ∷ pairs) s = refl
+
+pub captured-held : (s : State) → (captured s).held ≡ s.held
+captured-held s = noted-held (pending s.snapshot s.stored) s
+
+noted-stored : (pairs : List Pair) (s : State) → (noted pairs s).stored ≡ s.stored
+noted-stored [] s = refl
+noted-stored (pair ∷ pairs) s = refl
+
+pub captured-stored : (s : State) → (captured s).stored ≡ s.stored
+captured-stored s = noted-stored (pending s.snapshot s.stored) s
+
+pub outcome-held : (capture : Capture) (outcome : Result (List Drawn) Refusal) (s : State) → (after_outcome capture outcome s).held ≡ s.held
+outcome-held Now (Ok given) s = captured-held (stored_with given s)
+outcome-held Later (Ok given) s = refl
+outcome-held Never (Ok given) s = refl
+outcome-held capture (Err refusal) s = refl
+
+pub outcome-stored : (capture : Capture) (outcome : Result (List Drawn) Refusal) (s : State) → (after_outcome capture outcome s).stored ≡ taken_all (given_of (of_command outcome)) s.stored
+outcome-stored Now (Ok given) s = captured-stored (stored_with given s)
+outcome-stored Later (Ok given) s = refl
+outcome-stored Never (Ok given) s = refl
+outcome-stored capture (Err refusal) s = refl
+
+pub undo-held : (found : Option (Result Turn (List ℕ))) (s : State) → (after_undo_of found s).held ≡ s.held
+undo-held None s = captured-held s
+undo-held (Some (Err id)) s = refl
+undo-held (Some (Ok turn)) s = refl
+
+pub undo-stored : (found : Option (Result Turn (List ℕ))) (s : State) → (after_undo_of found s).stored ≡ taken_all (given_of (of_step found)) s.stored
+undo-stored None s = captured-stored s
+undo-stored (Some (Err id)) s = refl
+undo-stored (Some (Ok turn)) s = refl
+
+pub redo-held : (found : Option (Result Turn (List ℕ))) (s : State) → (after_redo_of found s).held ≡ s.held
+redo-held None s = captured-held s
+redo-held (Some (Err id)) s = refl
+redo-held (Some (Ok turn)) s = refl
+
+pub redo-stored : (found : Option (Result Turn (List ℕ))) (s : State) → (after_redo_of found s).stored ≡ taken_all (given_of (of_step found)) s.stored
+redo-stored None s = captured-stored s
+redo-stored (Some (Err id)) s = refl
+redo-stored (Some (Ok turn)) s = refl
+
+-- ---- a seat
+-- its replica comes to a state with the same held ids, and so many updates more are counted
+pub acted-stands : (act : Act) (old : Held) (s : Seat) (outcome : Outcome) (new : Held) → SeatStandsFor old s → StandsFor new.replica act.state → act.state.held ≡ s.state.held
+    → outcome ≡ act.outcome → new.taken ≡ old.taken + length (given_of outcome) → IsActed act s outcome new
+acted-stands act old s outcome new stands after held told counted = record {
+  told = told;
+  after = record {
+    replica = after;
+    rising = subst AreRising (sym held) stands.rising;
+    taken = counted ∙ (λ i. stands.taken i + length (given_of (told i))) ∙ sym (length-append s.taken (given_of act.outcome));
+  };
+}
+
+-- a refusal leaves the replica as it was
+pub refused-stands : (act : Act) (old : Held) (s : Seat) (why : Option Refusal) (replica : Kept) → SeatStandsFor old s → replica ≡ old.replica → act.state ≡ s.state → Refused why ≡ act.outcome
+    → IsActed act s (Refused why) (record { replica = replica; taken = old.taken })
+refused-stands act old s why replica stands same state told =
+    acted-stands act old s (Refused why) (record { replica = replica; taken = old.taken }) stands
+    (subst (StandsFor replica) (sym state) (subst (λ (r : Kept). StandsFor r s.state) (sym same) stands.replica))
+    (ap (λ (st : State). st.held) state) told (sym (add-zero old.taken))
+
+-- ---- a change
+module _ (command : Command) (capture : Capture) (time nonce : ℕ) (stored : List Drawn) (s : State) (same : stored ≡ s.stored) where
+  found : (answer : Result (List Drawn) Refusal) → outcome stored (shown (live_elements stored)) command time nonce ≡ answer → outcome_on command time nonce s ≡ answer
+  found answer is = subst (λ es. outcome es (shown (live_elements es)) command time nonce ≡ answer) same is
+
+  pub change-given : (given : List Drawn) → outcome stored (shown (live_elements stored)) command time nonce ≡ Ok given → Given given ≡ (change_on command capture time nonce s).outcome
+  unfolding change_on
+  change-given given is = sym (ap of_command (found (Ok given) is))
+
+  pub change-refused : (refusal : Refusal) → outcome stored (shown (live_elements stored)) command time nonce ≡ Err refusal → Refused (Some refusal) ≡ (change_on command capture time nonce s).outcome
+  unfolding change_on
+  change-refused refusal is = sym (ap of_command (found (Err refusal) is))
+
+  pub change-left : (refusal : Refusal) → outcome stored (shown (live_elements stored)) command time nonce ≡ Err refusal → (change_on command capture time nonce s).state ≡ s
+  unfolding change_on
+  change-left refusal is = ap (λ o. after_outcome capture o s) (found (Err refusal) is)
+
+pub change-held : (command : Command) (capture : Capture) (time nonce : ℕ) (s : State) → (change_on command capture time nonce s).state.held ≡ s.held
+unfolding change_on
+change-held command capture time nonce s = outcome-held capture (outcome_on command time nonce s) s
+
+pub change-state : (command : Command) (capture : Capture) (time nonce : ℕ) (s : State) (replica : Kept) → StandsFor replica (after_change command capture time nonce s) → StandsFor replica (change_on command capture time nonce s).state
+unfolding change_on
+change-state command capture time nonce s replica stands = stands
+
+-- ---- undo and redo
+pub undo-told : (time nonce : ℕ) (s : State) (answer : Option (Result Turn (List ℕ))) → undo_on time nonce s ≡ answer → of_step answer ≡ (undo_of time nonce s).outcome
+unfolding undo_of
+undo-told time nonce s answer is = sym (ap of_step is)
+
+pub undo-left : (time nonce : ℕ) (s : State) (id : List ℕ) → undo_on time nonce s ≡ Some (Err id) → (undo_of time nonce s).state ≡ s
+unfolding undo_of
+undo-left time nonce s id is = ap (λ found. after_undo_of found s) is
+
+pub undo_of-held : (time nonce : ℕ) (s : State) → (undo_of time nonce s).state.held ≡ s.held
+unfolding undo_of
+undo_of-held time nonce s = undo-held (undo_on time nonce s) s
+
+pub undo-state : (time nonce : ℕ) (s : State) (replica : Kept) → StandsFor replica (after_undo time nonce s) → StandsFor replica (undo_of time nonce s).state
+unfolding undo_of
+undo-state time nonce s replica stands = stands
+
+pub redo-told : (time nonce : ℕ) (s : State) (answer : Option (Result Turn (List ℕ))) → redo_on time nonce s ≡ answer → of_step answer ≡ (redo_of time nonce s).outcome
+unfolding redo_of
+redo-told time nonce s answer is = sym (ap of_step is)
+
+pub redo-left : (time nonce : ℕ) (s : State) (id : List ℕ) → redo_on time nonce s ≡ Some (Err id) → (redo_of time nonce s).state ≡ s
+unfolding redo_of
+redo-left time nonce s id is = ap (λ found. after_redo_of found s) is
+
+pub redo_of-held : (time nonce : ℕ) (s : State) → (redo_of time nonce s).state.held ≡ s.held
+unfolding redo_of
+redo_of-held time nonce s = redo-held (redo_on time nonce s) s
+
+pub redo-state : (time nonce : ℕ) (s : State) (replica : Kept) → StandsFor replica (after_redo time nonce s) → StandsFor replica (redo_of time nonce s).state
+unfolding redo_of
+redo-state time nonce s replica stands = stands
+
+-- ---- a delivery, and held ids
+pub delivered-stands : (list : List Drawn) (old : Held) (s : Seat) (new : Held) → SeatStandsFor old s → StandsFor new.replica (after_delivery list s.state)
+    → new.taken ≡ old.taken + length (free_elements old.replica.held list) → SeatStandsFor new (delivered list s)
+unfolding delivered
+delivered-stands list old s new stands after counted = record {
+  replica = after;
+  rising = stands.rising;
+  taken = counted ∙ (λ i. stands.taken i + length (free_elements (stands.replica.held i) list)) ∙ sym (length-append s.taken (free_elements s.state.held list));
+}
+
+pub holding-stands : (old : Held) (s : Seat) (replica : Kept) (ids : List (List ℕ)) → SeatStandsFor old s → replica ≡ record old.replica { held = replica.held } → replica.held ≡ ids → AreRising replica.held
+    → SeatStandsFor (record { replica = replica; taken = old.taken }) (holding ids s)
+holding-stands old s replica ids stands is same rising = record {
+  replica = record {
+    stored = ap (λ (r : Kept). r.stored) is ∙ stands.replica.stored;
+    snapshot = ap (λ (r : Kept). r.snapshot) is ∙ stands.replica.snapshot;
+    undo = subst (λ (r : Kept). StackStandsFor r.stacks.undo s.state.undo) (sym is) stands.replica.undo;
+    redo = subst (λ (r : Kept). StackStandsFor r.stacks.redo s.state.redo) (sym is) stands.replica.redo;
+    held = same;
+  };
+  rising = subst AreRising same rising;
+  taken = stands.taken;
+}
