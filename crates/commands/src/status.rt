@@ -1,12 +1,14 @@
 //! How a run ends, and the line that says why it didn't do what it was asked for.
 
-ghost use Rattle.std.specs.Prelude.{◌≡◌};
-ghost use Rattle.board_io.specs.Pieces.{line_text};
-ghost use Rattle.commands.specs.Faults.{code_of, status_of, line_of, Noted};
+ghost use Rattle.std.specs.Prelude.{◌≡◌, ◌++◌, codes, decimal};
+ghost use Rattle.board_io.specs.Pieces.{line_text, piece_text};
+ghost use Rattle.commands.specs.Faults.{code_of, newline, status_of, line_of, Noted};
 ghost use Rattle.commands.specs.declared.status.Fault.{Fault};
+ghost use Rattle.commands.specs.declared.status.Refusal.{Refusal};
 
 use board_io::{Piece, Sink, write_pieces};
 use scene_file::SceneFault;
+use session_text::TextFault;
 
 /// A piece that says nothing.
 const NONE: Piece = Piece::Words("");
@@ -57,6 +59,10 @@ pub enum Refusal {
     Text(usize, SceneFault),
     /// One scene was asked for, and behind it a further text begins at this byte.
     Extra(usize),
+    /// The text with this number of a session, counted from 1, has this fault.
+    Event(u64, TextFault),
+    /// A session has more events than it may have.
+    TooMany,
 }
 
 /// Why a run didn't do what it was asked for.
@@ -100,7 +106,7 @@ impl Fault {
     }
 
     /// The pieces of the line that tells this fault.
-    fn pieces(self) -> [Piece; 8]
+    fn pieces(self) -> [Piece; 9]
         ensures { line_text result ≡ line_of self }
     {
         match self {
@@ -121,12 +127,16 @@ impl Fault {
                     third,
                     fourth,
                     Piece::Words("\n"),
+                    NONE,
                 ]
             }
+            Fault::Refused(Refusal::Event(number, found)) => event_line(number, found),
+            Fault::Refused(Refusal::TooMany) => line("board: more than 250000 events\n"),
             Fault::Refused(Refusal::Extra(at)) => [
                 Piece::Words("board: extra text at byte "),
                 Piece::Number(at as u64),
                 Piece::Words("\n"),
+                NONE,
                 NONE,
                 NONE,
                 NONE,
@@ -138,12 +148,73 @@ impl Fault {
     }
 }
 
+/// The line of a fault of a session's text.
+fn event_line(number: u64, found: TextFault) -> [Piece; 9]
+    ensures { line_text result ≡ line_of (Fault.Refused (Refusal.Event number found)) }
+{
+    match found {
+        TextFault::Json(fault) => {
+            let [words, place] = fault.pieces();
+            text_line(number, ": ", words, place, NONE, NONE)
+        }
+        TextFault::NotObject => { text_line(number, ": not an object", NONE, NONE, NONE, NONE) }
+        TextFault::Member(name) => {
+            text_line(
+                number,
+                ": member ",
+                Piece::Words(name.word()),
+                NONE,
+                NONE,
+                NONE,
+            )
+        }
+        TextFault::Scene(fault) => {
+            let [first, second, third, fourth] = fault.pieces();
+            text_line(number, ": scene: ", first, second, third, fourth)
+        }
+        TextFault::Element(place, fault) => text_line(
+            number,
+            ": element ",
+            Piece::Number(place),
+            Piece::Words(": "),
+            Piece::Words(fault.word()),
+            NONE,
+        ),
+    }
+}
+
+/// The line on the text with this number, of these words and pieces.
+fn text_line(
+    number: u64,
+    words: &'static str,
+    first: Piece,
+    second: Piece,
+    third: Piece,
+    fourth: Piece,
+) -> [Piece; 9]
+    ensures { line_text result ≡ codes "board: text " ++ (decimal number ++ (words.now
+        ++ (piece_text first ++ (piece_text second ++ (piece_text third ++ (piece_text fourth ++ newline)))))) }
+{
+    [
+        Piece::Words("board: text "),
+        Piece::Number(number),
+        Piece::Words(words),
+        first,
+        second,
+        third,
+        fourth,
+        Piece::Words("\n"),
+        NONE,
+    ]
+}
+
 /// The line of these words alone.
-fn line(words: &'static str) -> [Piece; 8]
+fn line(words: &'static str) -> [Piece; 9]
     ensures { line_text result ≡ words.now }
 {
     [
         Piece::Words(words),
+        NONE,
         NONE,
         NONE,
         NONE,
