@@ -10,7 +10,7 @@ use Rattle.scene_file.specs.declared.layout.Layout.TheVariants.{Compact, Pretty}
 use Rattle.commands.specs.Services.{IsService, number_within, is_number_within, service_of}
 use Rattle.commands.specs.Words.{asked, asked_alone, asked_command, asked_layout, asked_service, words_of}
 use Rattle.commands.specs.declared.words.Command.{Command}
-use Rattle.commands.specs.declared.words.Command.TheVariants.{Restore, Merge, State, Pictures}
+use Rattle.commands.specs.declared.words.Command.TheVariants.{Restore, Merge, State, Pictures, Replay}
 use Rattle.commands.specs.declared.words.Request.{Request}
 use Rattle.commands.specs.declared.words.Request.TheVariants.{Answer, Serve}
 use Rattle.commands.specs.declared.words.Service.{Service}
@@ -28,6 +28,7 @@ asked-words (Merge Compact) = refl
 asked-words (Merge Pretty) = refl
 asked-words State = refl
 asked-words Pictures = refl
+asked-words Replay = refl
 
 -- what is found where a word is this one, or by a later test
 tested : (word text : List ℕ) (options : List (List ℕ)) (found rest : Option Command) (command : Command)
@@ -79,7 +80,8 @@ command-words word options command e =
     tested word (codes "restore") options _ _ command (laid-out Restore (codes "restore") options command restore-words)
     (tested word (codes "merge") options _ _ command (laid-out Merge (codes "merge") options command merge-words)
     (tested word (codes "state") options _ _ command (alone State command (codes "state") options refl)
-    (tested word (codes "pictures") options _ _ command (alone Pictures command (codes "pictures") options refl) (λ e. absurd (none-some command e))))) e
+    (tested word (codes "pictures") options _ _ command (alone Pictures command (codes "pictures") options refl)
+    (tested word (codes "replay") options _ _ command (alone Replay command (codes "replay") options refl) (λ e. absurd (none-some command e)))))) e
 
 -- ---- what is asked for is one or the other
 answered : (found : Option Command) (command : Command) → option_map Answer found ≡ Some (Answer command) → found ≡ Some command

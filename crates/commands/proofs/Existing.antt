@@ -17,6 +17,11 @@ use Rattle.scene_file.specs.declared.scene.Scene.{Scene}
 use Rattle.scene_file.specs.declared.fault.SceneFault.{SceneFault}
 use Rattle.scene_file.proofs.Existing.{StandsAt, joined-exists, scene-or-fault}
 use Rattle.scene_file.proofs.Fitting.{HasText, shown-rise, shown-agree, shown-compact, shown-files, written-exists}
+use Rattle.session.proofs.PrintedLaws.{report-exists}
+use Rattle.session_text.specs.Sessions.{IsSessionFault}
+use Rattle.session_text.specs.declared.fault.SessionFault.{SessionFault}
+use Rattle.session_text.specs.declared.fault.SessionFault.TheVariants.{In, TooMany}
+use Rattle.session_text.proofs.SessionsOne.{session-or-fault}
 use Rattle.commands.specs.Answers.{IsAnswer, IsBoardOf, IsShownAs, IsStoredAs, HasPictures, IsRefusal, IsMadeOf, heads_of, updates_of, shown_of}
 use Rattle.commands.specs.Faults.{newline}
 use Rattle.commands.specs.Input.{ScenesLead, HasScenes, HasFaultyText}
@@ -25,7 +30,7 @@ use Rattle.commands.specs.Pictures.IsTold.{size, not_base64, no_data_url}
 use Rattle.commands.specs.declared.status.Refusal.{Refusal}
 use Rattle.commands.specs.declared.status.Refusal.TheVariants as refusal
 use Rattle.commands.specs.declared.words.Command.{Command}
-use Rattle.commands.specs.declared.words.Command.TheVariants.{Restore, Merge, State, Pictures}
+use Rattle.commands.specs.declared.words.Command.TheVariants.{Restore, Merge, State, Pictures, Replay}
 use Rattle.commands.proofs.Blanks.{Runs-either}
 use Rattle.commands.proofs.Scenes.{ScenesLead-more}
 
@@ -164,3 +169,13 @@ answer-exists Pictures bytes = elim (made-or-refused HasPictures bytes pictures-
   | inl (text, made) ↦ (Ok text, made)
   | inr (found, is) ↦ (Err found, is)
 ]
+answer-exists Replay bytes = elim (session-or-fault bytes) [
+  | inl (session, read) ↦
+      let report = report-exists session in
+      (Ok (report.0 ++ newline), record { session = session; read = read; written = report.0; report = report.1; ended = refl })
+  | inr (fault, is) ↦ replay-refused bytes fault is
+]
+  where
+    replay-refused : (bytes : List ℕ) (fault : SessionFault) → IsSessionFault bytes fault → IsAnswered Replay bytes
+    replay-refused bytes (In number found) is = (Err (refusal.Event number found), is)
+    replay-refused bytes TooMany is = (Err refusal.TooMany, is)

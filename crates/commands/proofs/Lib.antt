@@ -14,3 +14,4 @@ pub mod Reread
 pub mod Scenes
 pub mod States
 pub mod Unique
+mod Replays

@@ -23,7 +23,7 @@ use Rattle.commands.specs.Answers.{IsAnswer, IsBoardOf, IsShownAs, IsStoredAs, H
 use Rattle.commands.specs.Faults.{newline}
 use Rattle.commands.specs.Input.{ScenesLead, HasScenes}
 use Rattle.commands.specs.declared.words.Command.{Command}
-use Rattle.commands.specs.declared.words.Command.TheVariants.{Restore, Merge, State, Pictures}
+use Rattle.commands.specs.declared.words.Command.TheVariants.{Restore, Merge, State, Pictures, Replay}
 use Rattle.commands.proofs.Inputs.{input-once}
 use Rattle.commands.proofs.Reread.{board-whole}
 
@@ -202,6 +202,7 @@ answer-same State bytes text other scenes others takes has also same (found, her
 answer-same Pictures bytes text other scenes others takes has also same (found, here, is) =
     let told = subst (λ s. HasPictures s text) (input-once bytes found scenes here has) is in
     (others, also, record { head = told.head; stored = told.stored; board = same-board scenes others told.head told.stored same told.board; lines = told.lines })
+answer-same Replay bytes text other scenes others takes has also same is = absurd takes
 
 pub states-stand_for : (command : Command) (inputs states : List (List ℕ)) (text : List ℕ) → TakesScenes command → AreStates inputs states
     → IsAnswer command (concat states) (Ok text) ↔ IsAnswer command (concat inputs) (Ok text)

@@ -22,7 +22,14 @@ use Rattle.scene_file.specs.declared.fault.SceneFault.{SceneFault}
 use Rattle.scene_file.proofs.Once.{fault-once, fault-none, head-once}
 use Rattle.scene_file.proofs.SameHeads.{joined-moved}
 use Rattle.scene_file.proofs.SceneTexts.{text-once}
-use Rattle.commands.specs.Answers.{IsAnswer, IsBoardOf, IsShownAs, IsStoredAs, HasPictures, IsOneRefusal, IsRefusal, IsMadeOf, heads_of, updates_of, shown_of, HaveSameUpdatesAndHeads}
+use Rattle.session.specs.Printed.{IsReportText}
+use Rattle.session.proofs.PrintedLaws.{report-once}
+use Rattle.session_text.specs.Sessions.{IsSessionFault}
+use Rattle.session_text.specs.declared.fault.SessionFault.{SessionFault}
+use Rattle.session_text.specs.declared.fault.SessionFault.TheVariants.{In, TooMany}
+use Rattle.session_text.specs.declared.fault.TextFault.{TextFault}
+use Rattle.session_text.proofs.SessionsOne.{session-once, fault-once as session-fault-once, fault-apart-session as session-none}
+use Rattle.commands.specs.Answers.{IsAnswer, IsReplayed, IsSessionRefusal, IsBoardOf, IsShownAs, IsStoredAs, HasPictures, IsOneRefusal, IsRefusal, IsMadeOf, heads_of, updates_of, shown_of, HaveSameUpdatesAndHeads}
 use Rattle.commands.specs.Faults.{newline}
 use Rattle.commands.specs.Input.{HasScenes, HasFaultyText, HasExtraText}
 use Rattle.commands.specs.Pictures.{AreLines, IsTold}
@@ -30,7 +37,7 @@ use Rattle.commands.specs.Pictures.IsTold.{size, not_base64, no_data_url}
 use Rattle.commands.specs.declared.status.Refusal.{Refusal}
 use Rattle.commands.specs.declared.status.Refusal.TheVariants as refusal
 use Rattle.commands.specs.declared.words.Command.{Command}
-use Rattle.commands.specs.declared.words.Command.TheVariants.{Restore, Merge, State, Pictures}
+use Rattle.commands.specs.declared.words.Command.TheVariants.{Restore, Merge, State, Pictures, Replay}
 use Rattle.commands.proofs.Reread.{scenes-whole, heads-whole, updates-elements}
 use Rattle.commands.proofs.Inputs.{input-once, faulty-once, faulty-scenes, extra-scene, extra-once}
 
@@ -103,11 +110,17 @@ refusal-once bytes (refusal.Text number found) (refusal.Text other why) faulty w
     let same = faulty-once bytes number other found why faulty wrong in
     ap₂ refusal.Text same.0 same.1
 refusal-once bytes (refusal.Text number found) (refusal.Extra at) faulty none = absurd none
+refusal-once bytes (refusal.Text number found) (refusal.Event other why) faulty none = absurd none
+refusal-once bytes (refusal.Text number found) refusal.TooMany faulty none = absurd none
 refusal-once bytes (refusal.Extra at) g none also = absurd none
+refusal-once bytes (refusal.Event number found) g none also = absurd none
+refusal-once bytes refusal.TooMany g none also = absurd none
 
 refusal-none : (bytes : List ℕ) (f : Refusal) (scenes : List Scene) → IsRefusal bytes f → HasScenes bytes scenes → ⊥
 refusal-none bytes (refusal.Text number found) scenes faulty has = faulty-scenes bytes number found scenes faulty has
 refusal-none bytes (refusal.Extra at) scenes none has = none
+refusal-none bytes (refusal.Event number found) scenes none has = none
+refusal-none bytes refusal.TooMany scenes none has = none
 
 -- a refusal of what is to be one scene: for its text, or for what follows it
 data Refused (bytes : List ℕ) : Refusal → Type 0 where
@@ -117,6 +130,8 @@ data Refused (bytes : List ℕ) : Refusal → Type 0 where
 refused : (bytes : List ℕ) (f : Refusal) → IsOneRefusal bytes f → Refused bytes f
 refused bytes (refusal.Text number found) (one, is) = subst (λ n. Refused bytes (refusal.Text n found)) (sym one) (in_text found is)
 refused bytes (refusal.Extra at) is = behind at is
+refused bytes (refusal.Event number found) none = absurd none
+refused bytes refusal.TooMany none = absurd none
 
 refused-once : (bytes : List ℕ) (f g : Refusal) → Refused bytes f → Refused bytes g → f ≡ g
 refused-once bytes f g (in_text found is) (in_text other also) = ap (refusal.Text 1) (fault-once bytes 0 found other is also)
@@ -127,6 +142,37 @@ refused-once bytes f g (behind at e) (behind other also) = ap refusal.Extra (ext
 refused-none : (bytes : List ℕ) (f : Refusal) (scene : Scene) → Refused bytes f → HasScenes bytes (scene ∷ []) → ⊥
 refused-none bytes f scene (in_text found is) has = fault-none bytes 0 found is has.lead.1
 refused-none bytes f scene (behind at e) has = extra-scene bytes at scene e has
+
+-- ---- sessions
+abbrev refusal-of : SessionFault → Refusal
+refusal-of (In number found) = refusal.Event number found
+refusal-of TooMany = refusal.TooMany
+
+event-many : (number : ℕ) (found : TextFault) → In number found ≡ TooMany → ⊥
+event-many number found e = cc
+
+replay-refusal-once : (bytes : List ℕ) (f g : Refusal) → IsSessionRefusal bytes f → IsSessionRefusal bytes g → f ≡ g
+replay-refusal-once bytes (refusal.Event number found) (refusal.Event other why) is also = ap refusal-of (session-fault-once bytes (In number found) (In other why) is also)
+replay-refusal-once bytes (refusal.Event number found) refusal.TooMany is also = absurd (event-many number found (session-fault-once bytes (In number found) TooMany is also))
+replay-refusal-once bytes refusal.TooMany (refusal.Event number found) is also = absurd (event-many number found (session-fault-once bytes (In number found) TooMany also is))
+replay-refusal-once bytes refusal.TooMany refusal.TooMany is also = refl
+replay-refusal-once bytes (refusal.Text number found) g none also = absurd none
+replay-refusal-once bytes (refusal.Extra at) g none also = absurd none
+replay-refusal-once bytes (refusal.Event number found) (refusal.Text other why) is none = absurd none
+replay-refusal-once bytes (refusal.Event number found) (refusal.Extra at) is none = absurd none
+replay-refusal-once bytes refusal.TooMany (refusal.Text other why) is none = absurd none
+replay-refusal-once bytes refusal.TooMany (refusal.Extra at) is none = absurd none
+
+replayed-none : (bytes text : List ℕ) (f : Refusal) → IsReplayed bytes text → IsSessionRefusal bytes f → ⊥
+replayed-none bytes text (refusal.Event number found) is refused = session-none bytes is.session (In number found) is.read refused
+replayed-none bytes text refusal.TooMany is refused = session-none bytes is.session TooMany is.read refused
+replayed-none bytes text (refusal.Text number found) is none = none
+replayed-none bytes text (refusal.Extra at) is none = none
+
+replayed-once : (bytes text other : List ℕ) → IsReplayed bytes text → IsReplayed bytes other → text ≡ other
+replayed-once bytes text other a b =
+    let same = session-once bytes a.session b.session a.read b.read in
+    a.ended ∙ (ap (λ t. t ++ newline) (report-once b.session a.written b.written (subst (λ s. IsReportText s a.written) same a.report) b.report) ∙ sym b.ended)
 
 -- ---- answers
 made-once : (IsOf : List Scene → List ℕ → Type 0) (bytes text other : List ℕ)
@@ -155,6 +201,10 @@ answer-once Pictures bytes (Ok a) (Ok b) is also = ap Ok (made-once HasPictures 
 answer-once Pictures bytes (Ok a) (Err g) is also = absurd (made-none HasPictures bytes a g is also)
 answer-once Pictures bytes (Err f) (Ok b) is also = absurd (made-none HasPictures bytes b f also is)
 answer-once Pictures bytes (Err f) (Err g) is also = ap Err (refusal-once bytes f g is also)
+answer-once Replay bytes (Ok a) (Ok b) is also = ap Ok (replayed-once bytes a b is also)
+answer-once Replay bytes (Ok a) (Err g) is also = absurd (replayed-none bytes a g is also)
+answer-once Replay bytes (Err f) (Ok b) is also = absurd (replayed-none bytes b f also is)
+answer-once Replay bytes (Err f) (Err g) is also = ap Err (replay-refusal-once bytes f g is also)
 
 -- ---- convergence
 pub merges-converge : (layout : Layout) (bytes others text other_text : List ℕ) → HaveSameUpdatesAndHeads bytes others

@@ -12,13 +12,17 @@ use Rattle.scene_file.specs.Scenes.{state_text}
 use Rattle.scene_file.specs.Texts.{IsSceneText}
 use Rattle.scene_file.specs.declared.layout.Layout.{Layout}
 use Rattle.scene_file.specs.declared.scene.Scene.{Scene}
+use Rattle.session.specs.Printed.{IsReportText}
+use Rattle.session_text.specs.Sessions.{IsSessionOf, IsSessionFault}
+use Rattle.session_text.specs.declared.fault.SessionFault.TheVariants.{In, TooMany}
+use Rattle.session_text.specs.declared.session.Session.{Session}
 use Rattle.commands.specs.Faults.{newline}
 use Rattle.commands.specs.Input.{HasScenes, HasFaultyText, HasExtraText}
 use Rattle.commands.specs.Pictures.{AreLines}
 use Rattle.commands.specs.declared.status.Refusal.{Refusal}
 use Rattle.commands.specs.declared.status.Refusal.TheVariants as refusal
 use Rattle.commands.specs.declared.words.Command.{Command}
-use Rattle.commands.specs.declared.words.Command.TheVariants.{Restore, Merge, State, Pictures}
+use Rattle.commands.specs.declared.words.Command.TheVariants.{Restore, Merge, State, Pictures, Replay}
 
 -- the elements of scenes, one scene after the other: each is an update; and the heads of scenes
 abbrev pub updates_of : List Scene → List Drawn
@@ -66,11 +70,30 @@ pub record HasPictures (scenes : List Scene) (text : List ℕ) : Type 0 where
 abbrev pub IsOneRefusal : List ℕ → Refusal → Type 0
 IsOneRefusal bytes (refusal.Text number found) = (number ≡ 1) × IsFaultAt bytes 0 found
 IsOneRefusal bytes (refusal.Extra at) = HasExtraText bytes at
+IsOneRefusal bytes (refusal.Event number found) = ⊥
+IsOneRefusal bytes refusal.TooMany = ⊥
 
 -- The first fault of an input that is to be one scene at least: the first text with a fault has it.
 abbrev pub IsRefusal : List ℕ → Refusal → Type 0
 IsRefusal bytes (refusal.Text number found) = HasFaultyText bytes number found
 IsRefusal bytes (refusal.Extra at) = ⊥
+IsRefusal bytes (refusal.Event number found) = ⊥
+IsRefusal bytes refusal.TooMany = ⊥
+
+-- The first fault of an input that is to be a session.
+abbrev pub IsSessionRefusal : List ℕ → Refusal → Type 0
+IsSessionRefusal bytes (refusal.Event number found) = IsSessionFault bytes (In number found)
+IsSessionRefusal bytes refusal.TooMany = IsSessionFault bytes TooMany
+IsSessionRefusal bytes (refusal.Text number found) = ⊥
+IsSessionRefusal bytes (refusal.Extra at) = ⊥
+
+-- The input is a session, and this is the text of its report, and a newline.
+pub record IsReplayed (bytes text : List ℕ) : Type 0 where
+  pub session : Session
+  pub read : IsSessionOf bytes session
+  pub written : List ℕ
+  pub report : IsReportText session written
+  pub ended : text ≡ written ++ newline
 
 -- The input is scenes, one at least, of which this text is made.
 abbrev pub IsMadeOf : (List Scene → List ℕ → Type 0) → List ℕ → List ℕ → Type 0
@@ -86,6 +109,8 @@ IsAnswer State bytes (Ok text) = IsMadeOf IsStoredAs bytes text
 IsAnswer State bytes (Err found) = IsRefusal bytes found
 IsAnswer Pictures bytes (Ok text) = IsMadeOf HasPictures bytes text
 IsAnswer Pictures bytes (Err found) = IsRefusal bytes found
+IsAnswer Replay bytes (Ok text) = IsReplayed bytes text
+IsAnswer Replay bytes (Err found) = IsSessionRefusal bytes found
 
 -- Two inputs are scenes with the same updates and the same heads, in whatever order, grouping and repetition.
 pub record HaveSameUpdatesAndHeads (bytes others : List ℕ) : Type 0 where

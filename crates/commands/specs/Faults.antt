@@ -3,6 +3,7 @@ use Rattle.std.specs.Prelude.{◌≡◌, ℕ, ◌≤◌, List, [], ◌∷◌, �
 use Rattle.board_io.specs.Counts.{Rose}
 use Rattle.board_io.specs.Ends.{SinkEnd, Took}
 use Rattle.scene_file.specs.Faults.{fault_words}
+use Rattle.session_text.specs.Faults as sessions
 use Rattle.commands.specs.declared.status.Status.{Status}
 use Rattle.commands.specs.declared.status.Status.TheVariants as status
 use Rattle.commands.specs.declared.status.Fault.{Fault}
@@ -41,6 +42,9 @@ line_of fault.Read = codes "board: read fault" ++ newline
 line_of fault.TooLong = codes "board: input is longer than 67108864 bytes" ++ newline
 line_of (fault.Refused (refusal.Text number found)) = codes "board: text " ++ (decimal number ++ (codes ": " ++ (fault_words found ++ newline)))
 line_of (fault.Refused (refusal.Extra at)) = codes "board: extra text at byte " ++ (decimal at ++ newline)
+line_of (fault.Refused (refusal.Event number found)) =
+    codes "board: text " ++ (decimal number ++ (codes ": " ++ (sessions.fault_words found ++ newline)))
+line_of (fault.Refused refusal.TooMany) = codes "board: more than 250000 events" ++ newline
 line_of fault.Write = codes "board: write fault" ++ newline
 
 -- The notes gained the line, or a first part of it where their count of faults rose.

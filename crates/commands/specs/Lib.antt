@@ -5,6 +5,7 @@ pub mod Ends
 pub mod Faults
 pub mod Input
 pub mod Pictures
+pub mod Replays
 pub mod Services
 pub mod Serving
 pub mod Words

@@ -4,7 +4,7 @@ use Rattle.scene_file.specs.declared.layout.Layout.{Layout}
 use Rattle.scene_file.specs.declared.layout.Layout.TheVariants.{Compact, Pretty}
 use Rattle.commands.specs.Services.{number_within, service_of}
 use Rattle.commands.specs.declared.words.Command.{Command}
-use Rattle.commands.specs.declared.words.Command.TheVariants.{Restore, Merge, State, Pictures}
+use Rattle.commands.specs.declared.words.Command.TheVariants.{Restore, Merge, State, Pictures, Replay}
 use Rattle.commands.specs.declared.words.Request.{Request}
 use Rattle.commands.specs.declared.words.Request.TheVariants.{Answer, Serve}
 use Rattle.commands.specs.declared.words.Service.{Service}
@@ -27,6 +27,7 @@ asked_command word options =
     else if bytes_eq word (codes "merge") then option_map Merge (asked_layout options)
     else if bytes_eq word (codes "state") then asked_alone State options
     else if bytes_eq word (codes "pictures") then asked_alone Pictures options
+    else if bytes_eq word (codes "replay") then asked_alone Replay options
     else None
 
 -- the service that the words behind `serve` say: a port, how many links, how often nothing happens in a row, and a layout
@@ -49,3 +50,4 @@ words_of (Merge Compact) = codes "merge" ∷ []
 words_of (Merge Pretty) = codes "merge" ∷ codes "--pretty" ∷ []
 words_of State = codes "state" ∷ []
 words_of Pictures = codes "pictures" ∷ []
+words_of Replay = codes "replay" ∷ []

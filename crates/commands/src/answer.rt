@@ -1,12 +1,14 @@
 //! What an input is answered with, command by command.
 
-ghost use Rattle.std.specs.Prelude.{◌≡◌, ◌++◌, [], ◌∷◌, List as Items, Ok, Err, IfOk, OnOk};
+ghost use Rattle.std.specs.Prelude.{◌≡◌, ◌++◌, ℕ, [], ◌∷◌, List as Items, Ok, Err, IfOk, OnOk};
 ghost use Rattle.scene_file.specs.Heads.{Heading, IsJoinedHead};
+ghost use Rattle.session.specs.Printed.{IsReportText};
+ghost use Rattle.session_text.specs.Facts.{IsSession};
 ghost use Rattle.commands.specs.Answers.{IsAnswer, IsBoardOf, IsShownAs, IsStoredAs, HasPictures, heads_of, updates_of};
 ghost use Rattle.commands.specs.Faults.{newline};
 ghost use Rattle.commands.specs.declared.status.Refusal.{Refusal};
 
-use crate::load::{one_scene, scenes};
+use crate::load::{one_scene, scenes, session_in};
 use crate::pictures::picture_lines;
 use crate::status::Refusal;
 use crate::words::Command;
@@ -14,6 +16,8 @@ use board_io::{Bytes, List, Stop};
 use elem::Element;
 use elem_store::Store;
 use scene_file::{Head, Layout, Scene, join, scene_text, state_text};
+use session::{replay, report_text};
+use session_text::Session;
 use std::alloc::{AllocError, Global};
 use view::view_of;
 
@@ -38,6 +42,10 @@ pub(crate) fn answer(alloc: Global, command: Command, bytes: Bytes) -> Result<By
         Command::Pictures => {
             let scenes = scenes(alloc, bytes)?;
             Ok(pictures_text(alloc, scenes)?)
+        }
+        Command::Replay => {
+            let session = session_in(alloc, bytes)?;
+            Ok(replayed_text(alloc, &session)?)
         }
     }
 }
@@ -69,6 +77,15 @@ fn pictures_text(alloc: Global, scenes: List<Scene>) -> Result<Bytes, AllocError
     let view = view_of(alloc, &store)?;
     let files = head.files.referred(view.elements())?;
     picture_lines(alloc, &files)
+}
+
+/// The text of the report of a session, and a newline.
+fn replayed_text(alloc: Global, session: &Session) -> Result<Bytes, AllocError>
+    requires { IsSession session.now }
+    ensures { IfOk result (λ text. (written : Items ℕ) × IsReportText session.now written × (text ≡ written ++ newline)) }
+{
+    let report = replay(alloc, session)?;
+    ended(report_text(alloc, &report)?)
 }
 
 /// The joined head of these scenes, and what is stored of their elements.

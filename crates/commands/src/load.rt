@@ -2,7 +2,9 @@
 
 ghost use Rattle.std.specs.Prelude.{◌≡◌, [], ◌∷◌, List as Items, IfOk, Err};
 ghost use Rattle.scene_file.specs.declared.scene.Scene.{Scene};
-ghost use Rattle.commands.specs.Answers.{IsOneRefusal, IsRefusal};
+ghost use Rattle.session_text.specs.Facts.{IsSession};
+ghost use Rattle.session_text.specs.Sessions.{IsSessionOf};
+ghost use Rattle.commands.specs.Answers.{IsOneRefusal, IsRefusal, IsSessionRefusal};
 ghost use Rattle.commands.specs.Input.{HasScenes};
 ghost use Rattle.commands.specs.declared.status.Refusal.{Refusal};
 
@@ -10,6 +12,7 @@ use crate::status::Refusal;
 use board_io::{Bytes, List, Stop};
 use scene_file::{Scene, read_scene};
 use scene_json::skip_space;
+use session_text::{Session, SessionFault, read_session};
 use std::alloc::Global;
 
 /// The one scene that the input is, which is dropped as soon as it is read.
@@ -26,6 +29,22 @@ pub(crate) fn scenes(alloc: Global, input: Bytes) -> Result<List<Scene>, Stop<Re
     ensures fault { (fault : Refusal) → result ≡ Err (Stop.Fault fault) → IsRefusal input fault }
 {
     scenes_in(alloc, input.as_slice())
+}
+
+/// The session that the input is, which is dropped as soon as it is read.
+pub(crate) fn session_in(alloc: Global, input: Bytes) -> Result<Session, Stop<Refusal>>
+    ensures session { IfOk result (IsSessionOf input) }
+    ensures kept { IfOk result IsSession }
+    ensures fault { (fault : Refusal) → result ≡ Err (Stop.Fault fault) → IsSessionRefusal input fault }
+{
+    match read_session(alloc, input.as_slice()) {
+        Ok(session) => Ok(session),
+        Err(Stop::Fault(SessionFault::In(number, fault))) => {
+            Err(Stop::Fault(Refusal::Event(number, fault)))
+        }
+        Err(Stop::Fault(SessionFault::TooMany)) => Err(Stop::Fault(Refusal::TooMany)),
+        Err(Stop::Memory) => Err(Stop::Memory),
+    }
 }
 
 /// The one scene that the bytes are.

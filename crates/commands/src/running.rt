@@ -7,6 +7,7 @@ ghost use Rattle.commands.specs.Answers.{IsAnswer, Converges};
 ghost use Rattle.commands.specs.Causes.{HasCause};
 ghost use Rattle.commands.specs.Ends.{span, EndsWith, GaveWithin, GaveTooMuch, HasLeft, WasDone, WasDoneInPart, WasRead, WasRefused};
 ghost use Rattle.commands.specs.Faults.{status_of, Noted};
+ghost use Rattle.commands.specs.Replays.{ReplicasStoreTheBest, ReplicasConverge};
 ghost use Rattle.commands.specs.Services.{IsService};
 ghost use Rattle.commands.specs.Serving.{links_seen, EndsServing};
 ghost use Rattle.commands.specs.Words.{asked};
@@ -88,8 +89,13 @@ pub fn board<S: Source, K: Sink, N: Sink, L: Links>(
     ensures unwritten { (result ≡ Status.Memory) ⊎ ((result ≡ Status.Usage) ⊎ (result ≡ Status.ReadFault)) → output.new ≡ output.old }
     ensures unserved { result ≡ Status.ReadFault → links.new ≡ links.old }
 
-    // Inputs with the same updates, free of clashes, are merged to one text.
+    // Inputs with the same updates are merged to one text.
     ensures converges { Converges }
+
+    // After every event of a session each replica stores the best of the updates that it took, and replicas that took the same
+    // updates show one scene.
+    ensures replicas_store_the_best { ReplicasStoreTheBest }
+    ensures replicas_converge { ReplicasConverge }
 
     // What was restored or merged is restored as the input itself, and the states of inputs stand for these.
     ensures restores_once { RestoresOnce }

@@ -7,6 +7,7 @@ ghost use Rattle.commands.specs.declared.status.Fault.{Fault};
 
 use board_io::{Piece, Sink, write_pieces};
 use scene_file::SceneFault;
+use session_text::TextFault;
 
 /// A piece that says nothing.
 const NONE: Piece = Piece::Words("");
@@ -57,6 +58,10 @@ pub enum Refusal {
     Text(usize, SceneFault),
     /// One scene was asked for, and behind it a further text begins at this byte.
     Extra(usize),
+    /// The text with this number of a session, counted from 1, has this fault.
+    Event(u64, TextFault),
+    /// A session has more events than it may have.
+    TooMany,
 }
 
 /// Why a run didn't do what it was asked for.
@@ -100,7 +105,7 @@ impl Fault {
     }
 
     /// The pieces of the line that tells this fault.
-    fn pieces(self) -> [Piece; 8]
+    fn pieces(self) -> [Piece; 9]
         ensures { line_text result ≡ line_of self }
     {
         match self {
@@ -121,12 +126,29 @@ impl Fault {
                     third,
                     fourth,
                     Piece::Words("\n"),
+                    NONE,
                 ]
             }
+            Fault::Refused(Refusal::Event(number, found)) => {
+                let [first, second, third, fourth, fifth] = found.pieces();
+                [
+                    Piece::Words("board: text "),
+                    Piece::Number(number),
+                    Piece::Words(": "),
+                    first,
+                    second,
+                    third,
+                    fourth,
+                    fifth,
+                    Piece::Words("\n"),
+                ]
+            }
+            Fault::Refused(Refusal::TooMany) => line("board: more than 250000 events\n"),
             Fault::Refused(Refusal::Extra(at)) => [
                 Piece::Words("board: extra text at byte "),
                 Piece::Number(at as u64),
                 Piece::Words("\n"),
+                NONE,
                 NONE,
                 NONE,
                 NONE,
@@ -139,11 +161,12 @@ impl Fault {
 }
 
 /// The line of these words alone.
-fn line(words: &'static str) -> [Piece; 8]
+fn line(words: &'static str) -> [Piece; 9]
     ensures { line_text result ≡ words.now }
 {
     [
         Piece::Words(words),
+        NONE,
         NONE,
         NONE,
         NONE,

@@ -23,6 +23,8 @@ pub enum Command {
     State,
     /// To tell the sizes of the pictures of scenes.
     Pictures,
+    /// To replay a session, and report what its replicas came to.
+    Replay,
 }
 
 /// How a room is to be served.
@@ -70,6 +72,8 @@ fn asked_command(word: &Bytes, options: &[Bytes]) -> Option<Command>
         asked_alone(Command::State, options)
     } else if word == b"pictures".as_slice() {
         asked_alone(Command::Pictures, options)
+    } else if word == b"replay".as_slice() {
+        asked_alone(Command::Replay, options)
     } else {
         None
     }

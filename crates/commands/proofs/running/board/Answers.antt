@@ -10,6 +10,7 @@ use Rattle.commands.specs.Words.{asked}
 use Rattle.commands.specs.declared.words.Request.TheVariants.{Answer, Serve}
 use Rattle.commands.proofs.Again.{restores-once, restores-merges}
 use Rattle.commands.proofs.Asking.{asked-service}
+use Rattle.commands.proofs.Replays.{replicas-store_the_best, replicas-converge}
 use Rattle.commands.proofs.States.{states-stand_for}
 use Rattle.commands.proofs.Unique.{merges-converge}
 use Rattle.commands.proofs.running.board.Goals as goal
@@ -18,6 +19,24 @@ pub serve_run-requires : goal.serve_run-requires
 serve_run-requires g c =
     let is : asked c.args.words.now ≡ Some (Serve c.in-Some-Serve.service) = cc in
     asked-service c.args.words.now c.in-Some-Serve.service is
+
+pub returns-in-None-clause-replicas_store_the_best : goal.returns-in-None-clause-replicas_store_the_best
+returns-in-None-clause-replicas_store_the_best g c = replicas-store_the_best
+
+pub returns-in-None-clause-replicas_converge : goal.returns-in-None-clause-replicas_converge
+returns-in-None-clause-replicas_converge g c = replicas-converge
+
+pub returns-in-Some-Answer-clause-replicas_store_the_best : goal.returns-in-Some-Answer-clause-replicas_store_the_best
+returns-in-Some-Answer-clause-replicas_store_the_best g c = replicas-store_the_best
+
+pub returns-in-Some-Answer-clause-replicas_converge : goal.returns-in-Some-Answer-clause-replicas_converge
+returns-in-Some-Answer-clause-replicas_converge g c = replicas-converge
+
+pub returns-in-Some-Serve-clause-replicas_store_the_best : goal.returns-in-Some-Serve-clause-replicas_store_the_best
+returns-in-Some-Serve-clause-replicas_store_the_best g c = replicas-store_the_best
+
+pub returns-in-Some-Serve-clause-replicas_converge : goal.returns-in-Some-Serve-clause-replicas_converge
+returns-in-Some-Serve-clause-replicas_converge g c = replicas-converge
 
 pub returns-in-None-clause-converges : goal.returns-in-None-clause-converges
 returns-in-None-clause-converges g c = merges-converge
