@@ -5,5 +5,3 @@ pub mod TakenLaws
 pub mod ClashLaws
 pub mod ReportLaws
 pub mod TextLaws
-pub mod Deciding
-pub mod PrintedLaws

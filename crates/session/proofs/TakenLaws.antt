@@ -2,9 +2,10 @@
 use Rattle.std.proofs.Common.{◌≡◌, ℕ, zero, suc, not, List, [], ◌∷◌, ◌++◌, take, get_or, set, replicate, flat_map, option_to_list, slice_get, Contains, refl, sym, ap, ◌∙◌, subst, append_assoc, append-nil, inl, inr, arith}
 use Rattle.std.specs.List.{AllByRecursion}
 use Rattle.std.proofs.lemmas.Grind.{flat_map-append}
-use Rattle.std.proofs.lemmas.List.Elements.{All-contains, All-from_recursion, Contains-append_left, Contains-append_right, Contains-append_cases}
+use Rattle.std.proofs.lemmas.List.Elements.{All-contains, All-from_recursion, Contains-append_left, Contains-append_right, Contains-append_cases, Contains-get_or}
 use Rattle.elem.specs.Drawn.{Drawn}
-use Rattle.elem.specs.Said.{AreElements}
+use Rattle.elem.specs.Facts.{IsElement}
+use Rattle.elem.specs.Said.{IsWritten, AreElements}
 use Rattle.elem_store.specs.Updates.{AreStored, HaveSameUpdates, stored_of}
 use Rattle.elem_store.proofs.Lists.{Contains-head, Contains-cons, Contains-cases, filter-Contains}
 use Rattle.elem_store.proofs.StoreLaws.{stores-converge}
@@ -19,7 +20,10 @@ use Rattle.session_text.specs.declared.event.Event.TheVariants.{Change, Update, 
 use Rattle.session_text.specs.declared.event.Pick.{Pick}
 use Rattle.session_text.specs.declared.event.Pick.TheVariants.{All, One}
 use Rattle.session_text.specs.declared.session.Session.{Session}
-use Rattle.session.specs.Worlds.{Seat, World, Act, fresh, delivered, holding, with_id, without_id, acted, given_of, change_on, undo_of, redo_of, seat_at, state_at, nonce_at, after_act, picked, all_picked, after_event, after_events, opened, opening_elements, world_after, all_elements}
+use Rattle.view.specs.Shown.{live_elements, shown}
+use Rattle.scene_file.specs.Scenes.{scene_text}
+use Rattle.session.specs.Reports.{Converge}
+use Rattle.session.specs.Worlds.{Seat, World, Act, fresh, delivered, holding, with_id, without_id, acted, given_of, change_on, undo_of, redo_of, seat_at, state_at, nonce_at, after_act, picked, all_picked, after_event, after_events, opened, opening_elements, world_after, all_elements, head_of}
 use Rattle.session.proofs.SeatLaws.{outcome-stored, undo-stored, redo-stored}
 
 -- ---- what holds of each seat
@@ -211,3 +215,14 @@ taken-made session count s e among among' =
     let w : World = world_after session count in
     each-contained (TookMade (opening_elements session) w.messages) w.seats s
     (events-made (opening_elements session) (take count session.events) (opened session) (opened-made session)) among e among'
+
+-- ---- what is told of all elements
+pub taken-elements : (session : Session) (count : ℕ) (s : Seat) → AreElements (all_elements session (world_after session count)) → Contains (world_after session count).seats s → AreElements s.taken
+taken-elements session count s are among = λ k d l.
+    All-contains (λ e. IsElement e × IsWritten e) (all_elements session (world_after session count)) (get_or s.taken k d) are
+    (taken-made session count s (get_or s.taken k d) among (Contains-get_or s.taken k d l))
+
+pub converging : (session : Session) (count : ℕ) → AreElements (all_elements session (world_after session count)) → Converge session (world_after session count)
+converging session count are s other among also same =
+    let stored = same-stored session count s other among also (taken-elements session count s are among) same in
+    (stored, ap (λ elements. scene_text (head_of session) (shown (live_elements elements))) stored)

@@ -1,5 +1,4 @@
 pub mod Clashes
-pub mod Printed
 pub mod Reports
 pub mod Standing
 pub mod Texts

@@ -1,11 +1,12 @@
 -- What the report of a session says. This project's own.
-use Rattle.std.specs.Prelude.{◌≡◌, List, [], length}
+use Rattle.std.specs.Prelude.{◌≡◌, List, [], Contains, length}
 use Rattle.std.specs.List.{AllZip}
 use Rattle.scene_file.specs.Heads.{Heading}
 use Rattle.scene_file.specs.Scenes.{scene_text}
 use Rattle.view.specs.Settled.{AreSettled}
 use Rattle.view.specs.Shown.{live_elements, shown, HaveRisingKeys}
 use Rattle.elem.specs.Drawn.{Drawn}
+use Rattle.elem_store.specs.Updates.{HaveSameUpdates}
 use Rattle.replica.specs.Standing.{StandsFor}
 use Rattle.session_text.specs.declared.session.Session.{Session}
 use Rattle.session.specs.declared.report.Report.{Report}
@@ -41,3 +42,9 @@ pub record IsReportOf (session : Session) (w : World) (report : Report) : Type 0
   pub messages : report.messages ≡ length w.messages
   pub refused : report.refused ≡ w.refused
   pub clashes : HaveClashes [] (all_elements session w) report.clashes
+
+-- Replicas that took the same updates, in whatever order, grouping and repetition, store the same and show one text.
+abbrev pub Converge : Session → World → Type 0
+Converge session w =
+    (s other : Seat) → Contains w.seats s → Contains w.seats other → HaveSameUpdates s.taken other.taken
+    → (s.state.stored ≡ other.state.stored) × (scene_text (head_of session) (shown_at s) ≡ scene_text (head_of session) (shown_at other))

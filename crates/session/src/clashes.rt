@@ -2,6 +2,7 @@
 
 ghost use Rattle.std.specs.Prelude.{◌≡◌, List as Items, [], ◌++◌, IfOk, OnOk, flat_map};
 ghost use Rattle.elem.specs.Drawn.{Drawn};
+ghost use Rattle.elem.specs.Said.{AreElements};
 ghost use Rattle.clash.specs.Firsts.{firsts_of};
 ghost use Rattle.session.specs.Clashes.{HaveClashes};
 
@@ -9,6 +10,7 @@ use crate::counting::sum_of;
 use board_io::List;
 use clash::Clash;
 use elem::Element;
+use replica::tell_all;
 use std::alloc::{AllocError, Global};
 
 /// How many of these elements, and then of those of messages, clash with an earlier one.
@@ -26,6 +28,16 @@ pub(crate) fn clashes_among(
         count = sum_of(count, more)?;
     }
     Ok(count)
+}
+
+/// These elements, and those of messages, are elements. It tells this for contracts, and does nothing else.
+pub(crate) fn tell_made(opening: &[Element], messages: &Vec<List<Element>>)
+    ensures { AreElements (opening.now ++ flat_map (λ (message : Items Drawn). message) messages.now.items) }
+{
+    tell_all(opening);
+    for message in messages {
+        tell_all(message.as_slice());
+    }
 }
 
 /// Notes these elements, and tells how many of them clash with an earlier one.

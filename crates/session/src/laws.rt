@@ -1,6 +1,6 @@
 //! Laws on sessions, for all of them. They do nothing when they run.
 
-ghost use Rattle.std.specs.Prelude.{◌≡◌, ℕ, List, [], ◌++◌, Contains, length, take};
+ghost use Rattle.std.specs.Prelude.{◌≡◌, ℕ, List, Contains, length};
 ghost use Rattle.elem.specs.Drawn.{Drawn};
 ghost use Rattle.elem.specs.Said.{AreElements};
 ghost use Rattle.elem_store.specs.Updates.{AreStored, HaveSameUpdates};

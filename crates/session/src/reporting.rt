@@ -1,11 +1,12 @@
 //! What is reported of the replicas.
 
-ghost use Rattle.std.specs.Prelude.{◌≡◌, List as Items, IfOk};
+ghost use Rattle.std.specs.Prelude.{List as Items, IfOk};
+ghost use Rattle.elem.specs.Said.{AreElements};
 ghost use Rattle.session.specs.Reports.{AreReplicaReports, IsReplicaReport, IsReportOf};
 ghost use Rattle.session.specs.Standing.{SeatStandsFor, SeatsStandFor, WorldStandsFor};
 ghost use Rattle.session.specs.Worlds as worlds;
 
-use crate::clashes::clashes_among;
+use crate::clashes::{clashes_among, tell_made};
 use crate::report::{ReplicaReport, Report};
 use crate::seat::Seat;
 use crate::world::{World, opening_elements};
@@ -21,7 +22,8 @@ pub(crate) fn report_of(
     session: &Session,
     world: World,
 ) -> Result<Report, AllocError>
-    ensures { IfOk result (λ report. (w : worlds.World) → WorldStandsFor world w → IsReportOf session.now w report) }
+    ensures report { IfOk result (λ report. (w : worlds.World) → WorldStandsFor world w → IsReportOf session.now w report) }
+    ensures elements { (w : worlds.World) → WorldStandsFor world w → AreElements (worlds.all_elements session.now w) }
 {
     let World {
         seats,
@@ -30,7 +32,9 @@ pub(crate) fn report_of(
         events: _,
         refused,
     } = world;
-    let clashes = clashes_among(alloc, opening_elements(session), &messages)?;
+    let opening = opening_elements(session);
+    tell_made(opening, &messages);
+    let clashes = clashes_among(alloc, opening, &messages)?;
     Ok(Report {
         replicas: replicas_of(alloc, session, seats)?,
         messages: messages.len() as u64,

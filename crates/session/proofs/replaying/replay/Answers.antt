@@ -1,11 +1,12 @@
-use Rattle.std.proofs.Common.{◌≡◌, ◌+◌, ◌<◌, ◌≤◌, length, get_or, sym, ap, ◌∙◌, subst, arith}
-use Rattle.session_text.specs.declared.event.Event.{Event}
+use Rattle.std.proofs.Common.{ℕ, ◌+◌, ◌<◌, ◌≤◌, le_refl, length, get_or, sym, ap, ◌∙◌, subst, arith}
 use Rattle.session_text.specs.Facts.{IsAmong, IsWithin}
-use Rattle.session.specs.declared.report.Report.{Report}
-use Rattle.session.specs.Reports.{IsReportOf}
+use Rattle.elem.specs.Said.{AreElements}
+use Rattle.session_text.specs.declared.session.Session.{Session}
+use Rattle.session.specs.declared.world.World.{World as Played}
+use Rattle.session.specs.Reports.{Converge}
 use Rattle.session.specs.Standing.{WorldStandsFor}
-use Rattle.session.specs.Worlds.{World, last_world, world_after}
-use Rattle.session.proofs.ReportLaws.{ok-more}
+use Rattle.session.specs.Worlds.{World, all_elements, last_world, world_after}
+use Rattle.session.proofs.TakenLaws.{converging}
 use Rattle.session.proofs.WorldLaws.{each-event, world-step, world-last}
 use Rattle.session.proofs.replaying.replay.Goals as goal
 
@@ -36,10 +37,26 @@ loop-event-preserved c =
       events = c.in_ok-step.ensures.events ∙ ap (λ n. n + 1) c.loop-event.invariant.events;
     }
 
-pub returns : goal.returns
-returns c =
+last-stands : (session : Session) (world : Played) (i : ℕ) → length session.events ≤ i → WorldStandsFor world (world_after session i) → WorldStandsFor world (last_world session)
+last-stands session world i all stands = subst (WorldStandsFor world) (world-last session i all) stands
+
+pub returns-clause-report : goal.returns-clause-report
+returns-clause-report c =
     let session = c.args.session.now in
     let all : length session.events ≤ c.loop-event.event-index = omega (arith, ap length c.as_slice-event-items.ensures) in
-    let stands = subst (WorldStandsFor c.loop-event.world) (world-last session c.loop-event.event-index all) c.loop-event.invariant.stands in
-    ok-more c.report_of.result (λ report. (w : World) → WorldStandsFor c.loop-event.world w → IsReportOf session w report) (IsReportOf session (last_world session))
-    (λ report told. told (last_world session) stands) c.report_of.ensures
+    c.in_ok-report.ensures.report (last_world session) (last-stands session c.loop-event.world c.loop-event.event-index all c.loop-event.invariant.stands)
+
+pub returns-clause-elements : goal.returns-clause-elements
+returns-clause-elements c =
+    let session = c.args.session.now in
+    let all : length session.events ≤ c.loop-event.event-index = omega (arith, ap length c.as_slice-event-items.ensures) in
+    c.in_ok-report.ensures.elements (last_world session) (last-stands session c.loop-event.world c.loop-event.event-index all c.loop-event.invariant.stands)
+
+pub returns-clause-converge : goal.returns-clause-converge
+returns-clause-converge c =
+    let session = c.args.session.now in
+    let all : length session.events ≤ c.loop-event.event-index = omega (arith, ap length c.as_slice-event-items.ensures) in
+    let last = last-stands session c.loop-event.world c.loop-event.event-index all c.loop-event.invariant.stands in
+    let same = world-last session (length session.events) (le_refl (length session.events)) in
+    subst (Converge session) same
+    (converging session (length session.events) (subst (λ (w : World). AreElements (all_elements session w)) (sym same) (c.in_ok-report.ensures.elements (last_world session) last)))
