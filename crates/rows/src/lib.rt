@@ -14,6 +14,8 @@ mod kinds;
 #[cfg(test)]
 mod samples;
 #[cfg(test)]
+mod sockets;
+#[cfg(test)]
 mod stores;
 #[cfg(test)]
 mod values;
