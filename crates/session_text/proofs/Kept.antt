@@ -35,6 +35,7 @@ use Rattle.session_text.specs.declared.happening.Happening.{Happening}
 use Rattle.session_text.specs.declared.happening.Happening.TheVariants as happenings
 use Rattle.session_text.specs.declared.header.Header.{Header}
 use Rattle.session_text.specs.declared.session.Session.{Session}
+use Rattle.session_text.proofs.Brought.{header-elements, events-bring}
 use Rattle.session_text.proofs.Readings.{then-ok, gives-ok}
 
 -- ---- bindings
@@ -221,8 +222,10 @@ session-kept bytes session is =
       most = head.most;
       seed = head.seed;
       keys = head.keys;
+      elements = header-elements text (header session.replicas session.seed session.scene) says;
       few = is.lead.few;
       places = all.places;
       limits = all.limits;
+      brings = events-bring session.replicas 0 is.lead.first (drop is.end bytes) session.events is.lead.lead;
       picks = all.picks;
     }

@@ -1,9 +1,11 @@
 pub mod Behind
+pub mod Brought
 pub mod FormsOne
 pub mod Kept
 pub mod Lacking
 pub mod PicksMore
 pub mod Readings
+pub mod Said
 pub mod RowsOne
 pub mod SessionsOne
 pub mod Values

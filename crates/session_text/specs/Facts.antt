@@ -2,7 +2,9 @@
 use Rattle.std.specs.Prelude.{ℕ, ◌+◌, ◌<◌, ◌≤◌, List, [], ◌∷◌, IfSome, length}
 use Rattle.std.specs.List.{AllByRecursion}
 use Rattle.elem.specs.Facts.{greatest_whole}
+use Rattle.elem.specs.Said.{AreElements}
 use Rattle.effects.specs.Limits.{IsWithinLimits}
+use Rattle.given_elements.specs.Written.{IsWrittenCommand}
 use Rattle.scene_file.specs.Whole.{HaveKeys}
 use Rattle.scene_file.specs.declared.scene.Scene.{Scene}
 use Rattle.session_text.specs.Sessions.{most_events, messages_of}
@@ -32,6 +34,16 @@ IsWithin (Release at id) = Unit {0}
 IsWithin (Undo at time) = time ≤ greatest_whole
 IsWithin (Redo at time) = time ≤ greatest_whole
 
+-- What it brings is of elements: those of an update are, and what a command creates; and the texts that this writes are UTF-8.
+abbrev pub BringsElements : Event → Type 0
+BringsElements (Change at time capture command) = IsWrittenCommand command
+BringsElements (Update elements) = AreElements elements
+BringsElements (Deliver to picks) = Unit {0}
+BringsElements (Hold at id) = Unit {0}
+BringsElements (Release at id) = Unit {0}
+BringsElements (Undo at time) = Unit {0}
+BringsElements (Redo at time) = Unit {0}
+
 -- The pick is of a message that is made.
 abbrev pub IsOfMade : ℕ → Pick → Type 0
 IsOfMade made (All message) = message < made
@@ -52,14 +64,16 @@ abbrev pub PickMade : ℕ → List Event → Type 0
 PickMade made [] = Unit {0}
 PickMade made (event ∷ events) = PicksMade made event × PickMade (made + messages_of event) events
 
--- There are 1 to 64 replicas, and not too many events. The seed is within its limit, and each element of the scene has a
--- key. The events are at these replicas, within their limits, and pick of messages that are made.
+-- There are 1 to 64 replicas, and not too many events. The seed is within its limit, and those of the scene are elements, each
+-- with a key. The events are at these replicas, within their limits, bring elements, and pick of messages that are made.
 pub record IsSession (session : Session) : Type 0 where
   pub some : 1 ≤ session.replicas
   pub most : session.replicas ≤ 64
   pub seed : session.seed ≤ greatest_whole
   pub keys : IfSome session.scene (λ (scene : Scene). HaveKeys scene.elements)
+  pub elements : IfSome session.scene (λ (scene : Scene). AreElements scene.elements)
   pub few : length session.events ≤ most_events
   pub places : AllByRecursion (IsAmong session.replicas) session.events
   pub limits : AllByRecursion IsWithin session.events
+  pub brings : AllByRecursion BringsElements session.events
   pub picks : PickMade 0 session.events

@@ -22,7 +22,7 @@ pub fn reading_exists()
         → ((session : Session) × IsSessionOf bytes session) ⊎ ((fault : SessionFault) × IsSessionFault bytes fault) }
 {}
 
-/// What is read keeps to the limits.
+/// What is read keeps to the limits, and is of elements.
 pub fn sessions_keep_limits()
     ensures { (bytes : List ℕ) (session : Session) → IsSessionOf bytes session → IsSession session }
 {}

@@ -1,0 +1,4 @@
+pub mod EffectLaws
+pub mod GivenLaws
+pub mod PartLaws
+pub mod SpotLaws

@@ -1,0 +1,4 @@
+//! What a command gives are elements.
+#![tactic(auto)]
+
+pub mod laws;

@@ -1,0 +1,271 @@
+-- What events do to one replica, whose held ids play no part in it.
+use Rattle.std.proofs.Common.{◌≡◌, ◌≢◌, ◌≤◌, ◌<◌, ◌==◌, ℕ, zero, suc, Bool, true, false, not, List, [], ◌∷◌, length, get_or, set, Option, Some, None, Result, Ok, Err, IsSomeAnd, Contains, inl, inr, refl, sym, ap, ◌∙◌, subst, arith}
+use Rattle.std.specs.List.{AllByRecursion}
+use Rattle.std.proofs.lemmas.Bool.{cases_Bool, eqb-true, eqb-false}
+use Rattle.std.proofs.lemmas.List.{get_or-set_same, get_or-set_other}
+use Rattle.elem.specs.Drawn.{Drawn}
+use Rattle.elem.specs.Facts.{greatest_whole}
+use Rattle.elem.specs.Order.{unstamped}
+use Rattle.elem_store.specs.Updates.{element_of}
+use Rattle.delta.specs.Pairs.{Pair}
+use Rattle.view.specs.Shown.{is_live, live_elements, shown}
+use Rattle.effects.specs.declared.command.Capture.TheVariants.{Now}
+use Rattle.effects.specs.declared.command.Command.{Command}
+use Rattle.effects.specs.declared.command.Refusal.{Refusal}
+use Rattle.effects.specs.Limits.{IsWithinLimits}
+use Rattle.effects.proofs.OutcomeLaws.{given-seen}
+use Rattle.undoing.specs.Carrying.{taken_all}
+use Rattle.undoing.specs.Differing.{pending}
+use Rattle.undoing.specs.Steps.{Turn, step}
+use Rattle.replica.specs.Back.{Alters, IsChange, changed, changed_all, AreChanges, Call, IsDone, undone_all, redone_all, AreUndone, AreRedone}
+use Rattle.replica.specs.State.{State, noted, stored_with, outcome_on, after_outcome, after_delivery, undo_on, redo_on, after_undo_of, after_redo_of, after_undo, after_redo}
+use Rattle.replica.proofs.Delivering.{empty-stays}
+use Rattle.session_text.specs.declared.event.Event.{Event}
+use Rattle.session_text.specs.declared.event.Event.TheVariants.{Change, Update, Deliver, Hold, Release, Undo, Redo}
+use Rattle.session.specs.Worlds.{Seat, World, Act, fresh, delivered, holding, with_id, without_id, of_command, change_on, undo_of, redo_of, given_of, acted, seat_at, state_at, nonce_at, after_act, all_picked, after_event, after_events}
+use Rattle.given_elements.specs.Written.{IsWrittenCommand}
+use Rattle.session_laws.specs.Turning.{KeepsAway, IsChangeAt, IsUndoAt, IsRedoAt, AreChangesAt, AreUndosAt, AreRedosAt}
+use Rattle.session_laws.proofs.SoundStates.{IsKept, AreGiven, command-given}
+use Rattle.session_laws.proofs.SoundWorlds.{IsKeptWorld, IsKeptEvent, seat-kept, nonce-small, event-kept}
+
+-- ---- held ids play no part in what is captured, undone and redone
+-- a state without its held ids
+abbrev pub unheld : State → State
+unheld s = record s { held = [] }
+
+unheld-noted : (entry : List Pair) (s : State) (snapshot : List Drawn) → unheld (record (noted entry s) { snapshot = snapshot }) ≡ record (noted entry (unheld s)) { snapshot = snapshot }
+unheld-noted [] s snapshot = refl
+unheld-noted (pair ∷ entry) s snapshot = refl
+
+unheld-changed : (given : List Drawn) (s : State) → unheld (changed given s) ≡ changed given (unheld s)
+unheld-changed given s = unheld-noted (pending s.snapshot (taken_all given s.stored)) (stored_with given s) (taken_all given s.stored)
+
+noted-undo : (entry : List Pair) (s : State) → (noted entry (unheld s)).undo ≡ (noted entry s).undo
+noted-undo [] s = refl
+noted-undo (pair ∷ entry) s = refl
+
+noted-redo : (entry : List Pair) (s : State) → (noted entry (unheld s)).redo ≡ (noted entry s).redo
+noted-redo [] s = refl
+noted-redo (pair ∷ entry) s = refl
+
+pub unheld-undo_on : (time nonce : ℕ) (s : State) → undo_on time nonce (unheld s) ≡ undo_on time nonce s
+unheld-undo_on time nonce s =
+    λ i. step s.stored time nonce (noted-undo (pending s.snapshot s.stored) s i) (noted-redo (pending s.snapshot s.stored) s i)
+
+pub unheld-redo_on : (time nonce : ℕ) (s : State) → redo_on time nonce (unheld s) ≡ redo_on time nonce s
+unheld-redo_on time nonce s =
+    λ i. step s.stored time nonce (noted-redo (pending s.snapshot s.stored) s i) (noted-undo (pending s.snapshot s.stored) s i)
+
+unheld-undone : (time nonce : ℕ) (s : State) (turn : Turn) → undo_on time nonce s ≡ Some (Ok turn) → unheld (after_undo time nonce s) ≡ after_undo time nonce (unheld s)
+unheld-undone time nonce s turn found =
+    ap (λ o. unheld (after_undo_of o s)) found ∙ sym (ap (λ o. after_undo_of o (unheld s)) (unheld-undo_on time nonce s ∙ found))
+
+unheld-redone : (time nonce : ℕ) (s : State) (turn : Turn) → redo_on time nonce s ≡ Some (Ok turn) → unheld (after_redo time nonce s) ≡ after_redo time nonce (unheld s)
+unheld-redone time nonce s turn found =
+    ap (λ o. unheld (after_redo_of o s)) found ∙ sym (ap (λ o. after_redo_of o (unheld s)) (unheld-redo_on time nonce s ∙ found))
+
+-- ---- what a command gives is a change of what is stored
+not-deleted : (b : Bool) → not b ≡ true → b ≡ false
+not-deleted true h = absurd (cc)
+not-deleted false h = refl
+
+module _ (s : State) (kept : IsKept s) (command : Command) (time nonce : ℕ)
+    (limits : IsWithinLimits command) (written : IsWrittenCommand command) (early : time ≤ greatest_whole) (small : nonce ≤ greatest_whole) where
+  module _ (given : List Drawn) (told : outcome_on command time nonce s ≡ Ok given) where
+    are-given : AreGiven s.stored given
+    are-given = command-given s kept command time nonce given limits written early small told
+
+    seen-alters : (e : Drawn) (o : Option Drawn) → Contains given e → element_of s.stored e.id ≡ o → IsSomeAnd o (λ (old : Drawn). (is_live old ≡ true) × (unstamped old ≢ unstamped e)) → Alters o e
+    seen-alters e None c found seen = absurd seen
+    seen-alters e (Some old) c found seen = (not-deleted old.deleted seen.0, are-given.kinds e old c found, seen.1)
+
+    given-alters : (e : Drawn) → Contains given e → Alters (element_of s.stored e.id) e
+    given-alters e c = elim (given-seen s.stored (shown (live_elements s.stored)) command time nonce given told kept.stored_rise e c) [
+      | inl change ↦ seen-alters e (element_of s.stored e.id) c refl change
+      | inr new ↦ subst (λ o. Alters o e) (sym new.unknown) (not-deleted e.deleted new.live)
+    ]
+
+    pub given-changes : given ≢ [] → IsChange s.stored given
+    given-changes some = record {
+      some = some;
+      ordered = are-given.rise;
+      elements = are-given.elements;
+      taken = are-given.taken;
+      alters = given-alters;
+    }
+
+  -- a change that is captured at once and gives some elements
+  pub change-done : given_of (change_on command Now time nonce s).outcome ≢ [] → (given : List Drawn) × ((change_on command Now time nonce s).state ≡ changed given s) × IsChange s.stored given
+  unfolding change_on
+  change-done gives = by (outcome_on command time nonce s) refl gives
+    where
+      by : (o : Result (List Drawn) Refusal) → outcome_on command time nonce s ≡ o → given_of (of_command o) ≢ [] → (given : List Drawn) × (after_outcome Now o s ≡ changed given s) × IsChange s.stored given
+      by (Ok given) told some = (given, refl, given-changes given told some)
+      by (Err refusal) told some = absurd (some refl)
+
+undo_of-state : (time nonce : ℕ) (s : State) → (undo_of time nonce s).state ≡ after_undo time nonce s
+unfolding undo_of
+undo_of-state time nonce s = refl
+
+redo_of-state : (time nonce : ℕ) (s : State) → (redo_of time nonce s).state ≡ after_redo time nonce s
+unfolding redo_of
+redo_of-state time nonce s = refl
+
+delivered-state : (list : List Drawn) (s : Seat) → (delivered list s).state ≡ after_delivery list s.state
+unfolding delivered
+delivered-state list s = refl
+
+-- ---- one event
+module _ (replicas : ℕ) (few : replicas ≤ 64) (at : ℕ) (among : at < replicas) where
+  module _ (w : World) (kept : IsKeptWorld replicas w) where
+    own : IsKept (state_at w at)
+    own = (seat-kept replicas w kept at among).state
+
+    pub own-put : (s : Seat) → get_or (set w.seats at s) at fresh ≡ s
+    own-put s = let l : at < length w.seats = omega (arith, kept.count) in get_or-set_same w.seats at s fresh l
+
+    pub other-put : (other : ℕ) (s : Seat) → other ≢ at → get_or (set w.seats other s) at fresh ≡ seat_at w at
+    other-put other s apart = get_or-set_other w.seats other at s fresh (λ same. apart (sym same))
+
+    -- what is put at any replica shows at this one only if it is put there
+    put-unheld : (other : ℕ) (s : Seat) → (other ≡ at → unheld s.state ≡ unheld (state_at w at)) → unheld (get_or (set w.seats other s) at fresh).state ≡ unheld (state_at w at)
+    put-unheld other s here = elim (cases_Bool (other == at)) [
+      | inl t ↦
+          let same = eqb-true other at t in
+          ap (λ (i : ℕ). unheld (get_or (set w.seats i s) at fresh).state) same ∙ ap (λ (seat : Seat). unheld seat.state) (own-put s) ∙ here same
+      | inr f ↦ ap (λ (seat : Seat). unheld seat.state) (other-put other s (eqb-false other at f))
+    ]
+
+    keeps-away : (event : Event) → KeepsAway at event w → unheld (state_at (after_event event w) at) ≡ unheld (state_at w at)
+    keeps-away (Change other time capture command) apart =
+        ap (λ (seat : Seat). unheld seat.state) (other-put other (acted (change_on command capture time (nonce_at w other) (state_at w other)) (seat_at w other)) apart)
+    keeps-away (Update elements) away = refl
+    keeps-away (Deliver to picks) none =
+        let list : List Drawn = all_picked w.messages picks in
+        put-unheld to (delivered list (seat_at w to)) (λ same.
+        ap unheld (delivered-state list (seat_at w to)
+        ∙ ap (λ (i : ℕ). after_delivery list (state_at w i)) same
+        ∙ empty-stays (state_at w at) list own.stored_rise (none same)))
+    keeps-away (Hold other id) away =
+        put-unheld other (holding (with_id id (state_at w other).held) (seat_at w other)) (λ same. ap (λ (i : ℕ). unheld (state_at w i)) same)
+    keeps-away (Release other id) away =
+        put-unheld other (holding (without_id id (state_at w other).held) (seat_at w other)) (λ same. ap (λ (i : ℕ). unheld (state_at w i)) same)
+    keeps-away (Undo other time) apart =
+        ap (λ (seat : Seat). unheld seat.state) (other-put other (acted (undo_of time (nonce_at w other) (state_at w other)) (seat_at w other)) apart)
+    keeps-away (Redo other time) apart =
+        ap (λ (seat : Seat). unheld seat.state) (other-put other (acted (redo_of time (nonce_at w other) (state_at w other)) (seat_at w other)) apart)
+
+    small : nonce_at w at ≤ greatest_whole
+    small = nonce-small w at (omega arith)
+
+    -- a change, an undo and a redo here
+    pub acted-here : (act : Act) → state_at (after_act at act w) at ≡ act.state
+    acted-here act = ap (λ (seat : Seat). seat.state) (own-put (acted act (seat_at w at)))
+
+    change-here : (event : Event) → IsKeptEvent replicas event → IsChangeAt at event w
+        → (given : List Drawn) × (unheld (state_at (after_event event w) at) ≡ changed given (unheld (state_at w at))) × IsChange (state_at w at).stored given
+    change-here event is change =
+        let it = subst (IsKeptEvent replicas) change.is is in
+        let act : Act = change_on change.command Now change.time (nonce_at w at) (state_at w at) in
+        let done = change-done (state_at w at) own change.command change.time (nonce_at w at) it.within.1 it.brings it.within.0 small change.gives in (
+          done.0,
+          ap (λ (e : Event). unheld (state_at (after_event e w) at)) change.is
+              ∙ ap unheld (acted-here act ∙ done.1)
+              ∙ unheld-changed done.0 (state_at w at),
+          done.2,
+        )
+
+    undo-here : (event : Event) → IsKeptEvent replicas event → IsUndoAt at event w
+        → (call : Call) × (unheld (state_at (after_event event w) at) ≡ after_undo call.time call.nonce (unheld (state_at w at))) × IsDone call (undo_on call.time call.nonce (unheld (state_at w at)))
+    undo-here event is undo =
+        let it = subst (IsKeptEvent replicas) undo.is is in
+        let s : State = state_at w at in
+        let nonce : ℕ = nonce_at w at in (
+          record { time = undo.time; nonce = nonce },
+          ap (λ (e : Event). unheld (state_at (after_event e w) at)) undo.is
+              ∙ ap unheld (acted-here (undo_of undo.time nonce s) ∙ undo_of-state undo.time nonce s)
+              ∙ unheld-undone undo.time nonce s undo.turn undo.found,
+          record { time = it.within; nonce = small; turn = undo.turn; is = unheld-undo_on undo.time nonce s ∙ undo.found },
+        )
+
+    redo-here : (event : Event) → IsKeptEvent replicas event → IsRedoAt at event w
+        → (call : Call) × (unheld (state_at (after_event event w) at) ≡ after_redo call.time call.nonce (unheld (state_at w at))) × IsDone call (redo_on call.time call.nonce (unheld (state_at w at)))
+    redo-here event is redo =
+        let it = subst (IsKeptEvent replicas) redo.is is in
+        let s : State = state_at w at in
+        let nonce : ℕ = nonce_at w at in (
+          record { time = redo.time; nonce = nonce },
+          ap (λ (e : Event). unheld (state_at (after_event e w) at)) redo.is
+              ∙ ap unheld (acted-here (redo_of redo.time nonce s) ∙ redo_of-state redo.time nonce s)
+              ∙ unheld-redone redo.time nonce s redo.turn redo.found,
+          record { time = it.within; nonce = small; turn = redo.turn; is = unheld-redo_on redo.time nonce s ∙ redo.found },
+        )
+
+  -- ---- several events
+  -- so many changes lead from a state to another one
+  pub record ChangesLead (n : ℕ) (s now : State) : Type 0 where
+    pub givens : List (List Drawn)
+    pub many : length givens ≡ n
+    pub changes : AreChanges givens s
+    pub comes : now ≡ changed_all givens s
+
+  pub record UndosLead (n : ℕ) (s now : State) : Type 0 where
+    pub calls : List Call
+    pub many : length calls ≡ n
+    pub done : AreUndone calls s
+    pub comes : now ≡ undone_all calls s
+
+  pub record RedosLead (n : ℕ) (s now : State) : Type 0 where
+    pub calls : List Call
+    pub many : length calls ≡ n
+    pub done : AreRedone calls s
+    pub comes : now ≡ redone_all calls s
+
+  -- the state after events, without its held ids
+  abbrev pub comes_to : List Event → World → State
+  comes_to events w = unheld (state_at (after_events events w) at)
+
+  pub changes-lead : (events : List Event) (w : World) (n : ℕ) → AllByRecursion (IsKeptEvent replicas) events → IsKeptWorld replicas w → AreChangesAt at events w n → ChangesLead n (unheld (state_at w at)) (comes_to events w)
+  changes-lead [] w zero all kept are = record { givens = []; many = refl; changes = tt; comes = refl }
+  changes-lead [] w (suc n) all kept are = absurd are
+  changes-lead (event ∷ events) w zero all kept are =
+      subst (λ s. ChangesLead zero s (comes_to events (after_event event w))) (keeps-away w kept event are.0)
+      (changes-lead events (after_event event w) zero all.1 (event-kept replicas few event w all.0 kept) are.1)
+  changes-lead (event ∷ events) w (suc n) all kept (inl are) =
+      let here = change-here w kept event all.0 are.0 in
+      let rest = subst (λ s. ChangesLead n s (comes_to events (after_event event w))) here.1
+      (changes-lead events (after_event event w) n all.1 (event-kept replicas few event w all.0 kept) are.1) in
+      record { givens = here.0 ∷ rest.givens; many = ap suc rest.many; changes = (here.2, rest.changes); comes = rest.comes }
+  changes-lead (event ∷ events) w (suc n) all kept (inr are) =
+      subst (λ s. ChangesLead (suc n) s (comes_to events (after_event event w))) (keeps-away w kept event are.0)
+      (changes-lead events (after_event event w) (suc n) all.1 (event-kept replicas few event w all.0 kept) are.1)
+
+  pub undos-lead : (events : List Event) (w : World) (n : ℕ) → AllByRecursion (IsKeptEvent replicas) events → IsKeptWorld replicas w → AreUndosAt at events w n → UndosLead n (unheld (state_at w at)) (comes_to events w)
+  undos-lead [] w zero all kept are = record { calls = []; many = refl; done = tt; comes = refl }
+  undos-lead [] w (suc n) all kept are = absurd are
+  undos-lead (event ∷ events) w zero all kept are =
+      subst (λ s. UndosLead zero s (comes_to events (after_event event w))) (keeps-away w kept event are.0)
+      (undos-lead events (after_event event w) zero all.1 (event-kept replicas few event w all.0 kept) are.1)
+  undos-lead (event ∷ events) w (suc n) all kept (inl are) =
+      let here = undo-here w kept event all.0 are.0 in
+      let rest = subst (λ s. UndosLead n s (comes_to events (after_event event w))) here.1
+      (undos-lead events (after_event event w) n all.1 (event-kept replicas few event w all.0 kept) are.1) in
+      record { calls = here.0 ∷ rest.calls; many = ap suc rest.many; done = (here.2, rest.done); comes = rest.comes }
+  undos-lead (event ∷ events) w (suc n) all kept (inr are) =
+      subst (λ s. UndosLead (suc n) s (comes_to events (after_event event w))) (keeps-away w kept event are.0)
+      (undos-lead events (after_event event w) (suc n) all.1 (event-kept replicas few event w all.0 kept) are.1)
+
+  pub redos-lead : (events : List Event) (w : World) (n : ℕ) → AllByRecursion (IsKeptEvent replicas) events → IsKeptWorld replicas w → AreRedosAt at events w n → RedosLead n (unheld (state_at w at)) (comes_to events w)
+  redos-lead [] w zero all kept are = record { calls = []; many = refl; done = tt; comes = refl }
+  redos-lead [] w (suc n) all kept are = absurd are
+  redos-lead (event ∷ events) w zero all kept are =
+      subst (λ s. RedosLead zero s (comes_to events (after_event event w))) (keeps-away w kept event are.0)
+      (redos-lead events (after_event event w) zero all.1 (event-kept replicas few event w all.0 kept) are.1)
+  redos-lead (event ∷ events) w (suc n) all kept (inl are) =
+      let here = redo-here w kept event all.0 are.0 in
+      let rest = subst (λ s. RedosLead n s (comes_to events (after_event event w))) here.1
+      (redos-lead events (after_event event w) n all.1 (event-kept replicas few event w all.0 kept) are.1) in
+      record { calls = here.0 ∷ rest.calls; many = ap suc rest.many; done = (here.2, rest.done); comes = rest.comes }
+  redos-lead (event ∷ events) w (suc n) all kept (inr are) =
+      subst (λ s. RedosLead (suc n) s (comes_to events (after_event event w))) (keeps-away w kept event are.0)
+      (redos-lead events (after_event event w) (suc n) all.1 (event-kept replicas few event w all.0 kept) are.1)

@@ -1,0 +1,10 @@
+pub mod CourseLaws
+pub mod DeedLaws
+pub mod ElementLaws
+pub mod EventLaws
+pub mod IdLaws
+pub mod LineLaws
+pub mod MakingLaws
+pub mod OrderLaws
+pub mod SessionLaws
+pub mod TextLaws

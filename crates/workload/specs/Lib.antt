@@ -1,0 +1,6 @@
+pub mod Deeds
+pub mod Draws
+pub mod Drills
+pub mod Elements
+pub mod Facts
+pub mod Texts

@@ -1,0 +1,55 @@
+//! What is drawn for the events.
+
+ghost use Rattle.std.specs.Prelude.{◌≡◌, ◌<◌, ◌%◌};
+ghost use Rattle.session.specs.Worlds.{next_generator, next_word};
+ghost use Rattle.workload.specs.Draws.{IsDrawn, after_draws, drawn};
+
+use rand_core::utils::NextWord;
+use rand_pcg::Pcg32;
+
+/// What is drawn for an event.
+#[derive(Clone, Copy)]
+pub(crate) struct Draws {
+    /// At which replica it is.
+    pub(crate) at: u64,
+    /// What it is: a row of the table.
+    pub(crate) row: u64,
+    /// The number of its element.
+    pub(crate) element: u64,
+    /// The number of another element.
+    pub(crate) other: u64,
+    /// How a change goes into the history.
+    pub(crate) capture: u64,
+}
+
+/// Draws for the next event; also what it doesn't need.
+#[tactic(auto, unfolding(crate::specs::Draws::drawn, crate::specs::Draws::after_draws))]
+pub(crate) fn draw_all(generator: &mut Pcg32) -> Draws
+    ensures drawn { result ≡ drawn generator.old }
+    ensures after { generator.new ≡ after_draws generator.old }
+    ensures within { IsDrawn result }
+{
+    let at = draw(generator, 4);
+    let row = draw(generator, 24);
+    let element = draw(generator, 200);
+    let other = draw(generator, 200);
+    let capture = draw(generator, 8);
+    Draws {
+        at,
+        row,
+        element,
+        other,
+        capture,
+    }
+}
+
+/// Draws a number below the limit.
+#[tactic(auto, unfolding(session::specs::Worlds::next_word, session::specs::Worlds::next_generator))]
+fn draw(generator: &mut Pcg32, limit: u64) -> u64
+    requires { 0 < limit }
+    ensures number { result ≡ next_word generator.old % limit }
+    ensures below { result < limit }
+    ensures after { generator.new ≡ next_generator generator.old }
+{
+    u64::from(generator.next_word()) % limit
+}
