@@ -2,6 +2,7 @@ pub mod Again
 pub mod Answering
 pub mod Asking
 pub mod Blanks
+pub mod Drills
 pub mod Existing
 pub mod ById
 pub mod Given
@@ -14,4 +15,3 @@ pub mod Reread
 pub mod Scenes
 pub mod States
 pub mod Unique
-mod Replays

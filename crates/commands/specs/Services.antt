@@ -1,8 +1,9 @@
--- What the words of a service say. This project's own.
+-- What the words of a service and of a drill say. This project's own.
 use Rattle.std.specs.Prelude.{ℕ, ◌≤◌, List, [], ◌∷◌, Bool, ◌&&◌, Option, Some, None, nat_le, bytes_eq, decimal, if◌then◌else◌}
 use Rattle.std.specs.Str.Parse.{digits_value}
 use Rattle.scene_file.specs.declared.layout.Layout.{Layout}
 use Rattle.room_core.specs.declared.limits.RoomLimits.{RoomLimits}
+use Rattle.commands.specs.declared.words.Drill.{Drill}
 use Rattle.commands.specs.declared.words.Service.{Service}
 
 -- how many events other than Idle a room is served at most
@@ -29,3 +30,14 @@ pub record IsService (service : Service) : Type 0 where
   pub links : 1 ≤ service.limits.links
   pub idle : 1 ≤ service.limits.idle
   pub events : 1 ≤ service.limits.events
+
+-- the drill with these numbers, where both are there
+abbrev pub drill_of : Option ℕ → Option ℕ → Option Drill
+drill_of (Some seed) (Some events) = Some (record { seed = seed; events = events })
+drill_of seed events = None
+
+-- Its numbers are within their limits.
+pub record IsDrill (drill : Drill) : Type 0 where
+  pub seed : drill.seed ≤ 9007199254740991
+  pub some : 1 ≤ drill.events
+  pub most : drill.events ≤ 200000

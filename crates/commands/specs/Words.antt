@@ -2,11 +2,12 @@ use Rattle.std.specs.Prelude.{if◌then◌else◌, List, [], ◌∷◌, ℕ, Opt
 use Rattle.std.specs.Option.{option_map}
 use Rattle.scene_file.specs.declared.layout.Layout.{Layout}
 use Rattle.scene_file.specs.declared.layout.Layout.TheVariants.{Compact, Pretty}
-use Rattle.commands.specs.Services.{number_within, service_of}
+use Rattle.commands.specs.Services.{drill_of, number_within, service_of}
 use Rattle.commands.specs.declared.words.Command.{Command}
 use Rattle.commands.specs.declared.words.Command.TheVariants.{Restore, Merge, State, Pictures, Replay}
 use Rattle.commands.specs.declared.words.Request.{Request}
-use Rattle.commands.specs.declared.words.Request.TheVariants.{Answer, Serve}
+use Rattle.commands.specs.declared.words.Request.TheVariants.{Answer, Drill as Drilled, Serve}
+use Rattle.commands.specs.declared.words.Drill.{Drill}
 use Rattle.commands.specs.declared.words.Service.{Service}
 
 -- the layout that the words behind a command ask for: `--pretty` alone, or none. This project's own.
@@ -36,11 +37,18 @@ asked_service (port ∷ links ∷ idle ∷ options) =
     service_of (number_within 1 65535 port) (number_within 1 1024 links) (number_within 1 4294967295 idle) (asked_layout options)
 asked_service words = None
 
+-- the drill that the words behind `drill` say: a seed, and how many events
+abbrev pub asked_drill : List (List ℕ) → Option Drill
+asked_drill (seed ∷ events ∷ []) = drill_of (number_within 0 9007199254740991 seed) (number_within 1 200000 events)
+asked_drill words = None
+
 -- what these words ask for, where they are a form of it. This project's own.
 abbrev pub asked : List (List ℕ) → Option Request
 asked [] = None
 asked (word ∷ options) =
-    if bytes_eq word (codes "serve") then option_map Serve (asked_service options) else option_map Answer (asked_command word options)
+    if bytes_eq word (codes "serve") then option_map Serve (asked_service options)
+    else if bytes_eq word (codes "drill") then option_map Drilled (asked_drill options)
+    else option_map Answer (asked_command word options)
 
 -- The words that ask for each command. This project's own.
 abbrev pub words_of : Command → List (List ℕ)

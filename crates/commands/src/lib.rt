@@ -2,6 +2,8 @@
 #![tactic(auto)]
 
 mod answer;
+mod drilling;
+mod headline;
 pub mod laws;
 mod load;
 mod pictures;
@@ -12,4 +14,4 @@ mod words;
 
 pub use running::board;
 pub use status::{Fault, Refusal, Status};
-pub use words::{Command, Request, Service};
+pub use words::{Command, Drill, Request, Service};

@@ -5,23 +5,28 @@ ghost use Rattle.board_io.specs.Counts.{Rose};
 ghost use Rattle.commands.specs.Again.{RestoresOnce, RestoresMerges, StatesStandFor};
 ghost use Rattle.commands.specs.Answers.{IsAnswer, Converges};
 ghost use Rattle.commands.specs.Causes.{HasCause};
+ghost use Rattle.commands.specs.Drills.{DrillsAgree, EndsDrilling};
 ghost use Rattle.commands.specs.Ends.{span, EndsWith, GaveWithin, GaveTooMuch, HasLeft, WasDone, WasDoneInPart, WasRead, WasRefused};
 ghost use Rattle.commands.specs.Faults.{status_of, Noted};
-ghost use Rattle.commands.specs.Replays.{ReplicasStoreTheBest, ReplicasConverge};
-ghost use Rattle.commands.specs.Services.{IsService};
-ghost use Rattle.commands.specs.Serving.{links_seen, EndsServing};
+ghost use Rattle.commands.specs.Replays.{ChangesAreCaptured, NothingIsPending, PrintedScenesAgree, RedoRepeats, ReplicasConverge, ReplicasStoreTheBest, UndoBringsBack};
+ghost use Rattle.commands.specs.Services.{IsDrill, IsService};
+ghost use Rattle.commands.specs.Serving.{links_seen, end_status, EndsServing, WasServedTo};
 ghost use Rattle.commands.specs.Words.{asked};
+ghost use Rattle.room_core.specs.declared.limits.ServeEnd.{ServeEnd};
 ghost use Rattle.commands.specs.declared.status.Fault.{Fault};
 ghost use Rattle.commands.specs.declared.status.Refusal.{Refusal};
 ghost use Rattle.commands.specs.declared.words.Command.{Command};
+ghost use Rattle.commands.specs.declared.words.Drill.{Drill};
 ghost use Rattle.commands.specs.declared.words.Request.{Request};
 ghost use Rattle.commands.specs.declared.words.Service.{Service};
 
 use crate::answer::answer;
+use crate::drilling::drill;
+use crate::headline::{drills_hold, merges_hold, replicas_hold};
 use crate::serving::{noted_end, serve};
 use crate::status::{Fault, Status};
 use crate::words;
-use crate::words::{Command, Request, Service};
+use crate::words::{Command, Drill, Request, Service};
 use board_io::{Bytes, Failed, Links, ReadError, Sink, Source, Stop, read_all, write_all};
 use std::alloc::Global;
 
@@ -86,25 +91,50 @@ pub fn board<S: Source, K: Sink, N: Sink, L: Links>(
         (record { input = S.seen input.old; output = K.seen output.old; links = links_seen L.port L.given L.sent L.lost L.faults links.old })
         (record { input = S.seen input.new; output = K.seen output.new; links = links_seen L.port L.given L.sent L.lost L.faults links.new })
         (N.seen notes.old) (N.seen notes.new) result }
+    // A drill: each end by its cause, and what was written by then. The input isn't read.
+    ensures drilled { (drill : Drill) → asked words.now ≡ Some (Request.Drill drill)
+        → EndsDrilling drill (span (K.seen output.old) (K.seen output.new)) (span (N.seen notes.old) (N.seen notes.new)) result }
+    ensures drill_unread { (drill : Drill) → asked words.now ≡ Some (Request.Drill drill)
+        → (input.new ≡ input.old) × (links.new ≡ links.old) }
+
     ensures unwritten { (result ≡ Status.Memory) ⊎ ((result ≡ Status.Usage) ⊎ (result ≡ Status.ReadFault)) → output.new ≡ output.old }
     ensures unserved { result ≡ Status.ReadFault → links.new ≡ links.old }
+    ensures refused_unserved { (service : Service) → asked words.now ≡ Some (Request.Serve service) → result ≡ Status.Refused
+        → ((output.new ≡ output.old) × (links.new ≡ links.old))
+        ⊎ ((end : ServeEnd) × (end_status end ≡ Status.Refused) × WasServedTo service end
+        (record { input = S.seen input.old; output = K.seen output.old; links = links_seen L.port L.given L.sent L.lost L.faults links.old })
+        (record { input = S.seen input.new; output = K.seen output.new; links = links_seen L.port L.given L.sent L.lost L.faults links.new })) }
 
     // Inputs with the same updates are merged to one text.
     ensures converges { Converges }
 
-    // After every event of a session each replica stores the best of the updates that it took, and replicas that took the same
-    // updates show one scene.
+    // However updates are grouped, reordered, repeated or lost, a replica stores per id the taken element that no taken one beats;
+    // replicas that took the same updates print byte-equal scenes with strictly rising indices, where an arrow names a target
+    // exactly if the target lists it; undo without updates between restores all but version, nonce and timestamp, and redo
+    // repeats it.
     ensures replicas_store_the_best { ReplicasStoreTheBest }
     ensures replicas_converge { ReplicasConverge }
+    ensures printed_scenes_agree { PrintedScenesAgree }
+    ensures undo_brings_back { UndoBringsBack }
+    ensures nothing_is_pending { NothingIsPending }
+    ensures changes_are_captured { ChangesAreCaptured }
+    ensures redo_repeats { RedoRepeats }
+
+    // In every drill no two updates clash, and all replicas show one scene.
+    ensures drills_agree { DrillsAgree }
 
     // What was restored or merged is restored as the input itself, and the states of inputs stand for these.
     ensures restores_once { RestoresOnce }
     ensures restores_merges { RestoresMerges }
     ensures states_stand_for { StatesStandFor }
 {
+    merges_hold();
+    replicas_hold();
+    drills_hold();
     match words::asked(words) {
         None => Fault::Usage.noted(notes),
         Some(Request::Answer(command)) => answer_run(alloc, command, input, output, notes),
+        Some(Request::Drill(request)) => drill_run(alloc, request, output, notes),
         Some(Request::Serve(service)) => serve_run(alloc, service, input, output, notes, links),
     }
 }
@@ -146,6 +176,24 @@ fn answer_run<S: Source, K: Sink, N: Sink>(
     }
 }
 
+/// Runs a drill and writes what it tells, or notes why not.
+fn drill_run<K: Sink, N: Sink>(
+    alloc: Global,
+    request: Drill,
+    output: &mut K,
+    notes: &mut N,
+) -> Status
+    requires { IsDrill request }
+    ensures drilled { EndsDrilling request (span (K.seen output.old) (K.seen output.new)) (span (N.seen notes.old) (N.seen notes.new)) result }
+    ensures notes_kept { result ≡ Status.Done → notes.new ≡ notes.old }
+    ensures unwritten { result ≡ Status.Memory → output.new ≡ output.old }
+{
+    match drill(alloc, request, output) {
+        Ok(()) => Status::Done,
+        Err(fault) => fault.noted(notes),
+    }
+}
+
 /// Serves a room that begins with the scenes of the input, and writes the scene at its end, or notes why not.
 fn serve_run<S: Source, K: Sink, N: Sink, L: Links>(
     alloc: Global,
@@ -163,6 +211,10 @@ fn serve_run<S: Source, K: Sink, N: Sink, L: Links>(
     ensures notes_kept { (result ≡ Status.Done) ⊎ (result ≡ Status.Idle) → notes.new ≡ notes.old }
     ensures unwritten { (result ≡ Status.Memory) ⊎ (result ≡ Status.ReadFault) → output.new ≡ output.old }
     ensures unserved { result ≡ Status.ReadFault → links.new ≡ links.old }
+    ensures refused_unserved { result ≡ Status.Refused → ((output.new ≡ output.old) × (links.new ≡ links.old))
+        ⊎ ((end : ServeEnd) × (end_status end ≡ Status.Refused) × WasServedTo service end
+        (record { input = S.seen input.old; output = K.seen output.old; links = links_seen L.port L.given L.sent L.lost L.faults links.old })
+        (record { input = S.seen input.new; output = K.seen output.new; links = links_seen L.port L.given L.sent L.lost L.faults links.new })) }
 {
     match serve(alloc, service, input, output, links) {
         Ok(end) => noted_end(end, notes),

@@ -1,8 +1,8 @@
 //! What the words of a command line ask for.
 
 ghost use Rattle.std.specs.Prelude.{◌≡◌, ◌≤◌, ◌<◌, ◌^◌, IfSome};
-ghost use Rattle.commands.specs.Services.{number_within, service_of};
-ghost use Rattle.commands.specs.Words.{asked, asked_alone, asked_command, asked_layout, asked_service};
+ghost use Rattle.commands.specs.Services.{drill_of, number_within, service_of};
+ghost use Rattle.commands.specs.Words.{asked, asked_alone, asked_command, asked_drill, asked_layout, asked_service};
 
 use board_io::Bytes;
 use room_core::RoomLimits;
@@ -11,6 +11,10 @@ use scene_json::whole_in;
 
 /// How many events other than Idle a room is served at most.
 const MOST_EVENTS: u64 = 1_000_000_000;
+/// The greatest seed of a drill, 2 to the 53rd minus 1.
+const GREATEST_SEED: u64 = 9_007_199_254_740_991;
+/// How many events a drill generates at most.
+const MOST_DRILLED: u64 = 200_000;
 
 /// A command that answers an input with a text.
 #[derive(Clone, Copy, Debug, PartialEq, Eq)]
@@ -38,11 +42,22 @@ pub struct Service {
     pub layout: Layout,
 }
 
+/// A generated session that is to be run.
+#[derive(Clone, Copy, Debug, PartialEq, Eq)]
+pub struct Drill {
+    /// What all of it is drawn from.
+    pub seed: u64,
+    /// How many events are drawn.
+    pub events: u64,
+}
+
 /// What the words ask for.
 #[derive(Clone, Copy, Debug, PartialEq, Eq)]
 pub enum Request {
     /// To answer an input with a text.
     Answer(Command),
+    /// To run a generated session, and tell in short what came of it.
+    Drill(Drill),
     /// To serve a room that begins with the scenes of an input.
     Serve(Service),
 }
@@ -54,6 +69,8 @@ pub fn asked(words: &[Bytes]) -> Option<Request>
     let (word, options) = words.split_first()?;
     if word.as_slice() == b"serve".as_slice() {
         asked_service(options).map(Request::Serve)
+    } else if word.as_slice() == b"drill".as_slice() {
+        asked_drill(options).map(Request::Drill)
     } else {
         asked_command(word, options).map(Request::Answer)
     }
@@ -110,6 +127,29 @@ fn service_of(
             events: MOST_EVENTS,
         },
         layout: layout?,
+    })
+}
+
+/// The drill that these words say: SEED and EVENTS.
+fn asked_drill(options: &[Bytes]) -> Option<Drill>
+    ensures { result ≡ asked_drill options.now }
+{
+    let [seed, events] = options else {
+        return None;
+    };
+    drill_of(
+        number_within(0, GREATEST_SEED, seed),
+        number_within(1, MOST_DRILLED, events),
+    )
+}
+
+/// The drill with these numbers, where both are there.
+fn drill_of(seed: Option<u64>, events: Option<u64>) -> Option<Drill>
+    ensures { result ≡ drill_of seed events }
+{
+    Some(Drill {
+        seed: seed?,
+        events: events?,
     })
 }
 
