@@ -1,5 +1,17 @@
+pub mod ByIds
 pub mod ContentLaws
 pub mod CopyLaws
 pub mod Followed
+pub mod FollowingLaws
+pub mod IdLaws
+pub mod LiveLaws
+pub mod Picked
 pub mod PlacedLaws
+pub mod PuttingLaws
+pub mod ReachedLaws
 pub mod Redrawn
+pub mod RowLaws
+pub mod Searched
+pub mod ShownAfter
+pub mod Stepping
+pub mod Untouched

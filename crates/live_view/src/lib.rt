@@ -3,8 +3,13 @@
 
 mod changes;
 mod drawing;
+mod following;
+mod ids;
 mod live;
 mod order;
+mod places;
+mod reach;
 mod redrawing;
+mod replacing;
 
 pub use live::LiveView;

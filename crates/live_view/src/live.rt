@@ -7,6 +7,7 @@ ghost use Rattle.view.specs.Settled.{AreSettled};
 ghost use Rattle.view.specs.Shown.{live_elements, shown, bare, HaveRisingKeys, IsSceneOrder};
 
 use elem::Element;
+use links::LinkTable;
 use std::alloc::Global;
 use std::marker::Model;
 
@@ -19,18 +20,21 @@ pub struct LiveView {
 
     /// What is shown of them.
     pub(crate) shown: Vec<Element>,
+
+    /// Who of them names whom.
+    pub(crate) table: LinkTable,
 }
 
 impl Model for LiveView {
     ghost use Rattle.std.specs.Prelude.{List as Items};
     ghost use Rattle.elem.specs.Drawn.{Drawn};
-    ghost use Rattle.view.specs.Shown.{IsView};
+    ghost use Rattle.live_view.specs.Replacing.{IsLiveView};
 
     ghost Value = { Items Drawn };
 
     ghost view = { λ v. v.live.items };
 
-    ghost invariant = { λ v. IsView v.live.items v.shown.items };
+    ghost invariant = { λ v. IsLiveView v.live.items v.shown.items v.table.rows };
 }
 
 impl LiveView {
@@ -41,6 +45,7 @@ impl LiveView {
         LiveView {
             live: Vec::new(alloc),
             shown: Vec::new(alloc),
+            table: LinkTable::new(alloc),
         }
     }
 

@@ -8,13 +8,20 @@ shown_of-requires c =
     subst HaveDistinctIds (sym (c.in_ok-copied.ensures ∙ c.in_ok-live.ensures.exact))
     (HaveDistinctIds-rising (live_elements c.args.store.now.elements) (live_elements-rise c.args.store.now.elements c.in_ok-live.ensures.ordered))
 
+pub table_of-requires : goal.table_of-requires
+table_of-requires c =
+    rw c.in_ok-live.ensures.exact (HaveDistinctIds-rising (live_elements c.args.store.now.elements) (live_elements-rise c.args.store.now.elements c.in_ok-live.ensures.ordered))
+
 pub invariant_of-result : goal.invariant_of-result
 invariant_of-result c =
     let stored = c.args.store.now.elements in
     let copy = c.in_ok-copied.ensures in
-    subst (λ live. IsView live c.into_vec.result.items) (sym c.in_ok-live.ensures.exact) (record {
-      exact = c.into_vec.ensures ∙ (c.in_ok-shown.ensures.exact ∙ ap shown (copy ∙ c.in_ok-live.ensures.exact));
-      ordered = live_elements-rise stored c.in_ok-live.ensures.ordered;
-      all_live = live_elements-live stored;
-      keys = subst HaveKeysOrNone (copy ∙ c.in_ok-live.ensures.exact) c.in_ok-shown.ensures.keys;
-    })
+    record {
+      view = subst (λ live. IsView live c.into_vec.result.items) (sym c.in_ok-live.ensures.exact) (record {
+        exact = c.into_vec.ensures ∙ (c.in_ok-shown.ensures.exact ∙ ap shown (copy ∙ c.in_ok-live.ensures.exact));
+        ordered = live_elements-rise stored c.in_ok-live.ensures.ordered;
+        all_live = live_elements-live stored;
+        keys = subst HaveKeysOrNone (copy ∙ c.in_ok-live.ensures.exact) c.in_ok-shown.ensures.keys;
+      });
+      table = c.in_ok-table.ensures;
+    }

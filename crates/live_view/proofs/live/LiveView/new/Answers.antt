@@ -5,4 +5,7 @@ use Rattle.live_view.proofs.live.LiveView.new.Goals as goal
 
 pub invariant_of-result : goal.invariant_of-result
 unfolding placed settled shown
-invariant_of-result c = rw (c.new.ensures.items, c.new-2.ensures.items) (record { exact = refl; ordered = refl; all_live = refl; keys = refl })
+invariant_of-result c = rw (c.new.ensures.items, c.new-2.ensures.items, c.new-3.ensures) (record {
+  view = record { exact = refl; ordered = refl; all_live = refl; keys = refl };
+  table = λ named namer. refl;
+})
