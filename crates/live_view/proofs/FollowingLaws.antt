@@ -1,8 +1,8 @@
 -- What is stored of some ids, and after changes, one more each time.
-use Rattle.std.proofs.Common.{◌≡◌, ℕ, ◌+◌, ◌<◌, Bool, true, false, cond, ◌&&◌, ◌||◌, List, [], ◌∷◌, ◌++◌, length, take, get_or, Option, Some, None, is_some, Contains, bytes_eq, refl, sym, ap, ap₂, ◌∙◌, subst, inl, inr}
-use Rattle.std.specs.List.{list_any, list_all}
+use Rattle.std.proofs.Common.{◌≡◌, ℕ, zero, suc, ◌+◌, ◌<◌, Bool, true, false, cond, ◌&&◌, ◌||◌, List, [], ◌∷◌, ◌++◌, length, map, take, get_or, IfSome, IsSome, Option, Some, None, is_some, Contains, bytes_eq, refl, sym, ap, ap₂, ◌∙◌, subst, inl, inr}
+use Rattle.std.specs.List.{AllByRecursion, IsDistinct, list_any, list_all}
 use Rattle.std.specs.Option.{option_or}
-use Rattle.std.proofs.lemmas.Bool.{cases_Bool, or_cases}
+use Rattle.std.proofs.lemmas.Bool.{cases_Bool, or_cases, both_ways, false_from_ne_true}
 use Rattle.std.proofs.lemmas.List.{take_more}
 use Rattle.std.proofs.lemmas.List.Elements.{All-contains}
 use Rattle.std.proofs.lemmas.List.Folds.{list_any-append}
@@ -16,10 +16,11 @@ use Rattle.elem_store.proofs.Lists.{find-Some}
 use Rattle.elem_store.proofs.Rising as rows
 use Rattle.undoing.specs.Carrying.{taken, taken_all}
 use Rattle.undoing.proofs.TakenLaws.{taken-has, taken_all-rising}
-use Rattle.view.specs.Shown.{is_live, live_elements}
-use Rattle.view.proofs.ShownLaws.{live_elements-rise}
-use Rattle.live_view.specs.Changes.{AreSameButAt}
-use Rattle.live_view.specs.Following.{ArePicked, AreTaken}
+use Rattle.view.specs.Shown.{is_live, live_elements, HaveDistinctIds}
+use Rattle.view.proofs.ShownLaws.{HaveDistinctIds-rising, live_elements-rise}
+use Rattle.live_view.specs.Changes.{redrawn_as, AreSameButAt, HasRedrawn}
+use Rattle.live_view.specs.Coming.{HasGone}
+use Rattle.live_view.specs.Following.{followed, ArePicked, AreTaken, HaveFollowed}
 use Rattle.live_view.specs.Reached.{is_among}
 use Rattle.live_view.specs.Replacing.{element_after, HaveReplaced}
 use Rattle.live_view.proofs.Followed.{if_live, live-is, element-live}
@@ -165,3 +166,134 @@ taken-near stored changed live news after rising is taken all replaced =
     replaced-is live news after (taken_all changed stored) (taken_all-rising stored changed rising) replaced
     (λ id. ap (λ es. option_or (element_of news id) (element_of es id)) is ∙ ap (option_or (element_of news id)) (element-live None stored id rising)
     ∙ live-of news id (element_of news id) all refl (element_of stored id) ∙ ap if_live (sym (taken.each id)))
+
+-- ---- lists in which no id stands twice
+apart-taken : (id : List ℕ) (es : List Drawn) (n : ℕ) → AllByRecursion (λ other. bytes_eq id other ≡ false) (ids_of es) → AllByRecursion (λ other. bytes_eq id other ≡ false) (ids_of (take n es))
+apart-taken id es zero all = tt
+apart-taken id [] (suc n) all = tt
+apart-taken id (e ∷ es) (suc n) all = (all.0, apart-taken id es n all.1)
+
+distinct-taken : (es : List Drawn) (n : ℕ) → HaveDistinctIds es → HaveDistinctIds (take n es)
+unfolding IsDistinct
+distinct-taken es zero apart = tt
+distinct-taken [] (suc n) apart = tt
+distinct-taken (e ∷ es) (suc n) apart = (apart-taken e.id es n apart.0, distinct-taken es n apart.1)
+
+none-before : (es : List Drawn) (e : Drawn) (fs : List Drawn) → HaveDistinctIds (es ++ e ∷ fs) → element_of es e.id ≡ None
+unfolding IsDistinct
+none-before [] e fs apart = refl
+none-before (x ∷ es) e fs apart =
+    let off : bytes_eq x.id e.id ≡ false = later x.id es apart.0 in
+    let turned : bytes_eq e.id x.id ≡ false = false_from_ne_true (bytes_eq e.id x.id) (λ is. both_ways (bytes_eq x.id e.id) off ((bytes_eq-Decides x.id e.id).1 (sym ((bytes_eq-Decides e.id x.id).0 is)))) in
+    ap (λ b. cond b (Some x) (element_of es e.id)) turned ∙ none-before es e fs apart.1
+  where
+    later : (id : List ℕ) (xs : List Drawn) → AllByRecursion (λ other. bytes_eq id other ≡ false) (ids_of (xs ++ e ∷ fs)) → bytes_eq id e.id ≡ false
+    later id [] all = all.0
+    later id (y ∷ xs) all = later id xs all.1
+
+-- ---- what is followed
+pub followed-is : (live news after stored : List Drawn) → are_rising (ids_of stored) ≡ true → HaveFollowed live news after
+    → ((id : List ℕ) → followed (element_of news id) (element_of live id) ≡ if_live (element_of stored id)) → after ≡ live_elements stored
+followed-is live news after stored rising has each =
+    rows.same_elements after (live_elements stored) has.ordered (live_elements-rise stored rising)
+    (λ id. has.each id ∙ each id ∙ sym (element-live None stored id rising))
+
+followed-live : (n s : Option Drawn) → followed n (if_live s) ≡ if_live (option_or n s)
+followed-live None s = refl
+followed-live (Some e) s = refl
+
+pub taken-followed : (stored changed live news after : List Drawn) → are_rising (ids_of stored) ≡ true → live ≡ live_elements stored
+    → AreTaken stored changed news → HaveFollowed live news after → after ≡ live_elements (taken_all changed stored)
+taken-followed stored changed live news after rising is taken has =
+    followed-is live news after (taken_all changed stored) (taken_all-rising stored changed rising) has
+    (λ id. ap (λ es. followed (element_of news id) (element_of es id)) is ∙ ap (followed (element_of news id)) (element-live None stored id rising)
+    ∙ followed-live (element_of news id) (element_of stored id) ∙ ap if_live (sym (taken.each id)))
+
+pub updated-followed : (stored live news after : List Drawn) (ids : List (List ℕ)) → are_rising (ids_of stored) ≡ true → AreSameButAt ids live (live_elements stored)
+    → ArePicked stored ids news → HaveFollowed live news after → after ≡ live_elements stored
+updated-followed stored live news after ids rising same picked has =
+    followed-is live news after stored rising has (λ id. by id (is_among ids id) refl)
+  where
+    there : (o l : Option Drawn) → is_some o ≡ true → followed o l ≡ if_live o
+    there None l some = cc
+    there (Some e) l some = refl
+
+    by : (id : List ℕ) (b : Bool) → is_among ids id ≡ b → followed (element_of news id) (element_of live id) ≡ if_live (element_of stored id)
+    by id true is =
+        ap (λ o. followed o (element_of live id)) (picked.each id ∙ ap (λ b. cond b (element_of stored id) None) is) ∙ there (element_of stored id) (element_of live id) (picked.there id is)
+    by id false is =
+        ap (λ o. followed o (element_of live id)) (picked.each id ∙ ap (λ b. cond b (element_of stored id) None) is)
+        ∙ same id is ∙ element-live None stored id rising
+
+-- ---- each way of following
+pub replaced-followed : (live news after : List Drawn) → list_all is_live news ≡ true → HaveReplaced live news after → HaveFollowed live news after
+replaced-followed live news after all replaced = record { ordered = replaced.ordered; each = λ id. replaced.each id ∙ by id (element_of news id) refl } where
+  by : (id : List ℕ) (o : Option Drawn) → element_of news id ≡ o → option_or o (element_of live id) ≡ followed o (element_of live id)
+  by id None is = refl
+  by id (Some e) is = sym (live-is e (All-contains (λ x. is_live x ≡ true) news e (AllPass-from_list_all is_live news all) (find-Some (is_of id) news e is).0))
+
+pub gone-followed : (live after : List Drawn) (e : Drawn) → is_live e ≡ false → HasGone live e.id after → HaveFollowed live (e ∷ []) after
+gone-followed live after e not gone = record { ordered = gone.ordered; each = λ id. gone.each id ∙ by id (bytes_eq id e.id) } where
+  by : (id : List ℕ) (b : Bool) → cond b None (element_of live id) ≡ followed (cond b (Some e) None) (element_of live id)
+  by id true = sym (ap (λ b. cond b (Some e) None) not)
+  by id false = refl
+
+-- one goes and comes anew
+pub moved-followed : (live mid after : List Drawn) (e : Drawn) → is_live e ≡ true → HasGone live e.id mid → HaveReplaced mid (e ∷ []) after → HaveFollowed live (e ∷ []) after
+moved-followed live mid after e is gone replaced =
+    record { ordered = replaced.ordered; each = λ id. replaced.each id ∙ ap (option_or (cond (bytes_eq id e.id) (Some e) None)) (gone.each id) ∙ by id (bytes_eq id e.id) } where
+  by : (id : List ℕ) (b : Bool) → option_or (cond b (Some e) None) (cond b None (element_of live id)) ≡ followed (cond b (Some e) None) (element_of live id)
+  by id true = sym (ap (λ b. cond b (Some e) None) is)
+  by id false = refl
+
+-- nothing is followed, and one more each time
+pub none-followed : (live : List Drawn) → are_rising (ids_of live) ≡ true → HaveFollowed live [] live
+none-followed live rising = record { ordered = rising; each = λ id. refl }
+
+-- what is followed is told by the elements alone
+pub same-followed : (live news after other : List Drawn) → HaveFollowed live news after → HaveFollowed live news other → after ≡ other
+same-followed live news after other has also = rows.same_elements after other has.ordered also.ordered (λ id. has.each id ∙ sym (also.each id))
+
+element-append : (es fs : List Drawn) (id : List ℕ) → element_of (es ++ fs) id ≡ option_or (element_of es id) (element_of fs id)
+element-append [] fs id = refl
+element-append (e ∷ es) fs id = elim (is_of id e) as (λ b. cond b (Some e) (element_of (es ++ fs) id) ≡ option_or (cond b (Some e) (element_of es id)) (element_of fs id)) [
+  | true ↦ refl
+  | false ↦ element-append es fs id
+]
+
+pub followed-more : (live mid after news : List Drawn) (i : ℕ) (e : Drawn) → are_rising (ids_of news) ≡ true → i < length news → e ≡ get_or news i e
+    → HaveFollowed live (take i news) mid → HaveFollowed mid (e ∷ []) after → HaveFollowed live (take (i + 1) news) after
+followed-more live mid after news i e rising within there so_far one = record { ordered = one.ordered; each = each } where
+  more : take (i + 1) news ≡ take i news ++ e ∷ []
+  more = take_more news i e within ∙ ap (λ (f : Drawn). take i news ++ f ∷ []) (sym there)
+
+  apart : HaveDistinctIds (take i news ++ e ∷ [])
+  apart = subst HaveDistinctIds more (distinct-taken news (i + 1) (HaveDistinctIds-rising news rising))
+
+  fresh : element_of (take i news) e.id ≡ None
+  fresh = none-before (take i news) e [] apart
+
+  each : (id : List ℕ) → element_of after id ≡ followed (element_of (take (i + 1) news) id) (element_of live id)
+  each id = one.each id ∙ ap (followed (cond (is_of id e) (Some e) None)) (so_far.each id) ∙ by (is_of id e) refl
+      ∙ sym (ap (λ es. followed (element_of es id) (element_of live id)) more ∙ ap (λ o. followed o (element_of live id)) (element-append (take i news) (e ∷ []) id))
+    where
+      by : (b : Bool) → is_of id e ≡ b → followed (cond (is_of id e) (Some e) None) (followed (element_of (take i news) id) (element_of live id))
+          ≡ followed (option_or (element_of (take i news) id) (cond (is_of id e) (Some e) None)) (element_of live id)
+      by true own =
+          let none : element_of (take i news) id ≡ None = ap (element_of (take i news)) (same_id id e own) ∙ fresh in
+          rw (own, none) refl
+      by false other = rw other (last (element_of (take i news) id)) where
+        last : (o : Option Drawn) → followed o (element_of live id) ≡ followed (option_or o None) (element_of live id)
+        last None = refl
+        last (Some x) = refl
+
+-- ---- a view that is kept twice
+pub twin-followed : (old new news : List Drawn) (twin : Option (List Drawn)) → HaveFollowed old news new → IfSome twin (HaveFollowed old news) → IfSome twin (λ t. t ≡ new)
+twin-followed old new news None has is = tt
+twin-followed old new news (Some t) has is = same-followed old news t new is has
+
+pub twin-redrawn : (old new : List Drawn) (e : Drawn) (twin after : Option (List Drawn)) → IfSome twin (λ t. t ≡ old) → HasRedrawn old e new → IfSome after (λ a. IfSome twin (λ b. HasRedrawn b e a)) → (IsSome after → IsSome twin)
+    → IfSome after (λ t. t ≡ new)
+twin-redrawn old new e twin None same has is there = tt
+twin-redrawn old new e None (Some a) same has is there = let never : false ≡ true = there refl in cc
+twin-redrawn old new e (Some b) (Some a) same has is there = is.place ∙ ap (map (redrawn_as e)) same ∙ sym has.place

@@ -1,8 +1,9 @@
 -- A list of ids and the set of them, one id more each time.
-use Rattle.std.proofs.Common.{◌≡◌, ℕ, ◌+◌, ◌<◌, Bool, true, false, not, ◌||◌, List, [], ◌∷◌, ◌++◌, length, take, get_or, bytes_eq, refl, sym, ap, ap₂, ◌∙◌}
+use Rattle.std.proofs.Common.{◌≡◌, ℕ, ◌+◌, ◌<◌, Bool, true, false, not, ◌&&◌, ◌||◌, List, [], ◌∷◌, ◌++◌, length, take, get_or, bytes_eq, refl, sym, ap, ap₂, ◌∙◌}
 use Rattle.std.specs.BTreeSet.{BTreeSet}
 use Rattle.std.specs.Cmp.Lexicographic.{nat_list_eq_equiv}
 use Rattle.std.specs.List.{IsDistinct}
+use Rattle.std.proofs.lemmas.Bool.{both_ways, false_from_ne_true}
 use Rattle.std.proofs.lemmas.List.{take_more}
 use Rattle.std.proofs.lemmas.List.Folds.{list_any-append}
 use Rattle.std.proofs.lemmas.Map.Keys.{IsDistinct-push}
@@ -55,3 +56,34 @@ among-all ids i id within there old mid new before step x =
     by : (a b c : Bool) → (a || (b || c)) ≡ ((a || b) || c)
     by true b c = refl
     by false b c = refl
+
+-- some ids but for one, one more each time
+others-of : (ids : List (List ℕ)) (i : ℕ) (other : List ℕ) → i < length ids → other ≡ get_or ids i other → (x : List ℕ) → is_among (take (i + 1) ids) x ≡ (bytes_eq x other || is_among (take i ids) x)
+others-of ids i other within there x =
+    ap (λ xs. is_among xs x) (take_more ids i other within ∙ ap (λ y. take i ids ++ y ∷ []) (sym there)) ∙ among-push (take i ids) other x
+
+pub others-none : (id : List ℕ) (ids : List (List ℕ)) (x : List ℕ) → is_among [] x ≡ (not (bytes_eq x id) && is_among (take 0 ids) x)
+others-none id ids x = by (not (bytes_eq x id)) where
+  by : (b : Bool) → false ≡ (b && false)
+  by true = refl
+  by false = refl
+
+module _ (id : List ℕ) (ids : List (List ℕ)) (i : ℕ) (other : List ℕ) (within : i < length ids) (there : other ≡ get_or ids i other) (old : List (List ℕ))
+    (so_far : (x : List ℕ) → is_among old x ≡ (not (bytes_eq x id) && is_among (take i ids) x)) where
+  pub others-add : bytes_eq id other ≡ false → (new : List (List ℕ)) → ((x : List ℕ) → is_among new x ≡ (bytes_eq x other || is_among old x))
+      → (x : List ℕ) → is_among new x ≡ (not (bytes_eq x id) && is_among (take (i + 1) ids) x)
+  others-add off new step x = step x ∙ ap (λ b. bytes_eq x other || b) (so_far x) ∙ by (bytes_eq x other) refl ∙ sym (ap (λ b. not (bytes_eq x id) && b) (others-of ids i other within there x)) where
+    apart : bytes_eq x other ≡ true → bytes_eq x id ≡ false
+    apart same = false_from_ne_true (bytes_eq x id) (λ is. both_ways (bytes_eq id other) off ((bytes_eq-Decides id other).1 (sym ((bytes_eq-Decides x id).0 is) ∙ (bytes_eq-Decides x other).0 same)))
+
+    by : (b : Bool) → bytes_eq x other ≡ b → (b || (not (bytes_eq x id) && is_among (take i ids) x)) ≡ (not (bytes_eq x id) && (b || is_among (take i ids) x))
+    by true same = sym (ap (λ b. not b && true) (apart same))
+    by false other' = refl
+
+  pub others-skip : bytes_eq id other ≡ true → (x : List ℕ) → is_among old x ≡ (not (bytes_eq x id) && is_among (take (i + 1) ids) x)
+  others-skip own x = so_far x ∙ by (bytes_eq x other) refl ∙ sym (ap (λ b. not (bytes_eq x id) && b) (others-of ids i other within there x)) where
+    by : (b : Bool) → bytes_eq x other ≡ b → (not (bytes_eq x id) && is_among (take i ids) x) ≡ (not (bytes_eq x id) && (b || is_among (take i ids) x))
+    by true same =
+        let is : bytes_eq x id ≡ true = (bytes_eq-Decides x id).1 ((bytes_eq-Decides x other).0 same ∙ sym ((bytes_eq-Decides id other).0 own)) in
+        ap (λ b. not b && is_among (take i ids) x) is ∙ sym (ap (λ b. not b && true) is)
+    by false other' = refl

@@ -3,6 +3,7 @@ use Rattle.std.proofs.Common.{◌≡◌, ℕ, ◌+◌, ◌<◌, Bool, true, fals
 use Rattle.std.specs.List.{AllByRecursion, IsDistinct, list_any, cons_option}
 use Rattle.std.specs.Option.{option_map_or, option_or}
 use Rattle.std.proofs.lemmas.Bool.{cases_Bool}
+use Rattle.std.proofs.lemmas.Slice.Eq.{bytes_eq-Decides}
 use Rattle.std.proofs.lemmas.List.{take_more}
 use Rattle.std.proofs.lemmas.List.Folds.{list_any-append}
 use Rattle.elem.specs.Drawn.{Drawn}
@@ -15,6 +16,7 @@ use Rattle.links.specs.Steps.{names_id}
 use Rattle.links.proofs.RowLaws.{rows_of-named}
 use Rattle.links.proofs.Tabled.{list_any-map}
 use Rattle.view.specs.Shown.{HaveDistinctIds}
+use Rattle.live_view.specs.Coming.{HasGone}
 use Rattle.live_view.specs.Reached.{is_among, HaveRowsOf}
 use Rattle.live_view.specs.Replacing.{names_as, AreRowsOfAll, HaveReplaced}
 
@@ -24,7 +26,7 @@ either-both a true = refl
 either-both true false = refl
 either-both false false = refl
 
-none-of : (a : Bool) → (a && false) ≡ false
+pub none-of : (a : Bool) → (a && false) ≡ false
 none-of true = refl
 none-of false = refl
 
@@ -112,7 +114,7 @@ rows-one e named namer (id ∷ ids) true is =
 rows-one e named namer (id ∷ ids) false is =
     ap₂ (λ a c. a || c) (ap (λ b. bytes_eq named id && b) is ∙ none-of (bytes_eq named id)) (rows-one e named namer ids false is)
 
-has-rows_of : (e : Drawn) (named namer : List ℕ) → has_row (rows_of e) (record { named = named; namer = namer }) ≡ names_as named namer e
+pub has-rows_of : (e : Drawn) (named namer : List ℕ) → has_row (rows_of e) (record { named = named; namer = namer }) ≡ names_as named namer e
 has-rows_of e named namer = rows-one e named namer _ (bytes_eq namer e.id) refl ∙ ap (λ b. bytes_eq namer e.id && b) (rows_of-named e named)
 
 pub rows-more : (elements : List Drawn) (i : ℕ) (e : Drawn) → i < length elements → e ≡ get_or elements i e → (rows more new : List LinkRow)
@@ -146,3 +148,36 @@ rows-replaced live news after rows old_rows new_rows new apart have are_old are_
     by : (o : Option Drawn) → (option_map_or (names_id named) o false || (here' && not (is_some o && here'))) ≡ option_map_or (names_id named) (option_or o (element_of live namer)) false
     by None = stays here'
     by (Some e) = gone (names_id named e) here'
+
+-- ---- the rows where one element comes or goes
+pub rows-with : (live after : List Drawn) (e : Drawn) (rows new_rows new : List LinkRow) → HaveRowsOf live rows → element_of live e.id ≡ None → new_rows ≡ rows_of e
+    → ((row : LinkRow) → has_row new row ≡ (has_row new_rows row || (has_row rows row && not (has_row [] row)))) → HaveReplaced live (e ∷ []) after → HaveRowsOf after new
+unfolding IsDistinct
+rows-with live after e rows new_rows new have none are has replaced =
+    rows-replaced live (e ∷ []) after rows [] new_rows new (tt, tt) have
+    (λ named namer. sym (ap (λ o. list_any (names_as named namer) (cons_option o [])) none))
+    (λ named namer. ap (λ rs. has_row rs (record { named = named; namer = namer })) are ∙ has-rows_of e named namer ∙ sym (or-none (names_as named namer e)))
+    has replaced
+
+pub rows-without : (live after : List Drawn) (e : Drawn) (rows old_rows new : List LinkRow) → HaveRowsOf live rows → element_of live e.id ≡ Some e → old_rows ≡ rows_of e
+    → ((row : LinkRow) → has_row new row ≡ (has_row [] row || (has_row rows row && not (has_row old_rows row)))) → HasGone live e.id after → HaveRowsOf after new
+rows-without live after e rows old_rows new have known are has gone named namer =
+    has row
+    ∙ ap₂ (λ a b. a && not b) (have named namer) (ap (λ rs. has_row rs row) are ∙ has-rows_of e named namer)
+    ∙ by (bytes_eq namer e.id) refl
+    ∙ sym (ap (λ o. option_map_or (names_id named) o false) (gone.each namer))
+  where
+    row : LinkRow
+    row = record { named = named; namer = namer }
+
+    off : (b : Bool) → (b && not (true && b)) ≡ false
+    off true = refl
+    off false = refl
+
+    on : (b : Bool) → (b && not (false && names_id named e)) ≡ b
+    on true = refl
+    on false = refl
+
+    by : (b : Bool) → bytes_eq namer e.id ≡ b → (option_map_or (names_id named) (element_of live namer) false && not (b && names_id named e)) ≡ option_map_or (names_id named) (cond b None (element_of live namer)) false
+    by true own = ap (λ o. option_map_or (names_id named) o false && not (true && names_id named e)) (ap (element_of live) ((bytes_eq-Decides namer e.id).0 own) ∙ known) ∙ off (names_id named e)
+    by false other = on (option_map_or (names_id named) (element_of live namer) false)

@@ -38,7 +38,7 @@ use Rattle.live_view.proofs.Untouched.{element-map, same_option, index-settled, 
 
 -- ---- lists and options
 -- lists with the same ids and indices have the same index of each id
-index-by_ids : (es fs : List Drawn) (id : List ℕ) → ids_of es ≡ ids_of fs → map index_of es ≡ map index_of fs → option_map index_of (element_of es id) ≡ option_map index_of (element_of fs id)
+pub index-by_ids : (es fs : List Drawn) (id : List ℕ) → ids_of es ≡ ids_of fs → map index_of es ≡ map index_of fs → option_map index_of (element_of es id) ≡ option_map index_of (element_of fs id)
 index-by_ids [] [] id ids indices = refl
 index-by_ids [] (f ∷ fs) id ids indices = cc
 index-by_ids (e ∷ es) [] id ids indices = cc
@@ -52,7 +52,7 @@ index-by_ids (e ∷ es) (f ∷ fs) id ids indices =
     ]
 
 -- an element of a list is one of another list that is the same but for something
-one-of-same : {A : Type 0} (part : Drawn → A) (es fs : List Drawn) → map part es ≡ map part fs → (e : Drawn) → Contains es e → (f : Drawn) × Contains fs f × (part e ≡ part f)
+pub one-of-same : {A : Type 0} (part : Drawn → A) (es fs : List Drawn) → map part es ≡ map part fs → (e : Drawn) → Contains es e → (f : Drawn) × Contains fs f × (part e ≡ part f)
 one-of-same part [] fs same e c = absurd (omega (arith, c.1))
 one-of-same part (x ∷ es) [] same e c = cc
 one-of-same part (x ∷ es) (y ∷ fs) same e c =
@@ -69,7 +69,7 @@ one-of-map f (x ∷ es) e c = elim (Contains-cases (f x) (map f es) e c) [
   | inr more ↦ let later = one-of-map f es e more in (later.0, Contains-cons x es later.0 later.1, later.2)
 ]
 
-element-filter : (q : List ℕ → Bool) (es : List Drawn) (id : List ℕ) → element_of (filter (λ (e : Drawn). q e.id) es) id ≡ cond (q id) (element_of es id) None
+pub element-filter : (q : List ℕ → Bool) (es : List Drawn) (id : List ℕ) → element_of (filter (λ (e : Drawn). q e.id) es) id ≡ cond (q id) (element_of es id) None
 element-filter q [] id = elim (q id) as (λ (b : Bool). element_of [] id ≡ cond b (element_of [] id) None) [ true ↦ refl | false ↦ refl ]
 element-filter q (e ∷ es) id =
     elim (cases_Bool (is_of id e)) [

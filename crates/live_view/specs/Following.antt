@@ -4,6 +4,7 @@ use Rattle.frac_keys.specs.Rising.{are_rising}
 use Rattle.elem.specs.Drawn.{Drawn}
 use Rattle.elem_store.specs.Updates.{element_of, ids_of}
 use Rattle.undoing.specs.Carrying.{taken_all}
+use Rattle.view.specs.Shown.{is_live}
 use Rattle.live_view.specs.Reached.{is_among}
 use Rattle.live_view.specs.Replacing.{element_after}
 
@@ -17,3 +18,13 @@ pub record ArePicked (stored : List Drawn) (ids : List (List ℕ)) (news : List 
 pub record AreTaken (stored changed news : List Drawn) : Type 0 where
   pub ordered : are_rising (ids_of news) ≡ true
   pub each : (id : List ℕ) → element_of (taken_all changed stored) id ≡ element_after stored news id
+
+-- the element of an id after one of it came, changed or was deleted
+abbrev pub followed : Option Drawn → Option Drawn → Option Drawn
+followed None old = old
+followed (Some new) old = if is_live new then Some new else None
+
+-- The live elements of new ones' ids are these, if they are live, and all others are as they were.
+pub record HaveFollowed (live news after : List Drawn) : Type 0 where
+  pub ordered : are_rising (ids_of after) ≡ true
+  pub each : (id : List ℕ) → element_of after id ≡ followed (element_of news id) (element_of live id)

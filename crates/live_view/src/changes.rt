@@ -8,7 +8,7 @@ ghost use Rattle.live_view.specs.Changes.{AreSameButAt};
 ghost use Rattle.undoing.specs.Carrying.{taken_all};
 ghost use Rattle.view.specs.Shown.{live_elements};
 
-use crate::drawing::{are_live, view_of};
+use crate::drawing::kept_of;
 use crate::following::{picked, store_after, stored, taken_of};
 use crate::live::LiveView;
 use elem::{Element, beats};
@@ -27,8 +27,7 @@ impl LiveView {
         if self.update_one(store, ids)? || self.update_near(store, ids)? {
             return Ok(());
         }
-        *self = view_of(*self.shown.allocator(), store)?;
-        Ok(())
+        self.renew(store)
     }
 
     /// Makes this, which is the view of the store, the view of the store after it takes the changed elements in their
@@ -41,10 +40,9 @@ impl LiveView {
         if self.take_one(store, changed)? || self.take_near(store, changed)? {
             return Ok(());
         }
-        let alloc = *self.shown.allocator();
+        let alloc = self.kept.allocator();
         let store = store_after(alloc, store, changed)?;
-        *self = view_of(alloc, &store)?;
-        Ok(())
+        self.renew(&store)
     }
 
     /// Redraws the one element of these ids, if that is all that changes.
@@ -58,25 +56,22 @@ impl LiveView {
             return Ok(false);
         };
         match stored(store, id) {
-            Some(new) => self.redraw_as(new),
+            Some(new) => self.redraw(new),
             None => Ok(false),
         }
     }
 
-    /// Replaces the elements of these ids, if each is held in the place in which it is stored.
+    /// Follows what is stored of these ids, if each is stored and all are found near their places.
     fn update_near(&mut self, store: &Store, ids: &[Text]) -> Result<bool, AllocError>
         requires { AreSameButAt ids.now self.old (live_elements store.now.elements) }
         ensures new { result ≡ Ok true → self.new ≡ live_elements store.now.elements }
         ensures old { OnErr result (self.new ≡ self.old) }
         ensures other { result ≡ Ok false → self.new ≡ self.old }
     {
-        let Some(news) = picked(*self.live.allocator(), store, ids)? else {
-            return Ok(false);
-        };
-        if are_live(&news) {
-            self.replace_all(&news)
-        } else {
-            Ok(false)
+        let alloc = self.kept.allocator();
+        match picked(alloc, store, ids)? {
+            Some(news) => self.follow(&news),
+            None => Ok(false),
         }
     }
 
@@ -93,22 +88,30 @@ impl LiveView {
         if !is_taken(store, new) {
             return Ok(true);
         }
-        self.redraw_as(new)
+        self.redraw(new)
     }
 
-    /// Replaces the elements of the changed ones' ids, if each is held in the place in which it is then stored.
+    /// Follows what is stored of the changed ones' ids once these are taken, if all are found near their places.
     fn take_near(&mut self, store: &Store, changed: &[Element]) -> Result<bool, AllocError>
         requires { self.old ≡ live_elements store.now.elements }
         ensures new { result ≡ Ok true → self.new ≡ live_elements (taken_all changed.now store.now.elements) }
         ensures old { OnErr result (self.new ≡ self.old) }
         ensures other { result ≡ Ok false → self.new ≡ self.old }
     {
-        let news = taken_of(*self.live.allocator(), store, changed)?;
-        if are_live(&news) {
-            self.replace_all(&news)
-        } else {
-            Ok(false)
-        }
+        let alloc = self.kept.allocator();
+        let news = taken_of(alloc, store, changed)?;
+        self.follow(&news)
+    }
+
+    /// Makes this the view of the store anew. For want of memory it is unchanged.
+    fn renew(&mut self, store: &Store) -> Result<(), AllocError>
+        ensures view { OnOk result (self.new ≡ live_elements store.now.elements) }
+        ensures err { OnErr result (self.new ≡ self.old) }
+    {
+        let alloc = self.kept.allocator();
+        let kept = kept_of(alloc, store)?;
+        *self = LiveView { kept, twin: None };
+        Ok(())
     }
 }
 

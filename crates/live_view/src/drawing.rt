@@ -8,7 +8,7 @@ ghost use Rattle.live_view.specs.Reached.{HaveRowsOf};
 ghost use Rattle.view.specs.Settled.{settled};
 ghost use Rattle.view.specs.Shown.{is_live, live_elements, placed, shown, HaveDistinctIds, HaveKeysOrNone};
 
-use crate::live::LiveView;
+use crate::kept::Kept;
 use crate::order;
 use crate::replacing::rows_of_all;
 use board_io::List;
@@ -19,14 +19,14 @@ use links::{LinkTable, settle_arrows, settle_texts};
 use std::alloc::{AllocError, Global};
 use view::with_repaired_keys;
 
-/// The view of a store. Fails only for want of memory.
-pub(crate) fn view_of(alloc: Global, store: &Store) -> Result<LiveView, AllocError>
-    ensures { IfOk result (λ view. view ≡ live_elements store.now.elements) }
+/// What is kept of a store. Fails only for want of memory.
+pub(crate) fn kept_of(alloc: Global, store: &Store) -> Result<Kept, AllocError>
+    ensures { IfOk result (λ kept. kept ≡ live_elements store.now.elements) }
 {
     let live = live_of(alloc, store)?;
-    let shown = shown_of(alloc, copied(alloc, &live)?)?;
+    let shown = shown_of(alloc, List::from_vec(elements_copied(alloc, &live)?))?;
     let table = table_of(alloc, &live)?;
-    Ok(LiveView {
+    Ok(Kept {
         live,
         shown: shown.into_vec(),
         table,
@@ -34,7 +34,7 @@ pub(crate) fn view_of(alloc: Global, store: &Store) -> Result<LiveView, AllocErr
 }
 
 /// The table of who names whom.
-fn table_of(alloc: Global, live: &Vec<Element>) -> Result<LinkTable, AllocError>
+pub(crate) fn table_of(alloc: Global, live: &Vec<Element>) -> Result<LinkTable, AllocError>
     requires { HaveDistinctIds live.now.items }
     ensures { IfOk result (λ table. HaveRowsOf live.now.items table.rows) }
 {
@@ -76,14 +76,17 @@ fn is_live(e: &Element) -> bool
 }
 
 /// Copies of the elements.
-fn copied(alloc: Global, elements: &Vec<Element>) -> Result<List<Element>, AllocError>
-    ensures { IfOk result (λ copies. copies ≡ elements.now.items) }
+pub(crate) fn elements_copied(
+    alloc: Global,
+    elements: &Vec<Element>,
+) -> Result<Vec<Element>, AllocError>
+    ensures { IfOk result (λ copies. copies.items ≡ elements.now.items) }
 {
     let mut copies = Vec::with_capacity(alloc, elements.len())?;
     for e in elements {
         copies.push(e.try_clone()?)?;
     }
-    Ok(List::from_vec(copies))
+    Ok(copies)
 }
 
 /// What is shown of the live elements: they are placed, and then settled.

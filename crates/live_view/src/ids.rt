@@ -2,6 +2,7 @@
 
 ghost use Rattle.std.specs.Prelude.{◌≡◌, ℕ, List as Items, [], ◌||◌, not, bytes_eq, OnOk, IfOk};
 ghost use Rattle.links.specs.Tables.{has_seen};
+ghost use Rattle.live_view.specs.Coming.{AreOthers};
 ghost use Rattle.live_view.specs.Reached.{is_among, AreIds};
 
 use scene_json::Text;
@@ -57,6 +58,21 @@ impl Ids {
             self.add(id)?;
         }
         Ok(())
+    }
+
+    /// The ids but for one, copied.
+    pub(crate) fn without(&self, alloc: Global, id: &Text) -> Result<Ids, AllocError>
+        requires { AreIds self.now.list.items self.now.seen }
+        ensures are { IfOk result (λ ids. AreIds ids.list.items ids.seen) }
+        ensures others { IfOk result (λ ids. AreOthers id.now self.now.list.items ids.list.items) }
+    {
+        let mut ids = Ids::new(alloc);
+        for other in &self.list {
+            if *id != *other {
+                ids.add(other)?;
+            }
+        }
+        Ok(ids)
     }
 
     /// The same ids, copied.

@@ -1,6 +1,6 @@
 //! Elements by their ids and by their places.
 
-ghost use Rattle.std.specs.Prelude.{◌≡◌, ◌<◌, true, length, option_copied, IfErr, IfOk, IfSome, IsSomeAnd, IsTrue, All, slice_set};
+ghost use Rattle.std.specs.Prelude.{◌≡◌, ◌<◌, true, length, option_copied, IfErr, IfOk, IfSome, IsSomeAnd, IsTrue, All, slice_set, vec_len, vec_capacity};
 ghost use Rattle.std.specs.Ordering.{nat_cmp};
 ghost use Rattle.std.specs.Cmp.Lexicographic.{slice_cmp};
 ghost use Rattle.frac_keys.specs.Rising.{are_rising};
@@ -73,7 +73,7 @@ fn has_id(e: &Element, id: &Text) -> bool
 }
 
 /// How the stored element of a shown one compares with another stored one in scene order.
-fn order_of(live: &Vec<Element>, shown: &Element, e: &Element) -> Ordering {
+pub(crate) fn order_of(live: &Vec<Element>, shown: &Element, e: &Element) -> Ordering {
     match place_of(live, &shown.id) {
         Ok(i) => scene_order(&live[i], e),
         Err(_) => Ordering::Less,
@@ -83,7 +83,9 @@ fn order_of(live: &Vec<Element>, shown: &Element, e: &Element) -> Ordering {
 /// Puts elements at their places.
 pub(crate) fn put_all(elements: &mut Vec<Element>, puts: Vec<Put>)
     requires { All (IsWithin elements.old.items) puts.items }
-    ensures { elements.new.items ≡ all_put puts.items elements.old.items }
+    ensures items { elements.new.items ≡ all_put puts.items elements.old.items }
+    ensures len { vec_len elements.new ≡ vec_len elements.old }
+    ensures room { vec_capacity elements.new ≡ vec_capacity elements.old }
 {
     for put in puts {
         let Put { at, e } = put;
@@ -94,7 +96,9 @@ pub(crate) fn put_all(elements: &mut Vec<Element>, puts: Vec<Put>)
 /// Puts the element at this place.
 pub(crate) fn replace(elements: &mut Vec<Element>, place: usize, e: Element)
     requires { place < length elements.old.items }
-    ensures { elements.new.items ≡ slice_set elements.old.items place e }
+    ensures items { elements.new.items ≡ slice_set elements.old.items place e }
+    ensures len { vec_len elements.new ≡ vec_len elements.old }
+    ensures room { vec_capacity elements.new ≡ vec_capacity elements.old }
 {
     elements[place] = e;
 }

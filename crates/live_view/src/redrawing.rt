@@ -4,7 +4,7 @@
 ghost use Rattle.std.specs.Prelude.{◌≡◌, ◌<◌, Some, Ok, true, false, map, OnErr, length, slice_get, slice_set, IfOk, IfSome, IsTrue, IsSomeAnd, bytes_eq, vec_len};
 ghost use Rattle.live_view.specs.Changes.{outline, redrawn_as, HasRedrawn, IsRedrawn};
 
-use crate::live::LiveView;
+use crate::kept::Kept;
 use crate::places::{place_of, place_shown, replace};
 use board_io::List;
 use elem::{Element, same};
@@ -19,7 +19,7 @@ struct Redrawing {
     shown: Element,
 }
 
-impl LiveView {
+impl Kept {
     /// Lets the element take the place of that of its id, if they have one outline, and tells whether they do. For want of
     /// memory nothing changes.
     pub(crate) fn redraw_as(&mut self, new: &Element) -> Result<bool, AllocError>

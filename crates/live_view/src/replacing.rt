@@ -16,7 +16,7 @@ ghost use Rattle.live_view.specs.Replacing.{AreRepairs, AreRowsOfAll, HaveReplac
 
 use crate::drawing::settled_of;
 use crate::ids::Ids;
-use crate::live::LiveView;
+use crate::kept::Kept;
 use crate::order;
 use crate::places::{Put, element_of, place_of, place_shown, put_all};
 use crate::reach::{reached, started_by};
@@ -27,7 +27,7 @@ use links::{LinkRow, LinkTable, rows_of};
 use scene_json::Text;
 use std::alloc::{AllocError, Global};
 
-impl LiveView {
+impl Kept {
     /// Lets elements take the places of those of their ids, if each is held with the same index, and tells whether they
     /// do. For want of memory nothing changes.
     pub(crate) fn replace_all(&mut self, news: &Vec<Element>) -> Result<bool, AllocError>
@@ -138,7 +138,7 @@ fn shown_puts(
 }
 
 /// The elements of these ids after the new ones took their places, in scene order, settled.
-fn settled_after(
+pub(crate) fn settled_after(
     alloc: Global,
     live: &Vec<Element>,
     news: &Vec<Element>,
@@ -192,7 +192,7 @@ fn element_after<'a>(
 
 /// Those of the elements that are of these ids, at the places where they are shown and with the keys of these, if they are
 /// found.
-fn puts_near(
+pub(crate) fn puts_near(
     alloc: Global,
     live: &Vec<Element>,
     shown: &Vec<Element>,

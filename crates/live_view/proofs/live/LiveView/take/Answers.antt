@@ -1,4 +1,5 @@
 use Rattle.std.proofs.Common.{ap, ◌∙◌}
+use Rattle.std.proofs.lemmas.Result.{on_ok_weaker}
 use Rattle.elem_store.proofs.StoreLaws.{AreStored-itself}
 use Rattle.undoing.proofs.TakenLaws.{taken_all-is}
 use Rattle.view.specs.Shown.{live_elements}
@@ -7,6 +8,6 @@ use Rattle.live_view.proofs.live.LiveView.take.Goals as goal
 pub returns-clause-view : goal.returns-clause-view
 returns-clause-view c =
     let stored = c.args.store.now.elements in
-    c.drop.view_is
-    ∙ (c.in_ok-self-inside.ensures
-    ∙ ap live_elements (taken_all-is stored stored c.args.changed.now c.in_ok-store.store.elements (AreStored-itself stored c.in_ok-store.ensures.ordered) c.in_ok-store.ensures.stored))
+    on_ok_weaker c.renew.result
+    (λ is. is ∙ ap live_elements (taken_all-is stored stored c.args.changed.now c.in_ok-store.store.elements (AreStored-itself stored c.in_ok-store.ensures.ordered) c.in_ok-store.ensures.stored))
+    c.renew.ensures.view

@@ -1,8 +1,7 @@
-use Rattle.std.proofs.Common.{sym, ◌∙◌}
-use Rattle.live_view.proofs.FollowingLaws.{taken-near}
+use Rattle.live_view.proofs.FollowingLaws.{taken-followed}
 use Rattle.live_view.proofs.live.LiveView.take_near.Goals as goal
 
-pub returns-then-are_live-clause-new : goal.returns-then-are_live-clause-new
-returns-then-are_live-clause-new c ok =
-    taken-near c.args.store.now.elements c.args.changed.now c.args.self.now c.in_ok-news.news.items c.replace_all.new.self c.in_ok-news.ensures.ordered c.requires c.in_ok-news.ensures.taken
-    (sym c.are_live.ensures ∙ c.if-are_live.true) (c.replace_all.ensures.new ok)
+pub returns-clause-new : goal.returns-clause-new
+returns-clause-new c ok =
+    taken-followed c.args.store.now.elements c.args.changed.now c.args.self.now c.in_ok-news.news.items c.follow.new.self c.in_ok-news.ensures.ordered c.requires c.in_ok-news.ensures.taken
+    (c.follow.ensures.new ok)

@@ -22,6 +22,6 @@ returns-clause-new c ok =
     let stored = c.args.store.now.elements in
     let e = c.new-item.result in
     taken-redrawn stored (taken e stored) e c.is_taken.ensures.ordered (taken-has stored e c.is_taken.ensures.ordered)
-    c.redraw_as.new.self (sym c.is_taken.ensures.taken ∙ c.if-not-is_taken.false)
-    (subst (λ live. HasRedrawn live e c.redraw_as.new.self) c.requires (c.redraw_as.ensures.new ok))
+    c.redraw.new.self (sym c.is_taken.ensures.taken ∙ c.if-not-is_taken.false)
+    (subst (λ live. HasRedrawn live e c.redraw.new.self) c.requires (c.redraw.ensures.new ok))
     ∙ ap live_elements (sym (one (goal.at.returns-clause-new c).After-is_taken))
