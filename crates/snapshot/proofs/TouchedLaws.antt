@@ -113,10 +113,6 @@ abbrev pub all_found : List Drawn → List (List ℕ) → List Drawn → List Dr
 all_found stored [] es = es
 all_found stored (id ∷ ids) es = all_found stored ids (with_made (element_of stored id) es)
 
-found-push : (stored : List Drawn) (ids : List (List ℕ)) (id : List ℕ) (es : List Drawn) → all_found stored (ids ++ id ∷ []) es ≡ with_made (element_of stored id) (all_found stored ids es)
-found-push stored [] id es = refl
-found-push stored (i ∷ ids) id es = found-push stored ids id (with_made (element_of stored i) es)
-
 found-rise : (stored : List Drawn) (ids : List (List ℕ)) (es : List Drawn) → are_rising (ids_of es) ≡ true → are_rising (ids_of (all_found stored ids es)) ≡ true
 found-rise stored [] es h = h
 found-rise stored (i ∷ ids) es h = found-rise stored ids (with_made (element_of stored i) es) (made-rises (element_of stored i) es h)
@@ -150,37 +146,48 @@ module _ (stored : List Drawn) where
       ∙ ap (λ e. cond (is_among ids id) (option_or (element_of stored id) e) e) (made-each i es id)
       ∙ twice (is_among ids id) (bytes_eq id i) (element_of stored id) (element_of es id)
 
-  module _ (held : List Drawn) (held_rise : are_rising (ids_of held) ≡ true) where
-    both-same : (b : Bool) (e : Drawn) (s h : Option Drawn) → s ≡ Some e → h ≡ Some e → cond b (option_or s h) h ≡ Some e
-    both-same true e s h p q = ap (λ o. option_or o h) p
-    both-same false e s h p q = q
+  -- what is stored of their ids
+  abbrev pub AreFound : List Drawn → Type 0
+  AreFound copies = (id : List ℕ) (x : Drawn) → element_of copies id ≡ Some x → element_of stored id ≡ Some x
 
+  module _ (held : List Drawn) (held_rise : are_rising (ids_of held) ≡ true) where
     -- the next of the copies
-    pub found-more : (ids : List (List ℕ)) (id : List ℕ) (copies new : List Drawn) (old o : Option Drawn) → are_rising (ids_of copies) ≡ true → with_all_put copies held ≡ all_found stored ids held
-        → old ≡ element_of held id → o ≡ element_of stored id → HasPutStored copies old o new
-        → (with_all_put new held ≡ all_found stored (ids ++ id ∷ []) held) × (are_rising (ids_of new) ≡ true)
-    found-more ids id copies new old None rise over own is put = (
-      ap (λ es. with_all_put es held) put ∙ over ∙ ap (λ o. with_made o (all_found stored ids held)) is ∙ sym (found-push stored ids id held),
-      ap (λ es. are_rising (ids_of es)) put ∙ rise,
-    )
-    found-more ids id copies new old (Some e) rise over own is (inl put) = (
-      ap (λ es. with_all_put es held) put ∙ put-below e copies held rise held_rise ∙ ap (with_put e) over ∙ ap (λ o. with_made o (all_found stored ids held)) is ∙ sym (found-push stored ids id held),
-      ap (λ es. are_rising (ids_of es)) put ∙ rises e copies rise,
-    )
-    found-more ids id copies new old (Some e) rise over own is (inr same) = (
-      ap (λ es. with_all_put es held) same.0 ∙ over
-          ∙ sym (put-there e (all_found stored ids held) (found-rise stored ids held held_rise) there)
-          ∙ ap (λ o. with_made o (all_found stored ids held)) is ∙ sym (found-push stored ids id held),
-      ap (λ es. are_rising (ids_of es)) same.0 ∙ rise,
-    )
-      where
+    module _ (id : List ℕ) (copies new : List Drawn) (old : Option Drawn) (rise : are_rising (ids_of copies) ≡ true) (found : AreFound copies) (own : old ≡ element_of held id) where
+      module _ (e : Drawn) (is : Some e ≡ element_of stored id) where
         named : e.id ≡ id
         named = found-id stored id (Some e) is
 
-        there : element_of (all_found stored ids held) e.id ≡ Some e
-        there =
-            found-each ids held e.id
-            ∙ both-same (is_among ids e.id) e (element_of stored e.id) (element_of held e.id) (ap (element_of stored) named ∙ sym is) (ap (element_of held) named ∙ sym own ∙ same.1)
+        there : old ≡ Some e → element_of (with_all_put copies held) e.id ≡ Some e
+        there same = all-each copies held e.id rise ∙ joined (element_of copies e.id) refl
+          where
+            joined : (o : Option Drawn) → element_of copies e.id ≡ o → option_or o (element_of held e.id) ≡ Some e
+            joined None has = ap (element_of held) named ∙ sym own ∙ same
+            joined (Some x) has = sym (found e.id x has) ∙ ap (element_of stored) named ∙ sym is
+
+        still-found : new ≡ with_put e copies → AreFound new
+        still-found put i x has =
+            let one = sym (ap (λ es. element_of es i) put ∙ put-each e copies i) ∙ has in
+            elim (cases_Bool (is_of i e)) [
+              | inl t ↦ ap (element_of stored) (same_id i e t ∙ named) ∙ sym is ∙ sym (cond-true (is_of i e) (Some e) (element_of copies i) t) ∙ one
+              | inr f ↦ found i x (sym (cond-false (is_of i e) (Some e) (element_of copies i) f) ∙ one)
+            ]
+
+      pub found-over : (o : Option Drawn) → o ≡ element_of stored id → HasPutStored copies old o new → with_all_put new held ≡ with_made (element_of stored id) (with_all_put copies held)
+      found-over None is put = ap (λ es. with_all_put es held) put ∙ ap (λ o. with_made o (with_all_put copies held)) is
+      found-over (Some e) is (inl put) = ap (λ es. with_all_put es held) put ∙ put-below e copies held rise held_rise ∙ ap (λ o. with_made o (with_all_put copies held)) is
+      found-over (Some e) is (inr same) =
+          ap (λ es. with_all_put es held) same.0 ∙ sym (put-there e (with_all_put copies held) (all-rise copies held held_rise) (there e is same.1))
+          ∙ ap (λ o. with_made o (with_all_put copies held)) is
+
+      pub found-ordered : (o : Option Drawn) → HasPutStored copies old o new → are_rising (ids_of new) ≡ true
+      found-ordered None put = ap (λ es. are_rising (ids_of es)) put ∙ rise
+      found-ordered (Some e) (inl put) = ap (λ es. are_rising (ids_of es)) put ∙ rises e copies rise
+      found-ordered (Some e) (inr same) = ap (λ es. are_rising (ids_of es)) same.0 ∙ rise
+
+      pub found-found : (o : Option Drawn) → o ≡ element_of stored id → HasPutStored copies old o new → AreFound new
+      found-found None is put = λ i x has. found i x (ap (λ es. element_of es i) (sym put) ∙ has)
+      found-found (Some e) is (inl put) = still-found e is put
+      found-found (Some e) is (inr same) = λ i x has. found i x (ap (λ es. element_of es i) (sym same.0) ∙ has)
 
     or-same : (o : Option Drawn) → option_or o o ≡ o
     or-same None = refl
