@@ -38,7 +38,7 @@ pub(crate) struct Board {
 impl Board {
     /// With nothing stored.
     pub(crate) fn new(alloc: Global) -> Board
-        ensures { told result ≡ record { stored = []; view = []; snapshot = []; stacks = record { undo = []; redo = [] } } }
+        ensures empty { told result ≡ record { stored = []; view = []; snapshot = []; stacks = record { undo = []; redo = [] } } }
         ensures untouched { IsUntouched result }
     {
         Board {

@@ -13,8 +13,10 @@ store_given-requires-clause-given c =
     (command-given board.store.elements (shown board.view) c.args.command.now c.args.time c.args.nonce c.in_ok-given.given c.self.invariant.0.0.stored_rise c.in_ok-given.ensures.exact)
 
 pub invariant_of-self-2 : goal.invariant_of-self-2
-invariant_of-self-2 c =
-    change-told (told c.self.inside.board) (told c.store_given.new.self) c.self.inside.held c.args.self.now c.self.view_is c.self.invariant.0 c.args.capture c.as_slice.result.now c.in_ok-store_given.ensures.ok
+invariant_of-self-2 c = (
+  change-told (told c.self.inside.board) (told c.store_given.new.self) c.self.inside.held c.args.self.now c.self.view_is c.self.invariant.0 c.args.capture c.as_slice.result.now c.in_ok-store_given.ensures.ok,
+  c.store_given.ensures.untouched,
+)
 
 pub returns-clause-after : goal.returns-clause-after
 returns-clause-after c =
