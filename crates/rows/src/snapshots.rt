@@ -76,9 +76,15 @@ fn is_of_one_id(old: &Element, new: &Element) -> bool
 /// What is captured of an element that is set here and deleted by what is delivered, and of one that comes with it.
 fn captured(alloc: Global, planned: bool) -> Result<Vec<u8>, Fail> {
     let (mut store, mut snapshot) = (Store::new(alloc), Snapshot::new(alloc));
-    take(&mut store, framed(alloc, "rectangle", "a", (1, "f", false))?)?;
+    take(
+        &mut store,
+        framed(alloc, "rectangle", "a", (1, "f", false))?,
+    )?;
     snapshot.capture(&store)?;
-    take(&mut store, framed(alloc, "rectangle", "a", (2, "g", false))?)?;
+    take(
+        &mut store,
+        framed(alloc, "rectangle", "a", (2, "g", false))?,
+    )?;
     for (id, version, frame, deleted) in [("a", 3, "g", true), ("b", 1, "f", false)] {
         let e = framed(alloc, "rectangle", id, (version, frame, deleted))?;
         deliver(&mut snapshot, &mut store, e, planned)?;
