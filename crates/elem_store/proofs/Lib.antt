@@ -8,3 +8,4 @@ pub mod SortedUpdates
 pub mod Edits
 pub mod Placed
 pub mod Stored
+pub mod Woven

@@ -2,12 +2,12 @@
 use Rattle.std.proofs.Common.{◌≡◌, ℕ, zero, suc, ◌+◌, ◌<◌, ◌≤◌, ◌≢◌, Bool, true, false, cond, List, [], ◌∷◌, ◌++◌, length, get_or, take, drop, set, Option, Some, None, Result, Ok, Err, Ordering, Less, Equal, Greater, All, IsSomeAnd, IfOk, IfErr, slice_get, option_and_then, insert, is_lt, nat_cmp, refl, sym, ap, ap₂, ◌∙◌, subst₂, inl, inr, length-set, length-take, length-drop, length-append, arith}
 use Rattle.std.specs.Cmp.Lexicographic.{slice_cmp}
 use Rattle.std.specs.List.{cons_option}
-use Rattle.std.specs.List.Sorted.{IsBinarySearchResult, IsNonDecreasingBy, IsSearchInRange}
+use Rattle.std.specs.List.Sorted.{IsNonDecreasingBy}
 use Rattle.std.specs.Option.{option_map_or}
 use Rattle.std.specs.Ordering.{ordering_index, ordering_reverse}
 use Rattle.std.proofs.lemmas.Bool.{false_from_ne_true, cases_eq, cases_order}
 use Rattle.std.proofs.lemmas.Cmp.{nat_list_cmp_total}
-use Rattle.std.proofs.lemmas.List.{get_or-take, get_or-drop, same_lists, get_or-set_same, get_or-set_other}
+use Rattle.std.proofs.lemmas.List.{get_or_default, get_or-take, get_or-drop, same_lists, get_or-set_same, get_or-set_other}
 use Rattle.std.proofs.lemmas.List.Edits.{length-insert}
 use Rattle.std.proofs.lemmas.List.Elements.{All-head, All-tail, All-cons, All-take, All-drop, All-append, All-weaker, filter_map-append}
 use Rattle.std.proofs.lemmas.List.Sorted.{searchable_from_sorted}
@@ -18,7 +18,7 @@ use Rattle.frac_keys.specs.Rising.{are_rising}
 use Rattle.elem.specs.Drawn.{Drawn}
 use Rattle.elem.specs.Order.{beats}
 use Rattle.elem_store.specs.Updates.{element_of, ids_of, is_taken, HasTaken}
-use Rattle.elem_store.specs.Places.{elements_at, AreInOrder, IsAt, IsGapFor}
+use Rattle.elem_store.specs.Places.{elements_at, order_at, AreInOrder, IsAt, IsGapFor}
 use Rattle.elem_store.proofs.Rising.{earlier_less, less-less, less-other}
 use Rattle.elem_store.proofs.Edits.{element-at, is_taken-at, HasTaken-set, HasTaken-not, HasTaken-insert}
 
@@ -89,9 +89,16 @@ module _ (elements : List Drawn) (places : List ℕ) (h : AllWithin elements pla
       sym (ap (option_and_then (slice_get elements)) (slice_get-get_or places i n l)) ∙ sym (get-at elements places i h)
       ∙ slice_get-get_or (elements_at elements places) i d (rw (length-at elements places h) l)
 
--- how the id of the element at a place compares with an id
-abbrev pub order_at : List Drawn → List ℕ → ℕ → Ordering
-order_at elements id place = option_map_or (λ (e : Drawn). slice_cmp nat_cmp e.id id) (slice_get elements place) Less
+-- the least comparison, and the greatest one
+least : (c : Ordering) → ordering_index c ≤ 0 → c ≡ Less
+least Less h = refl
+least Equal h = absurd (omega arith)
+least Greater h = absurd (omega arith)
+
+greatest : (c : Ordering) → 2 ≤ ordering_index c → c ≡ Greater
+greatest Less h = absurd (omega arith)
+greatest Equal h = absurd (omega arith)
+greatest Greater h = refl
 
 module _ (elements : List Drawn) (places : List ℕ) (o : AreInOrder elements places) (id : List ℕ) where
   order_at-index : (i n : ℕ) (d : Drawn) → i < length places → order_at elements id (get_or places i n) ≡ slice_cmp nat_cmp (get_or (elements_at elements places) i d).id id
@@ -108,7 +115,21 @@ module _ (elements : List Drawn) (places : List ℕ) (o : AreInOrder elements pl
       let rise = searchable_from_sorted nat_list_cmp_total (λ (e : Drawn). e.id) among id sorted i j x.0 le (rw count l) in
       subst₂ (λ a b. ordering_index a ≤ ordering_index b) (sym (order_at-index i n x.0 (omega arith))) (sym (order_at-index j n x.0 l)) rise
 
-  searched-found : (i : ℕ) → i < length places → order_at elements id (get_or places i 0) ≡ Equal → IsAt (elements_at elements places) id i
+  -- what is found at the middle of the places is so before it, or from it on
+  pub less-before : (m : ℕ) → m < length places → order_at elements id (get_or places m 0) ≡ Less → (k d : ℕ) → k < m + 1 → order_at elements id (get_or places k d) ≡ Less
+  less-before m l less k d n =
+      let rise = comparisons_rise k m 0 (omega arith) l in
+      ap (order_at elements id) (get_or_default places k d 0 (omega arith))
+      ∙ least (order_at elements id (get_or places k 0)) (omega (arith, ap ordering_index less))
+
+  pub greater-from : (m : ℕ) → m < length places → order_at elements id (get_or places m 0) ≡ Greater → (k d : ℕ) → m ≤ k → k < length places → order_at elements id (get_or places k d) ≡ Greater
+  greater-from m l greater k d n o =
+      let rise = comparisons_rise m k 0 n o in
+      ap (order_at elements id) (get_or_default places k d 0 o)
+      ∙ greatest (order_at elements id (get_or places k 0)) (omega (arith, ap ordering_index greater))
+
+  -- a search by id ends at the id, or at the gap for it
+  pub searched-found : (i : ℕ) → i < length places → order_at elements id (get_or places i 0) ≡ Equal → IsAt (elements_at elements places) id i
   searched-found i l equal =
       let x = some_within elements (get_or places i 0) (o.within i 0 l) in
       let among = elements_at elements places in
@@ -118,25 +139,19 @@ module _ (elements : List Drawn) (places : List ℕ) (o : AreInOrder elements pl
   greater-less : (a b : List ℕ) → slice_cmp nat_cmp a b ≡ Greater → bytes_less b a ≡ true
   greater-less a b h = ap is_lt (nat_list_cmp_total.antisymm b a ∙ ap ordering_reverse h)
 
-  searched-gap : (i : ℕ) → i ≤ length places → IsBinarySearchResult (order_at elements id) places (Err i) → IsGapFor (elements_at elements places) id i
-  searched-gap i le parted =
+  pub searched-gap : (i : ℕ) → i ≤ length places → ((k d : ℕ) → k < i → order_at elements id (get_or places k d) ≡ Less) → ((k d : ℕ) → i ≤ k → k < length places → order_at elements id (get_or places k d) ≡ Greater) → IsGapFor (elements_at elements places) id i
+  searched-gap i le less greater =
       let among = elements_at elements places in
       let count = length-at elements places o.within in
-      let parts = parted comparisons_rise in
       record {
         in_range = rw count le;
         less_before = λ k d l.
             let m : k < i = omega (arith, length-take i among) in
-            rw (get_or-take i among k d m) (ap is_lt (sym (order_at-index k 0 d (omega arith)) ∙ parts.0 k 0 (omega arith) m));
+            rw (get_or-take i among k d m) (ap is_lt (sym (order_at-index k 0 d (omega arith)) ∙ less k 0 m));
         greater_after = λ k d l.
             let m : i + k < length places = omega (arith, length-drop i among) in
-            rw (get_or-drop i among k d) (greater-less (get_or among (i + k) d).id id (sym (order_at-index (i + k) 0 d m) ∙ parts.1 (i + k) 0 (omega arith) m));
+            rw (get_or-drop i among k d) (greater-less (get_or among (i + k) d).id id (sym (order_at-index (i + k) 0 d m) ∙ greater (i + k) 0 (omega arith) m));
       }
-
-  -- a search by id ends at the id, or at the gap for it
-  pub searched : (r : Result ℕ ℕ) → IsSearchInRange r (length places) → IsBinarySearchResult (order_at elements id) places r → IfOk r (IsAt (elements_at elements places) id) × IfErr r (IsGapFor (elements_at elements places) id)
-  searched (Ok i) in_range equal = (searched-found i in_range (equal 0), tt)
-  searched (Err i) in_range parted = (tt, searched-gap i in_range parted)
 
 -- what an element added at the end of the list is among them
 module _ (elements : List Drawn) (places : List ℕ) (o : AreInOrder elements places) (e : Drawn) (i : ℕ) (gap : IsGapFor (elements_at elements places) e.id i) where

@@ -1,5 +1,10 @@
 -- How a store keeps its elements: as they came, beside their places in the order of their ids. This project's own.
 use Rattle.std.specs.Prelude.{◌≡◌, ℕ, ◌-◌, min, ◌<◌, ◌≤◌, List, true, All, length, take, drop, filter_map, slice_get, IsSomeAnd}
+use Rattle.std.specs.Cmp.Lexicographic.{slice_cmp}
+use Rattle.std.specs.Option.{option_map_or}
+use Rattle.std.specs.Ordering.{nat_cmp}
+use Rattle.std.specs.declared.cmp.Ordering.{Ordering}
+use Rattle.std.specs.declared.cmp.Ordering.TheVariants.{Less}
 use Rattle.frac_keys.specs.Keys.{bytes_less}
 use Rattle.frac_keys.specs.Rising.{are_rising}
 use Rattle.elem.specs.Drawn.{Drawn}
@@ -9,15 +14,19 @@ use Rattle.elem_store.specs.Updates.{ids_of}
 abbrev pub elements_at : List Drawn → List ℕ → List Drawn
 elements_at elements places = filter_map (slice_get elements) places
 
--- how many more elements fit in so much room for elements and places, of which so much is taken
+-- how many more elements fit in so much room, of which so much is taken, where so many more places do
 abbrev pub spare_in : ℕ → ℕ → ℕ → ℕ
-spare_in elements_room places_room count = min (elements_room - count) (places_room - count)
+spare_in room count spare = min (room - count) spare
 
 -- There are as many places as elements, each within the list, and the ids rise along them, so that no place comes twice.
 pub record AreInOrder (elements : List Drawn) (places : List ℕ) : Type 0 where
   pub within : All (λ place. place < length elements) places
   pub full : length places ≡ length elements
   pub ordered : are_rising (ids_of (elements_at elements places)) ≡ true
+
+-- how the id of the element at a place compares with an id
+abbrev pub order_at : List Drawn → List ℕ → ℕ → Ordering
+order_at elements id place = option_map_or (λ (e : Drawn). slice_cmp nat_cmp e.id id) (slice_get elements place) Less
 
 -- the element at the index has the id
 abbrev pub IsAt : List Drawn → List ℕ → ℕ → Type 0

@@ -2,6 +2,7 @@
 #![tactic(auto)]
 
 pub mod laws;
+mod indexed;
 mod places;
 mod store;
 

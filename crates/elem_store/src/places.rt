@@ -1,12 +1,10 @@
 //! Elements as they came, and their places in the order of their ids.
 
-ghost use Rattle.std.specs.Prelude.{◌≡◌, ◌<◌, ◌≤◌, [], ◌∷◌, ◌++◌, length, insert, slice_get, slice_index_or, slice_set, if◌then◌else◌, IfOk, IfErr, OnOk, IsOk, vec_len, vec_capacity};
-ghost use Rattle.std.specs.Option.{option_map_or};
-ghost use Rattle.std.specs.Ordering.{nat_cmp};
-ghost use Rattle.std.specs.Cmp.Lexicographic.{slice_cmp};
+ghost use Rattle.std.specs.Prelude.{◌≡◌, ◌+◌, ◌<◌, ◌≤◌, [], ◌∷◌, ◌++◌, length, insert, slice_index, slice_index_or, slice_set, if◌then◌else◌, IfOk, IfErr, OnOk, IsOk, vec_len, vec_capacity};
 ghost use Rattle.elem.specs.Order as order;
-ghost use Rattle.elem_store.specs.Places.{elements_at, AreInOrder, IsAt, IsGapFor};
+ghost use Rattle.elem_store.specs.Places.{elements_at, order_at, AreInOrder, IsAt, IsGapFor};
 
+use crate::indexed::Places;
 use elem::{Element, beats};
 use scene_json::Text;
 use std::alloc::AllocError;
@@ -15,19 +13,37 @@ use std::cmp::Ordering;
 /// The index of the place at which the element of this id is, or the index that its place would have.
 pub(crate) fn find_place(
     elements: &Vec<Element>,
-    places: &Vec<usize>,
+    places: &Places,
     id: &Text,
 ) -> Result<usize, usize>
-    requires { AreInOrder elements.now.items places.now.items }
-    ensures found { IfOk result (IsAt (elements_at elements.now.items places.now.items) id.now) }
-    ensures absent { IfErr result (IsGapFor (elements_at elements.now.items places.now.items) id.now) }
+    requires { AreInOrder elements.now.items places.now.places }
+    ensures found { IfOk result (IsAt (elements_at elements.now.items places.now.places) id.now) }
+    ensures absent { IfErr result (IsGapFor (elements_at elements.now.items places.now.places) id.now) }
 {
-    places.binary_search_by(|place| id_order(elements, *place, id))
+    let mut low = 0;
+    let mut high = places.len();
+    while low < high {
+        let middle = low + (high - low) / 2;
+        match order_at(elements, places, middle, id) {
+            Ordering::Less => low = middle + 1,
+            Ordering::Equal => return Ok(middle),
+            Ordering::Greater => high = middle,
+        }
+    }
+    Err(low)
+}
+
+/// How the id of the element at the place of an index compares with another id.
+fn order_at(elements: &Vec<Element>, places: &Places, i: usize, id: &Text) -> Ordering
+    requires { i < length places.now.places }
+    ensures { result ≡ order_at elements.now.items id.now (slice_index places.now.places i) }
+{
+    id_order(elements, places.get(i).unwrap(), id)
 }
 
 /// How the id of the element at a place compares with another id. All places that are searched have an element.
 fn id_order(elements: &Vec<Element>, place: usize, id: &Text) -> Ordering
-    ensures { result ≡ option_map_or (λ e. slice_cmp nat_cmp e.id id.now) (slice_get elements.now.items place) Ordering.Less }
+    ensures { result ≡ order_at elements.now.items id.now place }
 {
     match elements.get(place) {
         Some(e) => e.id.as_bytes().cmp(id.as_bytes()),
@@ -53,16 +69,16 @@ pub(crate) fn replace_beaten(elements: &mut Vec<Element>, place: usize, e: Eleme
 /// Adds the element, its place at this index, or hands it back for want of memory; nothing is then changed.
 pub(crate) fn add(
     elements: &mut Vec<Element>,
-    places: &mut Vec<usize>,
+    places: &mut Places,
     i: usize,
     e: Element,
 ) -> Result<(), (Element, AllocError)>
-    requires { i ≤ length places.old.items }
+    requires { i ≤ length places.old.places }
     ensures elements { OnOk result (elements.new.items ≡ elements.old.items ++ e ∷ []) }
-    ensures places { OnOk result (places.new.items ≡ insert places.old.items i (length elements.old.items)) }
-    ensures err { IfErr result (λ back. (elements.new.items ≡ elements.old.items) × (places.new.items ≡ places.old.items) × (back.0 ≡ e)) }
-    ensures room { vec_len elements.old < vec_capacity elements.old → vec_len places.old < vec_capacity places.old → IsOk result }
-    ensures kept { (vec_capacity elements.old ≤ vec_capacity elements.new) × (vec_capacity places.old ≤ vec_capacity places.new) }
+    ensures places { OnOk result (places.new.places ≡ insert places.old.places i (length elements.old.items)) }
+    ensures err { IfErr result (λ back. (elements.new.items ≡ elements.old.items) × (places.new.places ≡ places.old.places) × (back.0 ≡ e)) }
+    ensures room { vec_len elements.old < vec_capacity elements.old → 0 < places.old.spare → IsOk result }
+    ensures kept { (vec_capacity elements.old ≤ vec_capacity elements.new) × (places.old.spare ≤ places.new.spare + 1) }
 {
     if let Err(error) = places.reserve(1) {
         return Err((e, error));

@@ -5,6 +5,7 @@ ghost use Rattle.frac_keys.specs.Rising.{are_rising};
 ghost use Rattle.elem.specs.Drawn.{Drawn};
 ghost use Rattle.elem_store.specs.Updates.{AreStored, HasTaken, element_of, ids_of, is_taken};
 
+use crate::indexed::Places;
 use crate::places::{add, find_place, replace_beaten};
 use board_io::List;
 use elem::Element;
@@ -14,26 +15,27 @@ use std::marker::Model;
 
 /// The stored elements of a board, one for each id, in the order of the ids.
 ///
-/// They are kept as they came, beside their places in the order of their ids: a new element moves places alone.
+/// They are kept as they came, beside their places in the order of their ids: a new element moves places alone, and of
+/// those few.
 #[derive(Drop)]
 pub struct Store {
     elements: Vec<Element>,
-    places: Vec<usize>,
+    places: Places,
 }
 
 impl Model for Store {
-    ghost use Rattle.std.specs.Prelude.{vec_capacity, vec_len};
+    ghost use Rattle.std.specs.Prelude.{vec_capacity, length};
     ghost use Rattle.elem_store.specs.Places.{elements_at, spare_in, AreInOrder};
     ghost use Rattle.elem_store.specs.Stock.{Stock};
 
     ghost Value = { Stock };
 
     ghost view = { λ s. record {
-      elements = elements_at s.elements.items s.places.items;
-      spare = spare_in (vec_capacity s.elements) (vec_capacity s.places) (vec_len s.places);
+      elements = elements_at s.elements.items s.places.places;
+      spare = spare_in (vec_capacity s.elements) (length s.places.places) s.places.spare;
     } };
 
-    ghost invariant = { λ s. AreInOrder s.elements.items s.places.items };
+    ghost invariant = { λ s. AreInOrder s.elements.items s.places.places };
 }
 
 impl Store {
@@ -43,7 +45,7 @@ impl Store {
     {
         Store {
             elements: Vec::new(alloc),
-            places: Vec::new(alloc),
+            places: Places::new(alloc),
         }
     }
 
@@ -97,7 +99,10 @@ impl Store {
         ensures spare { self.old.spare ≤ self.new.spare + 1 }
     {
         match find_place(&self.elements, &self.places, &e.id) {
-            Ok(i) => Ok(replace_beaten(&mut self.elements, self.places[i], e)),
+            Ok(i) => {
+                let place = self.places.get(i).unwrap();
+                Ok(replace_beaten(&mut self.elements, place, e))
+            }
             Err(i) => {
                 add(&mut self.elements, &mut self.places, i, e)?;
                 Ok(true)
@@ -133,7 +138,7 @@ impl Store {
         ensures element { option_copied result ≡ slice_get self.now.elements i }
         ensures ordered { are_rising (ids_of self.now.elements) ≡ true }
     {
-        let place = *self.places.get(i)?;
+        let place = self.places.get(i)?;
         Some(&self.elements[place])
     }
 

@@ -1,18 +1,4 @@
--- The comparisons along the places lead a search to the id, or to the gap for it.
-use Rattle.std.proofs.Common.{rules, IfOk, IfErr}
-use Rattle.std.proofs.lemmas.Fn.{always_returns_same}
-use Rattle.elem_store.specs.Places.{elements_at, IsAt, IsGapFor}
-use Rattle.elem_store.proofs.Placed.{order_at, searched}
+-- The comparison at the middle tells on which side the id is.
+use Rattle.std.proofs.Common.{◌≡◌, arith}
+use Rattle.elem_store.proofs.Placed.{less-before, greater-from, searched-found, searched-gap}
 use Rattle.elem_store.proofs.places.find_place.Goals as goal
-
-ends : (c : goal.After-binary_search_by) → IfOk c.binary_search_by.result (IsAt (elements_at c.args.elements.now.items c.args.places.now.items) c.args.id.now) × IfErr c.binary_search_by.result (IsGapFor (elements_at c.args.elements.now.items c.args.places.now.items) c.args.id.now)
-ends c =
-    let facts = c.binary_search_by.ensures in
-    let by_id = facts.position (order_at c.args.elements.now.items c.args.id.now) (always_returns_same _ _ _ (λ a r f called. (search rules, search rules))) in
-    searched _ _ c.requires _ _ (rw c.deref.ensures.value at facts.bound) (rw c.deref.ensures.value at by_id)
-
-pub returns-clause-found : goal.returns-clause-found
-returns-clause-found c = (ends c).0
-
-pub returns-clause-absent : goal.returns-clause-absent
-returns-clause-absent c = (ends c).1
