@@ -205,11 +205,18 @@ element-found elements id i rising at =
     let x = found (slice_get elements i) id at in
     x.1 ∙ sym (element-at elements rising id i x.0 x.1 x.2)
 
--- what is read at a place of the elements is the element at its index
-pub get-read : (elements : List Drawn) (places : List ℕ) (i place : ℕ) (x : Drawn) → AllWithin elements places → i < length places → place ≡ get_or places i place → x ≡ get_or elements place x → Some x ≡ slice_get (elements_at elements places) i
-get-read elements places i place x h l here read =
-    ap Some (read ∙ ap (λ p. get_or elements p x) here ∙ sym (read-at elements places h i place x l))
-    ∙ sym (slice_get-get_or (elements_at elements places) i x (rw (length-at elements places h) l))
+-- a place that is read at an index is within the elements, and what stands there is the element at the index
+pub place-found : (elements : List Drawn) (places : List ℕ) (i place : ℕ) → AllWithin elements places → slice_get places i ≡ Some place → place < length elements
+place-found elements places i place h here =
+    rw (← get_or_from_slice_get places i place place here) (h i place (slice_get_within places i place here))
+
+pub get-read : (elements : List Drawn) (places : List ℕ) (i place : ℕ) (x : Drawn) → AllWithin elements places → slice_get places i ≡ Some place → x ≡ get_or elements place x → Some x ≡ slice_get (elements_at elements places) i
+get-read elements places i place x h here read =
+    ap Some read ∙ sym (slice_get-get_or elements place x (place-found elements places i place h here))
+    ∙ sym (get-at elements places i h ∙ ap (option_and_then (slice_get elements)) here)
+
+pub none-read : (elements : List Drawn) (places : List ℕ) (i : ℕ) → AllWithin elements places → slice_get places i ≡ None → slice_get (elements_at elements places) i ≡ None
+none-read elements places i h none = get-at elements places i h ∙ ap (option_and_then (slice_get elements)) none
 
 -- no place comes twice
 places_differ : (elements : List Drawn) (places : List ℕ) (o : AreInOrder elements places) (i k n : ℕ) → i < length places → k < length places → k ≢ i → get_or places k n ≢ get_or places i n

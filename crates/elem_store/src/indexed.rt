@@ -68,6 +68,7 @@ impl Places {
     pub(crate) fn reserve(&mut self, n: usize) -> Result<(), AllocError>
         ensures room { OnOk result (n ≤ self.new.spare) }
         ensures kept { self.old.spare ≤ self.new.spare }
+        ensures succeeds { n ≤ self.old.spare → IsOk result }
         ensures places { self.new.places ≡ self.old.places }
     {
         make_room(&mut self.settled, &mut self.late, n)
