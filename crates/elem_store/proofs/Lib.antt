@@ -9,3 +9,4 @@ pub mod Edits
 pub mod Placed
 pub mod Stored
 pub mod Woven
+mod TellingLaws

@@ -8,6 +8,7 @@ use Rattle.std.specs.declared.cmp.Ordering.TheVariants.{Less}
 use Rattle.frac_keys.specs.Keys.{bytes_less}
 use Rattle.frac_keys.specs.Rising.{are_rising}
 use Rattle.elem.specs.Drawn.{Drawn}
+use Rattle.elem.specs.Said.{AreElements}
 use Rattle.elem_store.specs.Updates.{ids_of}
 
 -- the elements at these places
@@ -23,6 +24,11 @@ pub record AreInOrder (elements : List Drawn) (places : List ℕ) : Type 0 where
   pub within : All (λ place. place < length elements) places
   pub full : length places ≡ length elements
   pub ordered : are_rising (ids_of (elements_at elements places)) ≡ true
+
+-- A store's elements, in order by their places, are elements.
+pub record IsKept (list : List Drawn) (places : List ℕ) : Type 0 where
+  pub in_order : AreInOrder list places
+  pub elements : AreElements list
 
 -- how the id of the element at a place compares with an id
 abbrev pub order_at : List Drawn → List ℕ → ℕ → Ordering

@@ -1,9 +1,11 @@
 //! The store of a board: the best element of each id.
 #![tactic(auto)]
 
-pub mod laws;
 mod indexed;
+pub mod laws;
 mod places;
 mod store;
+mod telling;
 
 pub use store::Store;
+pub use telling::tell;

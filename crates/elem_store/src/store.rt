@@ -3,10 +3,12 @@
 ghost use Rattle.std.specs.Prelude.{◌≡◌, ◌+◌, ◌<◌, ◌≤◌, List as Items, [], ◌∷◌, ◌++◌, true, length, slice_get, option_copied, IsSome, IsOk, IfOk, IfErr, OnOk, Ok, false};
 ghost use Rattle.frac_keys.specs.Rising.{are_rising};
 ghost use Rattle.elem.specs.Drawn.{Drawn};
+ghost use Rattle.elem.specs.Said.{AreElements};
 ghost use Rattle.elem_store.specs.Updates.{AreStored, HasTaken, element_of, ids_of, is_taken};
 
 use crate::indexed::Places;
 use crate::places::{add, find_place, replace_beaten};
+use crate::telling::tell;
 use board_io::List;
 use elem::Element;
 use scene_json::Text;
@@ -25,7 +27,7 @@ pub struct Store {
 
 impl Model for Store {
     ghost use Rattle.std.specs.Prelude.{vec_capacity, length};
-    ghost use Rattle.elem_store.specs.Places.{elements_at, spare_in, AreInOrder};
+    ghost use Rattle.elem_store.specs.Places.{elements_at, spare_in, IsKept};
     ghost use Rattle.elem_store.specs.Stock.{Stock};
 
     ghost Value = { Stock };
@@ -35,7 +37,7 @@ impl Model for Store {
       spare = spare_in (vec_capacity s.elements) (length s.places.places) s.places.spare;
     } };
 
-    ghost invariant = { λ s. AreInOrder s.elements.items s.places.places };
+    ghost invariant = { λ s. IsKept s.elements.items s.places.places };
 }
 
 impl Store {
@@ -98,6 +100,7 @@ impl Store {
         ensures room { 0 < self.old.spare → IsOk result }
         ensures spare { self.old.spare ≤ self.new.spare + 1 }
     {
+        tell(&e);
         match find_place(&self.elements, &self.places, &e.id) {
             Ok(i) => {
                 let place = self.places.get(i).unwrap();
@@ -140,6 +143,14 @@ impl Store {
     {
         let place = self.places.get(i)?;
         Some(&self.elements[place])
+    }
+
+    /// Tells what a store keeps, for contracts: the ids rise, and the elements are elements. It does nothing else.
+    pub fn tell(&self)
+        ensures ordered { are_rising (ids_of self.now.elements) ≡ true }
+        ensures elements { AreElements self.now.elements }
+    {
+        let _ = &self.places;
     }
 
     /// How many elements are stored.

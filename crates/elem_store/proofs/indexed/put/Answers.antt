@@ -1,5 +1,5 @@
 -- The place stands at its index among all.
-use Rattle.std.proofs.Common.{arith, ◌∙◌}
+use Rattle.std.proofs.Common.{arith}
 use Rattle.elem_store.proofs.Woven.{gaps-insert, woven-put}
 use Rattle.elem_store.proofs.indexed.put.Goals as goal
 

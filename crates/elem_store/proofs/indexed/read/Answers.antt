@@ -1,5 +1,5 @@
 -- The late place behind the index stands at it, or a settled one does.
-use Rattle.std.proofs.Common.{◌≡◌, ◌<◌, Some, length, ap, sym, ◌∙◌, get_or, arith}
+use Rattle.std.proofs.Common.{Some, ap, sym, ◌∙◌, arith}
 use Rattle.std.proofs.lemmas.List.{get_or_default}
 use Rattle.elem_store.specs.declared.indexed.Late.{Late}
 use Rattle.elem_store.proofs.Woven.{get-late, settled-read}

@@ -1,7 +1,7 @@
 -- The last late place goes before the settled ones that stand behind its gap.
-use Rattle.std.proofs.Common.{◌≡◌, ◌+◌, ◌++◌, ◌∷◌, [], length, ap, ◌∙◌, sym, subst, arith, length-set, length-append}
+use Rattle.std.proofs.Common.{◌≡◌, ◌+◌, ◌++◌, ◌∷◌, [], length, ap, ◌∙◌, subst, arith, length-set, length-append}
 use Rattle.elem_store.specs.Indexed.{AreGaps}
-use Rattle.elem_store.proofs.Woven.{length-woven, gaps-last, gap-last, settled-more}
+use Rattle.elem_store.proofs.Woven.{gaps-last, gap-last, settled-more}
 use Rattle.elem_store.proofs.indexed.settle.Goals as goal
 
 pub loop-last-preserved : goal.loop-last-preserved

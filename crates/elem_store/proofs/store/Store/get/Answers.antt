@@ -8,7 +8,7 @@ use Rattle.elem_store.proofs.store.Store.get.Goals as goal
 
 pub returns-in-Ok : goal.returns-in-Ok
 returns-in-Ok c =
-    c.at.ensures.element ∙ rw (← c.self.view_is) (element-found _ c.args.id.now c.in-Ok.i c.self.invariant.ordered c.in-Ok.ensures.found)
+    c.at.ensures.element ∙ rw (← c.self.view_is) (element-found _ c.args.id.now c.in-Ok.i c.self.invariant.in_order.ordered c.in-Ok.ensures.found)
 
 pub returns-in-Err : goal.returns-in-Err
 returns-in-Err c =

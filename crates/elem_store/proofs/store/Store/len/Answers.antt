@@ -7,4 +7,4 @@ use Rattle.elem_store.proofs.store.Store.len.Goals as goal
 pub returns : goal.returns
 returns c =
     let s = c.self.inside in
-    c.len.ensures ∙ sym (length-at s.elements.items s.places.places c.self.invariant.within) ∙ ap (λ (s : Stock). length s.elements) c.self.view_is
+    c.len.ensures ∙ sym (length-at s.elements.items s.places.places c.self.invariant.in_order.within) ∙ ap (λ (s : Stock). length s.elements) c.self.view_is
