@@ -2,6 +2,7 @@ pub mod Again
 pub mod Answering
 pub mod Asking
 pub mod Blanks
+mod Closing
 pub mod Drills
 pub mod Existing
 pub mod ById
@@ -14,4 +15,5 @@ pub mod Served
 pub mod Reread
 pub mod Scenes
 pub mod States
+mod Sure
 pub mod Unique

@@ -1,5 +1,6 @@
 use Rattle.std.proofs.Common.{sym, subst}
 use Rattle.commands.specs.Serving.{EndsServing}
+use Rattle.commands.proofs.Closing.{served-whole}
 use Rattle.commands.proofs.Served.{ends-served}
 use Rattle.commands.proofs.running.serve_run.Goals as goal
 
@@ -8,3 +9,11 @@ returns-in-Ok-clause-served g c =
     let served = c.in-Ok.ensures.served in
     subst (EndsServing c.args.service _ _ _ _) (sym c.noted_end.ensures.status)
     (ends-served c.args.service _ _ _ _ c.in-Ok.end served.0 served.1 c.in-Ok.ensures.rose c.noted_end.ensures.noted)
+
+pub returns-in-Ok-clause-complete : goal.returns-in-Ok-clause-complete
+returns-in-Ok-clause-complete g c bytes scenes left has none leads =
+    served-whole c.closing_ends_a_room.ensures c.args.service _ _ _ _ bytes scenes left has none leads c.noted_end.result
+    (returns-in-Ok-clause-served g c)
+
+pub returns-in-Err-clause-complete : goal.returns-in-Err-clause-complete
+returns-in-Err-clause-complete g c bytes scenes left has none leads = ?
