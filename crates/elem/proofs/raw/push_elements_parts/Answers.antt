@@ -4,7 +4,7 @@ use Rattle.std.specs.List.{join_with_byte}
 use Rattle.scene_json.specs.Value.{IsCompact}
 use Rattle.scene_json.proofs.Appended.{mapped-step}
 use Rattle.elem.specs.Texts.{element_text}
-use Rattle.elem.proofs.raw.push_elements.Goals as goal
+use Rattle.elem.proofs.raw.push_elements_parts.Goals as goal
 
 pub loop-i-preserved : goal.loop-i-preserved
 loop-i-preserved c =
@@ -12,7 +12,7 @@ loop-i-preserved c =
     let inside : c.loop-i.i < length es = omega arith in
     record {
       made = mapped-step element_text c.args.out.now.items es c.index-elements-i.result c.loop-i.i c.loop-i.out.items c.push_comma.new.out.items c.push_element.new.out.items inside
-          c.index-elements-i.is c.loop-i.invariant.made c.in_ok-push_comma.ensures c.in_ok-push_element.ensures.text;
+          c.index-elements-i.is c.loop-i.invariant.made c.in_ok-push_comma.ensures.ok c.in_ok-push_element.ensures.text;
       nest = All-more (λ e. IsCompact 120 (element_text e)) es c.loop-i.i c.index-elements-i.result inside c.loop-i.invariant.nest
           (subst (λ e. IsCompact 120 (element_text e)) c.index-elements-i.is c.in_ok-push_element.ensures.nests);
     }

@@ -12,8 +12,8 @@ use Rattle.elem.specs.Texts.{element_members}
 use Rattle.elem.proofs.Headers.{header_pairs, merged-element, length-members, element-compact, element-rises}
 use Rattle.elem.proofs.Merging.{Merging, Merged, merging-from, merging-step, merging-closed, nest-pairs}
 use Rattle.elem.proofs.Sorting.{are_rising-from}
-use Rattle.elem.proofs.raw.push_element.Goals as goal
-use Rattle.elem.proofs.raw.push_element.Goals.{In_ok-push}
+use Rattle.elem.proofs.raw.push_element_parts.Goals as goal
+use Rattle.elem.proofs.raw.push_element_parts.Goals.{In_ok-push}
 
 pub loop-header-init : goal.loop-header-init
 loop-header-init c =
