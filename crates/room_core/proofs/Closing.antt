@@ -1,5 +1,5 @@
 -- Events that bring a room to a close end it so.
-use Rattle.std.proofs.Common.{◌≡◌, ◌⊎◌, inl, inr, ℕ, ◌+◌, ◌≤◌, Bool, true, false, not, List, [], ◌∷◌, ◌++◌, map, filter, flat_map, Option, Some, None, IsSome, IfSome, option_map, option_to_list, length, refl, sym, ap, ap₂, subst, ◌∙◌, append_assoc, Result, Ok, Err, arith}
+use Rattle.std.proofs.Common.{◌≡◌, ◌⊎◌, inl, inr, ℕ, ◌+◌, ◌≤◌, Bool, true, false, List, [], ◌∷◌, ◌++◌, map, flat_map, Option, Some, None, IsSome, IfSome, option_map, option_to_list, length, refl, sym, ap, ap₂, subst, ◌∙◌, append_assoc, Ok, Err, arith}
 use Rattle.std.proofs.lemmas.List.{append_cancel_left}
 use Rattle.board_io.specs.Events.{opening_of}
 use Rattle.board_io.specs.declared.links.LinkEvent.{LinkEvent}
@@ -7,7 +7,7 @@ use Rattle.board_io.specs.declared.links.LinkEvent.TheVariants.{Opened}
 use Rattle.room_msg.specs.Texts.{message_text}
 use Rattle.room_core.specs.Closing.{LeadToClose}
 use Rattle.room_core.specs.Rooms.{RoomState, Happening, Joined, Heard, Left, Nothing, IsHeardAs, joined_after, texts_of, text_for_each, without}
-use Rattle.room_core.specs.Serving.{Serving, Round, IsRound, AreRounds, EndsBy, IsServed, at_start, end_by, end_of, idles_after, serving_after, serving_at, step_count}
+use Rattle.room_core.specs.Serving.{Serving, Round, IsRound, AreRounds, EndsBy, IsServed, at_start, end_of, idles_after, serving_after, serving_at, step_count}
 use Rattle.room_core.specs.Told.{Told, Try, Tells, links_gone, texts_lost, texts_tried}
 use Rattle.room_core.specs.declared.limits.RoomLimits.{RoomLimits}
 use Rattle.room_core.specs.declared.limits.ServeEnd.{ServeEnd}
