@@ -1,5 +1,5 @@
 -- Which ends are left of a drill whose output doesn't fail, and of a room that is led to a close where no end fails.
-use Rattle.std.proofs.Common.{◌≡◌, ◌⊎◌, inl, inr, ℕ, List, [], Option, Some, refl, subst}
+use Rattle.std.proofs.Common.{◌≡◌, ◌≢◌, ◌⊎◌, inl, inr, ℕ, List, refl, subst, ap}
 use Rattle.board_io.specs.Counts.{Rose}
 use Rattle.board_io.specs.Ends.{SinkEnd}
 use Rattle.room_core.specs.Closing.{LeadToClose}
@@ -12,30 +12,24 @@ use Rattle.room_core.specs.declared.limits.ServeEnd.TheVariants.{AllClosed, Idle
 use Rattle.scene_file.specs.declared.scene.Scene.{Scene}
 use Rattle.commands.specs.Answers.{IsRefusal}
 use Rattle.commands.specs.Closing.{NoneRose, LeadsToClose, IsServedToClose}
-use Rattle.commands.specs.Drills.{EndsDrilling}
-use Rattle.commands.specs.Ends.{Span, HasLeft}
-use Rattle.commands.specs.Faults.{status_of}
+use Rattle.commands.specs.Ends.{HasLeft}
+use Rattle.commands.specs.Faults.{status_of, IsNoted}
 use Rattle.commands.specs.Input.{HasScenes}
-use Rattle.commands.specs.Serving.{Ends, EndsServing, WasServed, WasInputRefused, end_status, room_of}
+use Rattle.commands.specs.Serving.{Ends, EndsServing, HasServingCause, WasServed, WasServedTo, WasInputRefused, end_line, end_status, room_of}
 use Rattle.commands.specs.declared.status.Fault.{Fault}
 use Rattle.commands.specs.declared.status.Fault.TheVariants as fault
 use Rattle.commands.specs.declared.status.Status.{Status}
 use Rattle.commands.specs.declared.status.Status.TheVariants as status
-use Rattle.commands.specs.declared.words.Drill.{Drill}
 use Rattle.commands.specs.declared.words.Service.{Service}
 use Rattle.commands.proofs.Given.{left-excludes, read-whole}
+use Rattle.commands.proofs.Served.{ends-served}
 use Rattle.commands.proofs.Unique.{refusal-none}
 
-pub drilled-whole : (drill : Drill) (output notes : Span SinkEnd) (result : Status) → EndsDrilling drill output notes result
-    → (Rose output.before.faults output.after.faults → ⊥) → (result ≡ status.Done) ⊎ (result ≡ status.Memory)
-drilled-whole drill output notes status.Done ends kept = inl refl
-drilled-whole drill output notes status.Memory ends kept = inr refl
-drilled-whole drill output notes status.Usage ends kept = absurd ends
-drilled-whole drill output notes status.Refused ends kept = absurd ends
-drilled-whole drill output notes status.ReadFault ends kept = absurd ends
-drilled-whole drill output notes status.WriteFault ends kept = absurd (kept ends.1)
-drilled-whole drill output notes status.LinkFault ends kept = absurd ends
-drilled-whole drill output notes status.Idle ends kept = absurd ends
+-- a drill that ends with a fault
+pub drilled-whole : (f : Fault) (before after : ℕ) → (f ≡ fault.Memory) ⊎ (f ≡ fault.Write) → (f ≡ fault.Write → Rose before after)
+    → (Rose before after → ⊥) → (status_of f ≡ status.Done) ⊎ (status_of f ≡ status.Memory)
+drilled-whole f before after (inl memory) write kept = inr (ap status_of memory)
+drilled-whole f before after (inr wrote) write kept = absurd (kept (write wrote))
 
 -- what room_core says of rooms that are led to a close
 abbrev pub CloseSo : Type 0
@@ -87,3 +81,16 @@ module _ (close : CloseSo) (service : Service) (before after : Ends) (notes note
   served-whole status.WriteFault ends = absurd (none.output ends.1)
   served-whole status.LinkFault ends = absurd (none.links ends.1)
   served-whole status.Idle ends = absurd (not-idle (ended IdleEnd _ ends))
+
+  -- where the room was served to an end, and where the run ended with a fault
+  pub end-whole : (end : ServeEnd) → end ≢ MemoryEnd → WasServedTo service end before after → (end ≡ LinkEnd → Rose before.links.faults after.links.faults)
+      → (end ≢ AllClosed → end ≢ IdleEnd → IsNoted (end_line end) notes notes_after) → (end_status end ≡ status.Done) ⊎ (end_status end ≡ status.Memory)
+  end-whole end whole served rose noted = served-whole (end_status end) (ends-served service before after notes notes_after end whole served rose noted)
+
+  pub fault-whole : (f : Fault) → HasServingCause f service before after → (status_of f ≡ status.Done) ⊎ (status_of f ≡ status.Memory)
+  fault-whole fault.Memory cause = inr refl
+  fault-whole fault.Usage cause = absurd cause
+  fault-whole fault.Read cause = absurd (none.input cause.0)
+  fault-whole fault.TooLong cause = absurd (not-refused fault.TooLong cause)
+  fault-whole (fault.Refused found) cause = absurd (not-refused (fault.Refused found) cause)
+  fault-whole fault.Write cause = absurd (none.output cause.1)

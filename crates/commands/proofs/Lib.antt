@@ -9,11 +9,11 @@ pub mod ById
 pub mod Given
 pub mod Inputs
 pub mod Lines
+mod Never
 pub mod Numbers
 pub mod Opening
 pub mod Served
 pub mod Reread
 pub mod Scenes
 pub mod States
-mod Sure
 pub mod Unique

@@ -3,7 +3,7 @@ use Rattle.commands.specs.Drills.{EndsDrilling}
 use Rattle.commands.specs.Serving.{EndsServing}
 use Rattle.commands.specs.Words.{asked}
 use Rattle.commands.specs.declared.status.Status.TheVariants.{ReadFault, WriteFault}
-use Rattle.commands.proofs.Sure.{never, stays}
+use Rattle.commands.proofs.Never.{never, stays}
 use Rattle.commands.proofs.sure.board_surely.Goals as goal
 
 pub returns-clause-reads : goal.returns-clause-reads
