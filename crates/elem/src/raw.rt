@@ -50,7 +50,6 @@ pub fn push_element(out: &mut Vec<u8>, e: &Element) -> Result<(), AllocError>
 }
 
 /// Appends the text of an element. After want of memory a part of it may stand there.
-#[tactic(auto, using(crate::proofs::Appending::extends_same, crate::proofs::Appending::extends_by, crate::proofs::Appending::extends_then))]
 fn push_element_parts(out: &mut Vec<u8>, e: &Element) -> Result<(), AllocError>
     ensures text { OnOk result (out.new.items ≡ out.old.items ++ element_text e.now) }
     ensures kept { OnErr result (Extends out.old.items out.new.items) }
@@ -80,7 +79,6 @@ pub fn push_elements(out: &mut Vec<u8>, elements: &[Element]) -> Result<(), Allo
 }
 
 /// Appends the texts of elements. After want of memory a part of them may stand there.
-#[tactic(auto, using(crate::proofs::Appending::extends_same, crate::proofs::Appending::extends_by, crate::proofs::Appending::extends_then))]
 fn push_elements_parts(out: &mut Vec<u8>, elements: &[Element]) -> Result<(), AllocError>
     ensures text { OnOk result (out.new.items ≡ out.old.items ++ join_with_byte 44 (map element_text elements.now)) }
     ensures kept { OnErr result (Extends out.old.items out.new.items) }
