@@ -4,6 +4,7 @@
 mod bytes;
 mod calls;
 mod ends;
+pub mod laws;
 mod links;
 mod list;
 mod memory;
@@ -11,6 +12,7 @@ mod pieces;
 mod script;
 mod standard;
 mod stop;
+mod sure;
 mod whole;
 
 pub use bytes::Bytes;
@@ -22,4 +24,5 @@ pub use pieces::{Piece, write_pieces};
 pub use script::ScriptLinks;
 pub use standard::{StdSink, StdSource};
 pub use stop::{Failed, Stop};
+pub use sure::{SureSink, SureSource};
 pub use whole::{ReadError, read_all, write_all};

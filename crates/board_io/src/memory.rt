@@ -88,7 +88,7 @@ impl Source for MemSource {
 }
 
 /// Copies the first bytes, at most so many, to the front of the other list as far as it goes, and says how many.
-fn copy_front(from: &[u8], to: &mut [u8], most: usize) -> usize
+pub(crate) fn copy_front(from: &[u8], to: &mut [u8], most: usize) -> usize
     ensures count { result ≡ min (length to.old) (min most (length from.now)) }
     ensures copied { take result to.new ≡ take result from.now }
 {

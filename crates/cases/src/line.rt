@@ -3,6 +3,7 @@
 use crate::calls::push_call;
 use crate::given::{given, is_given, name_of};
 use crate::run::push_run;
+use crate::sure::push_sure_run;
 use board_io::{Bytes, Stop};
 use scene_json::{Raw, Text, members, push_quote, push_whole, scan, shaped, skip_space};
 use std::alloc::{AllocError, Global};
@@ -66,7 +67,9 @@ fn push_answer(alloc: Global, line: &mut Vec<u8>, case: &Raw) -> Result<(), Stop
     let name = given(name_of(alloc, &case)?, "member name")?;
     line.extend_from_slice(b"{\"name\":")?;
     push_quote(line, &name)?;
-    if is_given(&case, "words") {
+    if is_given(&case, "sure") {
+        push_sure_run(alloc, line, &case)?;
+    } else if is_given(&case, "words") {
         push_run(alloc, line, &case)?;
     } else {
         push_call(alloc, line, &case)?;

@@ -9,6 +9,7 @@ mod given;
 mod keys;
 mod line;
 mod run;
+mod sure;
 mod told;
 mod values;
 

@@ -78,7 +78,7 @@ fn ends_of(alloc: Global, case: &List<Member>) -> Result<Ends, Stop<Text>> {
 }
 
 /// How many bytes are given and taken at once.
-fn chunk_of(case: &List<Member>) -> Option<usize> {
+pub fn chunk_of(case: &List<Member>) -> Option<usize> {
     match number_or(case, "chunk", CHUNK) {
         Some(chunk) if 1 <= chunk && chunk <= GREATEST => Some(chunk as usize),
         _ => None,
@@ -108,13 +108,13 @@ fn output_of(alloc: Global, case: &List<Member>, chunk: usize) -> Result<MemSink
 }
 
 /// The notes of the case, as a sink that fails at the listed writes.
-fn notes_of(alloc: Global, case: &List<Member>, chunk: usize) -> Result<MemSink, Stop<Text>> {
+pub fn notes_of(alloc: Global, case: &List<Member>, chunk: usize) -> Result<MemSink, Stop<Text>> {
     let writes = given(numbers_of(alloc, case, "notes")?, "member notes")?;
     Ok(MemSink::new(alloc, chunk.max(1), NOTES_ROOM, writes)?)
 }
 
 /// The links of the case: their events, and the calls that fail or find their link gone.
-fn links_of(alloc: Global, case: &List<Member>) -> Result<ScriptLinks, Stop<Text>> {
+pub fn links_of(alloc: Global, case: &List<Member>) -> Result<ScriptLinks, Stop<Text>> {
     let events = given(events_of(alloc, case)?, "member events")?;
     let fails = given(numbers_of(alloc, case, "links")?, "member links")?;
     let gone = given(numbers_of(alloc, case, "gone")?, "member gone")?;

@@ -2,12 +2,14 @@ pub mod Again
 pub mod Answering
 pub mod Asking
 pub mod Blanks
+mod Closing
 pub mod Drills
 pub mod Existing
 pub mod ById
 pub mod Given
 pub mod Inputs
 pub mod Lines
+mod Never
 pub mod Numbers
 pub mod Opening
 pub mod Served

@@ -116,7 +116,7 @@ refusal-once bytes (refusal.Extra at) g none also = absurd none
 refusal-once bytes (refusal.Event number found) g none also = absurd none
 refusal-once bytes refusal.TooMany g none also = absurd none
 
-refusal-none : (bytes : List ℕ) (f : Refusal) (scenes : List Scene) → IsRefusal bytes f → HasScenes bytes scenes → ⊥
+pub refusal-none : (bytes : List ℕ) (f : Refusal) (scenes : List Scene) → IsRefusal bytes f → HasScenes bytes scenes → ⊥
 refusal-none bytes (refusal.Text number found) scenes faulty has = faulty-scenes bytes number found scenes faulty has
 refusal-none bytes (refusal.Extra at) scenes none has = none
 refusal-none bytes (refusal.Event number found) scenes none has = none

@@ -1,6 +1,7 @@
 pub mod Again
 pub mod Answers
 pub mod Causes
+pub mod Closing
 pub mod Drills
 pub mod Ends
 pub mod Faults

@@ -10,8 +10,10 @@ mod pictures;
 mod running;
 mod serving;
 mod status;
+mod sure;
 mod words;
 
 pub use running::board;
 pub use status::{Fault, Refusal, Status};
+pub use sure::board_surely;
 pub use words::{Command, Drill, Request, Service};

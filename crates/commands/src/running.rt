@@ -5,6 +5,7 @@ ghost use Rattle.board_io.specs.Counts.{Rose};
 ghost use Rattle.commands.specs.Again.{RestoresOnce, RestoresMerges, StatesStandFor};
 ghost use Rattle.commands.specs.Answers.{IsAnswer, Converges};
 ghost use Rattle.commands.specs.Causes.{HasCause};
+ghost use Rattle.commands.specs.Closing.{IsServedToClose};
 ghost use Rattle.commands.specs.Drills.{DrillsAgree, EndsDrilling};
 ghost use Rattle.commands.specs.Ends.{span, EndsWith, GaveWithin, GaveTooMuch, HasLeft, WasDone, WasDoneInPart, WasRead, WasRefused};
 ghost use Rattle.commands.specs.Faults.{status_of, Noted};
@@ -91,9 +92,15 @@ pub fn board<S: Source, K: Sink, N: Sink, L: Links>(
         (record { input = S.seen input.old; output = K.seen output.old; links = links_seen L.port L.given L.sent L.lost L.faults links.old })
         (record { input = S.seen input.new; output = K.seen output.new; links = links_seen L.port L.given L.sent L.lost L.faults links.new })
         (N.seen notes.old) (N.seen notes.new) result }
+    // Where the input has scenes, no end fails and the links lead the room to a close: Done, or memory is wanted.
+    ensures serve_complete { (service : Service) → asked words.now ≡ Some (Request.Serve service) → IsServedToClose service
+        (record { input = S.seen input.old; output = K.seen output.old; links = links_seen L.port L.given L.sent L.lost L.faults links.old })
+        (record { input = S.seen input.new; output = K.seen output.new; links = links_seen L.port L.given L.sent L.lost L.faults links.new }) result }
     // A drill: each end by its cause, and what was written by then. The input isn't read.
     ensures drilled { (drill : Drill) → asked words.now ≡ Some (Request.Drill drill)
         → EndsDrilling drill (span (K.seen output.old) (K.seen output.new)) (span (N.seen notes.old) (N.seen notes.new)) result }
+    ensures drill_complete { (drill : Drill) → asked words.now ≡ Some (Request.Drill drill)
+        → ¬ Rose (K.seen output.old).faults (K.seen output.new).faults → (result ≡ Status.Done) ⊎ (result ≡ Status.Memory) }
     ensures drill_unread { (drill : Drill) → asked words.now ≡ Some (Request.Drill drill)
         → (input.new ≡ input.old) × (links.new ≡ links.old) }
 
@@ -185,6 +192,7 @@ fn drill_run<K: Sink, N: Sink>(
 ) -> Status
     requires { IsDrill request }
     ensures drilled { EndsDrilling request (span (K.seen output.old) (K.seen output.new)) (span (N.seen notes.old) (N.seen notes.new)) result }
+    ensures complete { ¬ Rose (K.seen output.old).faults (K.seen output.new).faults → (result ≡ Status.Done) ⊎ (result ≡ Status.Memory) }
     ensures notes_kept { result ≡ Status.Done → notes.new ≡ notes.old }
     ensures unwritten { result ≡ Status.Memory → output.new ≡ output.old }
 {
@@ -208,6 +216,9 @@ fn serve_run<S: Source, K: Sink, N: Sink, L: Links>(
         (record { input = S.seen input.old; output = K.seen output.old; links = links_seen L.port L.given L.sent L.lost L.faults links.old })
         (record { input = S.seen input.new; output = K.seen output.new; links = links_seen L.port L.given L.sent L.lost L.faults links.new })
         (N.seen notes.old) (N.seen notes.new) result }
+    ensures complete { IsServedToClose service
+        (record { input = S.seen input.old; output = K.seen output.old; links = links_seen L.port L.given L.sent L.lost L.faults links.old })
+        (record { input = S.seen input.new; output = K.seen output.new; links = links_seen L.port L.given L.sent L.lost L.faults links.new }) result }
     ensures notes_kept { (result ≡ Status.Done) ⊎ (result ≡ Status.Idle) → notes.new ≡ notes.old }
     ensures unwritten { (result ≡ Status.Memory) ⊎ (result ≡ Status.ReadFault) → output.new ≡ output.old }
     ensures unserved { result ≡ Status.ReadFault → links.new ≡ links.old }
@@ -216,6 +227,7 @@ fn serve_run<S: Source, K: Sink, N: Sink, L: Links>(
         (record { input = S.seen input.old; output = K.seen output.old; links = links_seen L.port L.given L.sent L.lost L.faults links.old })
         (record { input = S.seen input.new; output = K.seen output.new; links = links_seen L.port L.given L.sent L.lost L.faults links.new })) }
 {
+    room_core::laws::closing_ends_a_room();
     match serve(alloc, service, input, output, links) {
         Ok(end) => noted_end(end, notes),
         Err(fault) => fault.noted(notes),

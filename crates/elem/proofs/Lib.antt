@@ -1,3 +1,4 @@
+pub mod Appending
 pub mod Distinct
 pub mod FormsOnce
 pub mod Once

@@ -1,8 +1,9 @@
 //! Objects whose members are appended one after another.
 
-ghost use Rattle.std.specs.Prelude.{◌≡◌, ℕ, ◌≤◌, List as Items, [], ◌∷◌, ◌++◌, IfOk, OnOk, All, length};
+ghost use Rattle.std.specs.Prelude.{◌≡◌, ℕ, ◌≤◌, List as Items, [], ◌∷◌, ◌++◌, IfOk, OnOk, OnErr, All, length};
 ghost use Rattle.std.specs.List.{prefix_len};
 ghost use Rattle.std.specs.Str.{IsUtf8};
+ghost use Rattle.scene_json.specs.Appending.{Extends};
 ghost use Rattle.scene_json.specs.Characters.{quote};
 ghost use Rattle.scene_json.specs.Compact.{Member as Pair};
 ghost use Rattle.scene_json.specs.Members.{pairs};
@@ -13,6 +14,7 @@ use scene_json::{Member, push_member, push_quoted};
 use std::alloc::AllocError;
 
 /// Appends the first members, whose names are less than this one, and gives the others.
+#[tactic(auto, using(crate::proofs::Appending::extends_same, crate::proofs::Appending::extends_by, crate::proofs::Appending::extends_then))]
 pub(crate) fn push_below<'a>(
     out: &mut Vec<u8>,
     start: usize,
@@ -23,6 +25,7 @@ pub(crate) fn push_below<'a>(
         → IsBegun before first out.old.items → IsBegun before (first ++ pairs (front name.now members.now)) out.new.items) }
     ensures left { IfOk result (λ left. left.now ≡ back name.now members.now) }
     ensures named { OnOk result (All (λ m. IsUtf8 m.name) (front name.now members.now)) }
+    ensures kept { Extends out.old.items out.new.items }
 {
     let (below, left) = members.split_at(count_below(members, name));
     push_members(out, start, below)?;
@@ -48,6 +51,7 @@ pub(crate) fn is_below(member: &Member, name: &str) -> bool
 }
 
 /// Appends members to an object that begins at an offset.
+#[tactic(auto, using(crate::proofs::Appending::extends_same, crate::proofs::Appending::extends_by, crate::proofs::Appending::extends_then))]
 pub(crate) fn push_members(
     out: &mut Vec<u8>,
     start: usize,
@@ -56,6 +60,7 @@ pub(crate) fn push_members(
     ensures begun { OnOk result ((before : Items ℕ) (first : Items Pair) → start ≡ length before
         → IsBegun before first out.old.items → IsBegun before (first ++ pairs members.now) out.new.items) }
     ensures named { OnOk result (All (λ m. IsUtf8 m.name) members.now) }
+    ensures kept { Extends out.old.items out.new.items }
 {
     for member in members {
         push_mark(out, start)?;
@@ -65,10 +70,12 @@ pub(crate) fn push_members(
 }
 
 /// Begins a member of this name in an object that begins at an offset.
+#[tactic(auto, using(crate::proofs::Appending::extends_same, crate::proofs::Appending::extends_by, crate::proofs::Appending::extends_then))]
 pub(crate) fn begin_member(out: &mut Vec<u8>, start: usize, name: &str) -> Result<(), AllocError>
     ensures text { OnOk result (out.new.items
         ≡ (out.old.items ++ mark start out.old.items ∷ []) ++ (quote name.now ++ 58 ∷ [])) }
     ensures utf8 { IsUtf8 name.now }
+    ensures kept { OnErr result (Extends out.old.items out.new.items) }
 {
     push_mark(out, start)?;
     push_quoted(out, name)?;
@@ -78,7 +85,8 @@ pub(crate) fn begin_member(out: &mut Vec<u8>, start: usize, name: &str) -> Resul
 
 /// Appends what stands before a member of an object that begins at an offset: `{` before the first, and else a comma.
 fn push_mark(out: &mut Vec<u8>, start: usize) -> Result<(), AllocError>
-    ensures { OnOk result (out.new.items ≡ out.old.items ++ mark start out.old.items ∷ []) }
+    ensures ok { OnOk result (out.new.items ≡ out.old.items ++ mark start out.old.items ∷ []) }
+    ensures err { OnErr result (out.new.items ≡ out.old.items) }
 {
     let mark = if out.len() == start { b'{' } else { b',' };
     out.push(mark)?;

@@ -1,8 +1,9 @@
 //! The text of an element.
 
-ghost use Rattle.std.specs.Prelude.{◌≡◌, ◌≢◌, ℕ, ◌+◌, List as Items, [], ◌∷◌, ◌++◌, map, IfOk, OnOk, IfSome, IsTrue, IsPermutation, All, length, ◌≤◌};
+ghost use Rattle.std.specs.Prelude.{◌≡◌, ◌≢◌, ℕ, ◌+◌, List as Items, [], ◌∷◌, ◌++◌, map, IfOk, OnOk, OnErr, IfSome, IsTrue, IsPermutation, All, length, ◌≤◌};
 ghost use Rattle.std.specs.List.{join_with_byte};
 ghost use Rattle.std.specs.Str.{IsUtf8};
+ghost use Rattle.scene_json.specs.Appending.{Extends};
 ghost use Rattle.scene_json.specs.Compact.{Member as Pair, object_text};
 ghost use Rattle.scene_json.specs.Members.{pairs};
 ghost use Rattle.scene_json.specs.Value.{IsCompact};
@@ -18,7 +19,7 @@ use crate::parts::Binding;
 use crate::values::{
     push_key, push_kind, push_listing, push_null, push_text, push_texts, push_truth,
 };
-use scene_json::{Raw, push_comma, push_quote, push_whole, raw_of};
+use scene_json::{Raw, push_comma, push_quote, push_whole, raw_of, whole_or_cut};
 use std::alloc::{AllocError, Global};
 
 /// The text of an element: the object of its header members and of all others, in the order of the bytes of their
@@ -36,9 +37,22 @@ pub fn element_raw(alloc: Global, e: &Element) -> Result<Raw, AllocError>
     raw_of(out)
 }
 
-/// Appends the text of an element. After want of memory a part of it may stand there.
+/// Appends the text of an element. For want of memory nothing is appended.
 pub fn push_element(out: &mut Vec<u8>, e: &Element) -> Result<(), AllocError>
     ensures text { OnOk result (out.new.items ≡ out.old.items ++ element_text e.now) }
+    ensures err { OnErr result (out.new.items ≡ out.old.items) }
+    ensures nests { OnOk result (IsCompact 120 (element_text e.now)) }
+    ensures rise { OnOk result (IsTrue (are_rising (map (λ (member : Pair). member.0) (element_members e.now)))) }
+{
+    let start = out.len();
+    let appended = push_element_parts(out, e);
+    whole_or_cut(out, start, appended)
+}
+
+/// Appends the text of an element. After want of memory a part of it may stand there.
+fn push_element_parts(out: &mut Vec<u8>, e: &Element) -> Result<(), AllocError>
+    ensures text { OnOk result (out.new.items ≡ out.old.items ++ element_text e.now) }
+    ensures kept { OnErr result (Extends out.old.items out.new.items) }
     ensures nests { OnOk result (IsCompact 120 (element_text e.now)) }
     ensures rise { OnOk result (IsTrue (are_rising (map (λ (member : Pair). member.0) (element_members e.now)))) }
 {
@@ -53,9 +67,21 @@ pub fn push_element(out: &mut Vec<u8>, e: &Element) -> Result<(), AllocError>
     Ok(())
 }
 
-/// Appends the texts of elements, with commas between them. After want of memory a part of them may stand there.
+/// Appends the texts of elements, with commas between them. For want of memory nothing is appended.
 pub fn push_elements(out: &mut Vec<u8>, elements: &[Element]) -> Result<(), AllocError>
     ensures text { OnOk result (out.new.items ≡ out.old.items ++ join_with_byte 44 (map element_text elements.now)) }
+    ensures err { OnErr result (out.new.items ≡ out.old.items) }
+    ensures nest { OnOk result (All (λ e. IsCompact 120 (element_text e)) elements.now) }
+{
+    let start = out.len();
+    let appended = push_elements_parts(out, elements);
+    whole_or_cut(out, start, appended)
+}
+
+/// Appends the texts of elements. After want of memory a part of them may stand there.
+fn push_elements_parts(out: &mut Vec<u8>, elements: &[Element]) -> Result<(), AllocError>
+    ensures text { OnOk result (out.new.items ≡ out.old.items ++ join_with_byte 44 (map element_text elements.now)) }
+    ensures kept { OnErr result (Extends out.old.items out.new.items) }
     ensures nest { OnOk result (All (λ e. IsCompact 120 (element_text e)) elements.now) }
 {
     for (i, e) in elements.iter().enumerate() {
@@ -66,6 +92,7 @@ pub fn push_elements(out: &mut Vec<u8>, elements: &[Element]) -> Result<(), Allo
 }
 
 /// Appends a header member.
+#[tactic(auto, using(crate::proofs::Appending::extends_same, crate::proofs::Appending::extends_by, crate::proofs::Appending::extends_then, crate::proofs::Appending::on_err_then))]
 fn push_header(
     out: &mut Vec<u8>,
     start: usize,
@@ -75,14 +102,17 @@ fn push_header(
     ensures begun { OnOk result ((before : Items ℕ) (members : Items Pair) → start ≡ length before
         → IsBegun before members out.old.items → IsBegun before (members ++ header_pair e.now header ∷ []) out.new.items) }
     ensures sound { OnOk result (IsUtf8 (header_name header) × IsCompact 119 (header_text e.now header)) }
+    ensures kept { OnErr result (Extends out.old.items out.new.items) }
 {
     begin_member(out, start, header.name())?;
     push_value(out, e, header)
 }
 
 /// Appends the value of a header member.
+#[tactic(auto, using(crate::proofs::Appending::on_err_same))]
 fn push_value(out: &mut Vec<u8>, e: &Element, header: Header) -> Result<(), AllocError>
     ensures text { OnOk result (out.new.items ≡ out.old.items ++ header_text e.now header) }
+    ensures kept { OnErr result (Extends out.old.items out.new.items) }
     ensures nests { OnOk result (IsCompact 119 (header_text e.now header)) }
 {
     match header {
@@ -104,9 +134,11 @@ fn push_value(out: &mut Vec<u8>, e: &Element, header: Header) -> Result<(), Allo
 }
 
 /// Appends the object of a binding, its members in the order of the bytes of their names, or null where there is none.
+#[tactic(auto, using(crate::proofs::Appending::extends_same, crate::proofs::Appending::extends_by, crate::proofs::Appending::extends_then, crate::proofs::Appending::on_err_same))]
 fn push_binding(out: &mut Vec<u8>, binding: &Option<Binding>) -> Result<(), AllocError>
     requires { IfSome binding.now IsBinding }
     ensures text { OnOk result (out.new.items ≡ out.old.items ++ binding_text binding.now) }
+    ensures kept { OnErr result (Extends out.old.items out.new.items) }
     ensures nests { OnOk result (IsCompact 119 (binding_text binding.now)) }
 {
     let Some(binding) = binding else {

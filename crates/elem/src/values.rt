@@ -1,6 +1,7 @@
 //! The compact texts of an element's parts.
 
-ghost use Rattle.std.specs.Prelude.{◌≡◌, ℕ, [], ◌∷◌, ◌++◌, map, codes, IfOk, OnOk};
+ghost use Rattle.std.specs.Prelude.{◌≡◌, ℕ, [], ◌∷◌, ◌++◌, map, codes, IfOk, OnOk, OnErr};
+ghost use Rattle.scene_json.specs.Appending.{Extends};
 ghost use Rattle.scene_json.specs.Characters.{quote};
 ghost use Rattle.scene_json.specs.Compact.{array_text};
 ghost use Rattle.scene_json.specs.Tree.{null_word};
@@ -18,6 +19,7 @@ use std::alloc::AllocError;
 /// Appends null.
 pub(crate) fn push_null(out: &mut Vec<u8>) -> Result<(), AllocError>
     ensures text { OnOk result (out.new.items ≡ out.old.items ++ null_word) }
+    ensures err { OnErr result (out.new.items ≡ out.old.items) }
     ensures nests { IsCompact 0 null_word }
 {
     out.extend_from_slice(b"null")
@@ -26,6 +28,7 @@ pub(crate) fn push_null(out: &mut Vec<u8>) -> Result<(), AllocError>
 /// Appends true or false.
 pub(crate) fn push_truth(out: &mut Vec<u8>, truth: bool) -> Result<(), AllocError>
     ensures text { OnOk result (out.new.items ≡ out.old.items ++ truth_text truth) }
+    ensures err { OnErr result (out.new.items ≡ out.old.items) }
     ensures nests { IsCompact 0 (truth_text truth) }
 {
     match truth {
@@ -37,6 +40,7 @@ pub(crate) fn push_truth(out: &mut Vec<u8>, truth: bool) -> Result<(), AllocErro
 /// Appends the quote of a kind's name.
 pub(crate) fn push_kind(out: &mut Vec<u8>, kind: &Kind) -> Result<(), AllocError>
     ensures text { OnOk result (out.new.items ≡ out.old.items ++ quote (kind_name kind.now)) }
+    ensures err { OnErr result (out.new.items ≡ out.old.items) }
     ensures nests { IsCompact 0 (quote (kind_name kind.now)) }
 {
     match kind {
@@ -59,6 +63,7 @@ pub(crate) fn push_kind(out: &mut Vec<u8>, kind: &Kind) -> Result<(), AllocError
 /// Appends the quote of a text, or null where there is none.
 pub(crate) fn push_text(out: &mut Vec<u8>, text: &Option<Text>) -> Result<(), AllocError>
     ensures text { OnOk result (out.new.items ≡ out.old.items ++ text_or_null text.now) }
+    ensures err { OnErr result (out.new.items ≡ out.old.items) }
     ensures nests { IsCompact 0 (text_or_null text.now) }
 {
     match text {
@@ -70,6 +75,7 @@ pub(crate) fn push_text(out: &mut Vec<u8>, text: &Option<Text>) -> Result<(), Al
 /// Appends the quote of a key, or null where there is none.
 pub(crate) fn push_key(out: &mut Vec<u8>, key: &Option<Key>) -> Result<(), AllocError>
     ensures text { OnOk result (out.new.items ≡ out.old.items ++ text_or_null key.now) }
+    ensures err { OnErr result (out.new.items ≡ out.old.items) }
     ensures nests { IsCompact 0 (text_or_null key.now) }
 {
     match key {
@@ -86,8 +92,10 @@ fn key_text(key: &Key) -> &str
 }
 
 /// Appends the array of the texts.
+#[tactic(auto, using(crate::proofs::Appending::extends_same, crate::proofs::Appending::extends_by, crate::proofs::Appending::extends_then))]
 pub(crate) fn push_texts(out: &mut Vec<u8>, texts: &List<Text>) -> Result<(), AllocError>
     ensures text { OnOk result (out.new.items ≡ out.old.items ++ array_text (map quote texts.now)) }
+    ensures kept { OnErr result (Extends out.old.items out.new.items) }
     ensures nests { OnOk result (IsCompact 1 (array_text (map quote texts.now))) }
 {
     out.push(b'[')?;
@@ -102,8 +110,10 @@ pub(crate) fn push_texts(out: &mut Vec<u8>, texts: &List<Text>) -> Result<(), Al
 }
 
 /// Appends the array of the entries of a listing.
+#[tactic(auto, using(crate::proofs::Appending::extends_same, crate::proofs::Appending::extends_by, crate::proofs::Appending::extends_then))]
 pub(crate) fn push_listing(out: &mut Vec<u8>, entries: &List<BoundRef>) -> Result<(), AllocError>
     ensures text { OnOk result (out.new.items ≡ out.old.items ++ array_text (map bound_text entries.now)) }
+    ensures kept { OnErr result (Extends out.old.items out.new.items) }
     ensures nests { OnOk result (IsCompact 2 (array_text (map bound_text entries.now))) }
 {
     out.push(b'[')?;
@@ -118,8 +128,10 @@ pub(crate) fn push_listing(out: &mut Vec<u8>, entries: &List<BoundRef>) -> Resul
 }
 
 /// Appends the object of an entry of a listing.
+#[tactic(auto, using(crate::proofs::Appending::extends_same, crate::proofs::Appending::extends_by, crate::proofs::Appending::extends_then))]
 fn push_entry(out: &mut Vec<u8>, entry: &BoundRef) -> Result<(), AllocError>
     ensures text { OnOk result (out.new.items ≡ out.old.items ++ bound_text entry.now) }
+    ensures kept { OnErr result (Extends out.old.items out.new.items) }
     ensures nests { OnOk result (IsCompact 1 (bound_text entry.now)) }
 {
     let start = out.len();
@@ -134,6 +146,7 @@ fn push_entry(out: &mut Vec<u8>, entry: &BoundRef) -> Result<(), AllocError>
 /// Appends the quote of a role's name.
 fn push_role(out: &mut Vec<u8>, role: Role) -> Result<(), AllocError>
     ensures text { OnOk result (out.new.items ≡ out.old.items ++ quote (role_name role)) }
+    ensures err { OnErr result (out.new.items ≡ out.old.items) }
     ensures nests { IsCompact 0 (quote (role_name role)) }
 {
     match role {

@@ -1,6 +1,6 @@
 //! The table of defaults.
 
-ghost use Rattle.std.specs.Prelude.{◌≡◌, map, IfOk, IfSome};
+ghost use Rattle.std.specs.Prelude.{◌≡◌, map, IfOk, IsOk, IfSome};
 ghost use Rattle.std.specs.List.{AllByRecursion};
 ghost use Rattle.scene_json.specs.Named.{value_at};
 ghost use Rattle.scene_json.specs.Value.{IsCompact};
@@ -126,6 +126,7 @@ pub(crate) fn rows() -> &'static [Row]
 
 /// The default of the member with this name, if the table has one.
 pub fn default_of(_alloc: Global, name: &Text) -> Result<Option<Raw>, AllocError>
+    ensures sure { IsOk result }
     ensures value { IfOk result (λ found. found ≡ value_at name.now defaults) }
     ensures nests { IfOk result (λ found. IfSome found (IsCompact 1)) }
 {

@@ -4,3 +4,4 @@ mod Steps
 mod Tries
 mod Served
 mod MemberLaws
+mod Closing

@@ -1,3 +1,4 @@
+pub mod Closing
 pub mod Members
 pub mod Rooms
 pub mod Serving

@@ -1,15 +1,18 @@
 //! Laws on rooms, for all of them. They do nothing when they run.
 
-ghost use Rattle.std.specs.Prelude.{◌≡◌, ℕ, List, [], true};
+ghost use Rattle.std.specs.Prelude.{◌≡◌, ◌⊎◌, ℕ, List, [], true};
 ghost use Rattle.frac_keys.specs.Rising.{are_rising};
 ghost use Rattle.elem.specs.Drawn.{Drawn};
 ghost use Rattle.elem.specs.Said.{AreElements};
 ghost use Rattle.elem_store.specs.Updates.{ids_of, AreStored, HaveSameUpdates};
 ghost use Rattle.board_io.specs.declared.links.LinkEvent.{LinkEvent};
 ghost use Rattle.room_core.specs.Rooms.{RoomState, Happening, IsHeardAs, is_among};
+ghost use Rattle.room_core.specs.Closing.{LeadToClose};
 ghost use Rattle.room_core.specs.Members.{Step, AreSteps, member_updates};
-ghost use Rattle.room_core.specs.Serving.{Serving, Round, AreRounds, serving_at, steps_of};
+ghost use Rattle.room_core.specs.Serving.{Serving, Round, AreRounds, IsServed, at_start, serving_at, steps_of};
+ghost use Rattle.room_core.specs.Told.{Told};
 ghost use Rattle.room_core.specs.declared.limits.RoomLimits.{RoomLimits};
+ghost use Rattle.room_core.specs.declared.limits.ServeEnd.{ServeEnd};
 
 /// An event is one thing to a room.
 pub fn hearing_is_unique()
@@ -36,4 +39,13 @@ pub fn members_agree()
 pub fn rounds_are_steps()
     ensures { (limits : RoomLimits) (now : Serving) (rounds : List Round)
         → AreRounds limits now rounds → AreSteps now.room (steps_of rounds) (serving_at now rounds).room }
+{}
+
+/// Where the links tell rounds within the limits after which a link was opened and none is joined, that ends the room,
+/// unless memory is wanted or the links fail. What rooms store plays no part.
+pub fn closing_ends_a_room()
+    ensures { (limits : RoomLimits) (room other new : RoomState) (before after : Told) (end : ServeEnd)
+        → room.joined ≡ other.joined → LeadToClose limits (at_start room) before after
+        → IsServed limits (at_start other) new before after end
+        → (end ≡ ServeEnd.AllClosed) ⊎ ((end ≡ ServeEnd.Memory) ⊎ (end ≡ ServeEnd.LinkFault)) }
 {}

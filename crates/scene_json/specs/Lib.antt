@@ -1,4 +1,5 @@
 pub mod Alike
+pub mod Appending
 pub mod Characters
 pub mod Compact
 pub mod Faults

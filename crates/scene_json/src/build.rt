@@ -1,8 +1,9 @@
 //! Values made of their parts.
 
-ghost use Rattle.std.specs.Prelude.{◌≡◌, ◌⊎◌, ℕ, [], ◌∷◌, ◌++◌, ◌+◌, ◌<◌, map, IfOk, OnOk, if◌then◌else◌, decimal, All, bytes_eq, flat_map, position};
+ghost use Rattle.std.specs.Prelude.{◌≡◌, ◌⊎◌, ℕ, [], ◌∷◌, ◌++◌, ◌+◌, ◌<◌, map, take, IfOk, IsOk, OnOk, OnErr, if◌then◌else◌, decimal, All, bytes_eq, flat_map, position};
 ghost use Rattle.std.specs.List.{IsDistinct};
 ghost use Rattle.std.specs.Str.{IsUtf8};
+ghost use Rattle.scene_json.specs.Appending.{Extends};
 ghost use Rattle.scene_json.specs.Characters;
 ghost use Rattle.scene_json.specs.Characters.{quote, quoted_byte, needs_escape};
 ghost use Rattle.scene_json.specs.Tree.{null_word, true_word, false_word};
@@ -17,6 +18,7 @@ use std::alloc::{AllocError, Global};
 
 /// `null`. It takes no memory.
 pub fn raw_null(_alloc: Global) -> Result<Raw, AllocError>
+    ensures sure { IsOk result }
     ensures word { IfOk result (λ raw. raw ≡ null_word) }
     ensures nests { IfOk result (IsCompact 0) }
 {
@@ -25,6 +27,7 @@ pub fn raw_null(_alloc: Global) -> Result<Raw, AllocError>
 
 /// `true` or `false`. It takes no memory.
 pub fn raw_truth(_alloc: Global, truth: bool) -> Result<Raw, AllocError>
+    ensures sure { IsOk result }
     ensures word { IfOk result (λ raw. raw ≡ (if truth then true_word else false_word)) }
     ensures nests { IfOk result (IsCompact 0) }
 {
@@ -99,9 +102,21 @@ pub fn raw_object(alloc: Global, members: &List<Member>) -> Result<Raw, AllocErr
     Raw::from_compact(out)
 }
 
-/// Appends a member: its quoted name, a colon and its value. After want of memory a part of it may stand there.
+/// Appends a member: its quoted name, a colon and its value. For want of memory nothing is appended.
 pub fn push_member(out: &mut Vec<u8>, name: &Text, value: &Raw) -> Result<(), AllocError>
     ensures ok { OnOk result (out.new.items ≡ out.old.items ++ member_text (name.now, value.now)) }
+    ensures err { OnErr result (out.new.items ≡ out.old.items) }
+    ensures utf8 { IsUtf8 name.now }
+{
+    let start = out.len();
+    let appended = push_member_parts(out, name, value);
+    whole_or_cut(out, start, appended)
+}
+
+/// Appends a member. After want of memory a part of it may stand there.
+fn push_member_parts(out: &mut Vec<u8>, name: &Text, value: &Raw) -> Result<(), AllocError>
+    ensures ok { OnOk result (out.new.items ≡ out.old.items ++ member_text (name.now, value.now)) }
+    ensures kept { OnErr result (Extends out.old.items out.new.items) }
     ensures utf8 { IsUtf8 name.now }
 {
     push_quote(out, name)?;
@@ -111,7 +126,8 @@ pub fn push_member(out: &mut Vec<u8>, name: &Text, value: &Raw) -> Result<(), Al
 
 /// Appends the comma before the item at this index, which the first has none of. For want of memory nothing is appended.
 pub fn push_comma(out: &mut Vec<u8>, i: usize) -> Result<(), AllocError>
-    ensures { OnOk result (((0 < i) × (out.new.items ≡ out.old.items ++ 44 ∷ [])) ⊎ ((i ≡ 0) × (out.new.items ≡ out.old.items))) }
+    ensures ok { OnOk result (((0 < i) × (out.new.items ≡ out.old.items ++ 44 ∷ [])) ⊎ ((i ≡ 0) × (out.new.items ≡ out.old.items))) }
+    ensures err { OnErr result (out.new.items ≡ out.old.items) }
 {
     if i > 0 {
         out.push(b',')?;
@@ -119,36 +135,66 @@ pub fn push_comma(out: &mut Vec<u8>, i: usize) -> Result<(), AllocError>
     Ok(())
 }
 
-/// Appends the quote of a text. After want of memory a part of it may stand there.
+/// Appends the quote of a text. For want of memory nothing is appended.
 pub fn push_quote(out: &mut Vec<u8>, text: &Text) -> Result<(), AllocError>
     ensures ok { OnOk result (out.new.items ≡ out.old.items ++ quote text.now) }
+    ensures err { OnErr result (out.new.items ≡ out.old.items) }
     ensures utf8 { IsUtf8 text.now }
     ensures nests { IsCompact 0 (quote text.now) }
 {
     push_quote_of(out, text.as_bytes())
 }
 
-/// Appends the quote of these characters. After want of memory a part of it may stand there.
+/// Appends the quote of these characters. For want of memory nothing is appended.
 pub fn push_quoted(out: &mut Vec<u8>, characters: &str) -> Result<(), AllocError>
     ensures ok { OnOk result (out.new.items ≡ out.old.items ++ quote characters.now) }
+    ensures err { OnErr result (out.new.items ≡ out.old.items) }
     ensures nests { IsCompact 0 (quote characters.now) }
 {
     push_quote_of(out, characters.as_bytes())
 }
 
-/// Appends a number in digits. After want of memory a part of it may stand there.
+/// Appends a number in digits. For want of memory nothing is appended.
 #[tactic(auto, using(crate::proofs::CompactLaws::decimal_nests))]
 pub fn push_whole(out: &mut Vec<u8>, number: u64) -> Result<(), AllocError>
     ensures ok { OnOk result (out.new.items ≡ out.old.items ++ decimal number) }
+    ensures err { OnErr result (out.new.items ≡ out.old.items) }
     ensures nests { IsCompact 0 (decimal number) }
 {
     let mut buffer = Buffer::new();
     out.extend_from_slice(buffer.format(number).as_bytes())
 }
 
-/// Appends the quote of a text of these bytes.
+/// What an append to a vector of this length came to. Where it failed, the vector is cut back to that length.
+pub fn whole_or_cut(
+    out: &mut Vec<u8>,
+    length: usize,
+    appended: Result<(), AllocError>,
+) -> Result<(), AllocError>
+    ensures same { result ≡ appended }
+    ensures ok { OnOk result (out.new.items ≡ out.old.items) }
+    ensures err { OnErr result (out.new.items ≡ take length out.old.items) }
+{
+    if appended.is_err() {
+        out.truncate(length);
+    }
+    appended
+}
+
+/// Appends the quote of a text of these bytes. For want of memory nothing is appended.
 fn push_quote_of(out: &mut Vec<u8>, text: &[u8]) -> Result<(), AllocError>
-    ensures { OnOk result (out.new.items ≡ out.old.items ++ quote text.now) }
+    ensures ok { OnOk result (out.new.items ≡ out.old.items ++ quote text.now) }
+    ensures err { OnErr result (out.new.items ≡ out.old.items) }
+{
+    let start = out.len();
+    let appended = push_quote_parts(out, text);
+    whole_or_cut(out, start, appended)
+}
+
+/// Appends the quote of a text of these bytes. After want of memory a part of it may stand there.
+fn push_quote_parts(out: &mut Vec<u8>, text: &[u8]) -> Result<(), AllocError>
+    ensures ok { OnOk result (out.new.items ≡ out.old.items ++ quote text.now) }
+    ensures kept { OnErr result (Extends out.old.items out.new.items) }
 {
     out.push(b'"')?;
     push_escaped(out, text)?;
@@ -158,7 +204,8 @@ fn push_quote_of(out: &mut Vec<u8>, text: &[u8]) -> Result<(), AllocError>
 
 /// Appends what stands between the quotation marks. Bytes that stand for themselves are copied together.
 fn push_escaped(out: &mut Vec<u8>, text: &[u8]) -> Result<(), AllocError>
-    ensures { OnOk result (out.new.items ≡ out.old.items ++ flat_map quoted_byte text.now) }
+    ensures ok { OnOk result (out.new.items ≡ out.old.items ++ flat_map quoted_byte text.now) }
+    ensures kept { OnErr result (Extends out.old.items out.new.items) }
 {
     let mut rest = text;
     while let Some(plain) = first_escaped(rest) {
@@ -179,7 +226,8 @@ fn first_escaped(text: &[u8]) -> Option<usize>
 
 /// Appends a byte as it stands in a quote.
 fn push_quoted_byte(out: &mut Vec<u8>, byte: u8) -> Result<(), AllocError>
-    ensures { OnOk result (out.new.items ≡ out.old.items ++ quoted_byte byte) }
+    ensures ok { OnOk result (out.new.items ≡ out.old.items ++ quoted_byte byte) }
+    ensures err { OnErr result (out.new.items ≡ out.old.items) }
 {
     match byte {
         b'"' | b'\\' => out.extend_from_slice(&[b'\\', byte]),

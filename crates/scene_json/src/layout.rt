@@ -1,7 +1,8 @@
 //! The layout of a value for readers.
 
-ghost use Rattle.std.specs.Prelude.{◌≡◌, ◌-◌, ◌*◌, ◌<◌, ◌≤◌, ℕ, List as Items, [], ◌∷◌, ◌++◌, true, false, take, length, IfOk, OnOk};
+ghost use Rattle.std.specs.Prelude.{◌≡◌, ◌-◌, ◌*◌, ◌<◌, ◌≤◌, ℕ, List as Items, [], ◌∷◌, ◌++◌, true, false, take, length, IfOk, OnOk, OnErr};
 ghost use Rattle.std.specs.List.{AllByRecursion};
+ghost use Rattle.scene_json.specs.Appending.{Extends};
 ghost use Rattle.scene_json.specs.Characters.{is_plain};
 ghost use Rattle.scene_json.specs.Layout.{line, laid_out};
 ghost use Rattle.scene_json.specs.Lines.{IsLaidOutSoFar, inside, layout_from};
@@ -9,6 +10,7 @@ ghost use Rattle.scene_json.specs.Passes.{is_closing, spaces_from, put_before, p
 ghost use Rattle.scene_json.specs.Tree.{Tree, IsGood, spelling};
 ghost use Rattle.scene_json.specs.Value.{Value};
 
+use crate::build::whole_or_cut;
 use crate::content::run_end;
 use crate::machine::is_space;
 use crate::nesting::opens;
@@ -64,11 +66,40 @@ impl Lines {
         }
     }
 
+    /// The same place.
+    fn copy(&self) -> Lines
+        ensures { result ≡ self.now }
+    {
+        Lines {
+            level: self.level,
+            first: self.first,
+            quoted: self.quoted,
+            escaped: self.escaped,
+        }
+    }
+
     /// Appends the layout of the next piece, which may end anywhere in the text. White space between values is left out.
-    /// After want of memory a part of the piece may stand there.
+    /// For want of memory nothing is appended.
     pub fn push(&mut self, out: &mut Vec<u8>, piece: &[u8]) -> Result<(), AllocError>
-        ensures { OnOk result ((text : Items ℕ) → IsLaidOutSoFar self.old text out.old.items
+        ensures ok { OnOk result ((text : Items ℕ) → IsLaidOutSoFar self.old text out.old.items
             → IsLaidOutSoFar self.new (text ++ piece.now) out.new.items) }
+        ensures err { OnErr result ((self.new ≡ self.old) × (out.new.items ≡ out.old.items)) }
+    {
+        let start = out.len();
+        let before = self.copy();
+        let appended = self.push_all(out, piece);
+        if appended.is_err() {
+            *self = before;
+        }
+        whole_or_cut(out, start, appended)
+    }
+
+    /// Appends the layout of the next piece. After want of memory a part of it may stand there.
+    #[tactic(auto, using(crate::proofs::Appending::extends_same, crate::proofs::Appending::extends_by, crate::proofs::Appending::extends_then))]
+    fn push_all(&mut self, out: &mut Vec<u8>, piece: &[u8]) -> Result<(), AllocError>
+        ensures ok { OnOk result ((text : Items ℕ) → IsLaidOutSoFar self.old text out.old.items
+            → IsLaidOutSoFar self.new (text ++ piece.now) out.new.items) }
+        ensures kept { OnErr result (Extends out.old.items out.new.items) }
     {
         let mut rest = piece;
         while !rest.is_empty() {
@@ -79,10 +110,12 @@ impl Lines {
 
     /// Appends the layout of the plain characters of a string that stand at the front, and of the byte behind them, and
     /// gives what follows.
+    #[tactic(auto, using(crate::proofs::Appending::extends_same, crate::proofs::Appending::extends_by, crate::proofs::Appending::extends_then))]
     fn push_next<'a>(&mut self, out: &mut Vec<u8>, bytes: &'a [u8]) -> Result<&'a [u8], AllocError>
         ensures appended { IfOk result (λ rest. (more : Items ℕ) → out.new.items ++ layout_from self.new (rest.now ++ more)
             ≡ out.old.items ++ layout_from self.old (bytes.now ++ more)) }
         ensures shorter { IfOk result (λ rest. length rest.now ≤ length bytes.now - 1) }
+        ensures kept { Extends out.old.items out.new.items }
     {
         let (run, behind) = bytes.split_at(self.run_length(bytes));
         out.extend_from_slice(run)?;
@@ -107,9 +140,11 @@ impl Lines {
     }
 
     /// Appends the layout of a byte.
+    #[tactic(auto, using(crate::proofs::Appending::extends_same, crate::proofs::Appending::extends_by, crate::proofs::Appending::extends_then))]
     fn push_byte(&mut self, out: &mut Vec<u8>, byte: u8) -> Result<(), AllocError>
-        ensures { OnOk result ((more : Items ℕ) → out.new.items ++ layout_from self.new more
+        ensures appended { OnOk result ((more : Items ℕ) → out.new.items ++ layout_from self.new more
             ≡ out.old.items ++ layout_from self.old (byte ∷ more)) }
+        ensures kept { Extends out.old.items out.new.items }
     {
         if self.quoted {
             out.push(byte)?;
@@ -128,9 +163,11 @@ impl Lines {
 }
 
 /// Begins the line of this byte, if it is the first in a container or closes one that isn't empty, and gives its level.
+#[tactic(auto, using(crate::proofs::Appending::extends_same, crate::proofs::Appending::extends_by, crate::proofs::Appending::extends_then))]
 fn break_line(out: &mut Vec<u8>, level: u64, first: bool, byte: u8) -> Result<u64, AllocError>
     ensures level { IfOk result (λ now. 2 * now ≡ spaces_from first (2 * level) byte) }
     ensures written { OnOk result (out.new.items ≡ out.old.items ++ put_before first (2 * level) byte) }
+    ensures kept { OnErr result (Extends out.old.items out.new.items) }
 {
     let closing = closes(byte);
     if closing == first {
@@ -147,8 +184,10 @@ fn break_line(out: &mut Vec<u8>, level: u64, first: bool, byte: u8) -> Result<u6
 }
 
 /// Parts this byte from what follows it, if it is a comma or a colon.
+#[tactic(auto, using(crate::proofs::Appending::extends_same, crate::proofs::Appending::extends_by, crate::proofs::Appending::extends_then))]
 fn part(out: &mut Vec<u8>, level: u64, byte: u8) -> Result<(), AllocError>
-    ensures { OnOk result (out.new.items ≡ out.old.items ++ put_behind (2 * level) byte) }
+    ensures written { OnOk result (out.new.items ≡ out.old.items ++ put_behind (2 * level) byte) }
+    ensures kept { OnErr result (Extends out.old.items out.new.items) }
 {
     match byte {
         b',' => push_line(out, level),
@@ -159,7 +198,8 @@ fn part(out: &mut Vec<u8>, level: u64, byte: u8) -> Result<(), AllocError>
 
 /// Begins a line with two spaces for each level.
 fn push_line(out: &mut Vec<u8>, level: u64) -> Result<(), AllocError>
-    ensures { OnOk result (out.new.items ≡ out.old.items ++ line (2 * level)) }
+    ensures written { OnOk result (out.new.items ≡ out.old.items ++ line (2 * level)) }
+    ensures kept { OnErr result (Extends out.old.items out.new.items) }
 {
     out.extend_from_slice(b"\n")?;
     for _ in 0..level {

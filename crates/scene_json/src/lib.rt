@@ -27,7 +27,7 @@ mod texts;
 
 pub use build::{
     push_comma, push_member, push_quote, push_quoted, push_whole, raw_array, raw_null, raw_object,
-    raw_of, raw_text, raw_truth, raw_whole,
+    raw_of, raw_text, raw_truth, raw_whole, whole_or_cut,
 };
 pub use end::skip_space;
 pub use fault::{JsonFault, Shape};

@@ -1,6 +1,6 @@
 //! Members of an object by their names.
 
-ghost use Rattle.std.specs.Prelude.{◌≡◌, ◌↔◌, ◌≤◌, ℕ, List as Items, Bool, Some, IfOk, IsTrue, if◌then◌else◌, decimal, option_copied, bytes_eq};
+ghost use Rattle.std.specs.Prelude.{◌≡◌, ◌↔◌, ◌≤◌, ℕ, List as Items, Bool, Some, IfOk, OnErr, IsTrue, if◌then◌else◌, decimal, option_copied, bytes_eq};
 ghost use Rattle.std.specs.List.{list_any};
 ghost use Rattle.std.specs.Str.{IsUtf8};
 ghost use Rattle.scene_json.specs.Characters.{quote};
@@ -73,6 +73,7 @@ pub fn text_named(
 pub fn shaped<T>(found: Result<T, Stop<Shape>>) -> Result<Option<T>, AllocError>
     ensures found { (x : T) → result ≡ Ok (Some x) → found ≡ Ok x }
     ensures none { result ≡ Ok None → found ≡ Err (Stop.Fault (record {})) }
+    ensures memory { OnErr result (found ≡ Err Stop.Memory) }
 {
     match found {
         Ok(found) => Ok(Some(found)),

@@ -1,16 +1,18 @@
-use Rattle.std.proofs.Common.{◌<◌, ◌++◌, length, take_all, sym, ap, ◌∙◌, subst, append-nil, arith}
+use Rattle.std.proofs.Common.{◌<◌, ◌++◌, length, take_all, sym, ap, ◌∙◌, subst, append-nil, refl, arith}
 use Rattle.std.specs.Str.{IsUtf8}
 use Rattle.std.proofs.lemmas.List.Elements.{All-more, All-same, All-nil}
 use Rattle.scene_json.specs.Compact.{member_text}
 use Rattle.scene_json.specs.Members.{pairs, pair_of}
 use Rattle.scene_json.specs.declared.text.Member.{Member}
 use Rattle.elem.specs.Printing.{IsBegun}
+use Rattle.elem.proofs.Appending.{extends_same, extends_by, extends_then}
 use Rattle.elem.proofs.Merging.{opened-step, members-more}
 use Rattle.elem.proofs.object.push_members.Goals as goal
 
 pub loop-member-init : goal.loop-member-init
 loop-member-init c = record {
   begun = λ before first at is. subst (λ ms. IsBegun before ms c.args.out.now.items) (sym (append-nil first)) is;
+  kept = extends_same _ _ refl;
   named = All-nil (λ (m : Member). IsUtf8 m.name);
 }
 
@@ -23,7 +25,9 @@ loop-member-preserved c =
       begun = λ before first at is.
           subst (λ all. IsBegun before all c.push_member.new.out.items) (members-more ms m c.loop-member.member-index inside c.member-item.is first)
           (opened-step before _ (pair_of m) c.args.start c.loop-member.out.items c.push_member.new.out.items at (c.loop-member.invariant.begun before first at is)
-          (c.in_ok-push_member.ensures.ok ∙ ap (λ o. o ++ member_text (pair_of m)) c.in_ok-push_mark.ensures));
+          (c.in_ok-push_member.ensures.ok ∙ ap (λ o. o ++ member_text (pair_of m)) c.in_ok-push_mark.ensures.ok));
+      kept = extends_then _ _ _ c.loop-member.invariant.kept
+          (extends_then _ _ _ (extends_by _ _ _ c.in_ok-push_mark.ensures.ok) (extends_by _ _ _ c.in_ok-push_member.ensures.ok));
       named = All-more (λ (m : Member). IsUtf8 m.name) ms c.loop-member.member-index m inside c.loop-member.invariant.named
           (subst (λ (m : Member). IsUtf8 m.name) c.member-item.is c.in_ok-push_member.ensures.utf8);
     }

@@ -1,6 +1,7 @@
 -- The first members are appended, and their names are texts.
 use Rattle.std.proofs.Common.{◌≡◌, ℕ, List, ◌++◌, All, length, take}
 use Rattle.std.specs.Str.{IsUtf8}
+use Rattle.scene_json.specs.Appending.{Extends}
 use Rattle.scene_json.specs.Compact.{Member as Pair}
 use Rattle.scene_json.specs.Members.{pairs}
 use Rattle.elem.specs.Printing.{IsBegun}
@@ -10,5 +11,6 @@ abbrev pub invariant-loop-member : goal.invariant-loop-member
 invariant-loop-member l = record {
   begun : (before : List ℕ) (first : List Pair) → l.start ≡ length before → IsBegun before first l.initial.out.items
       → IsBegun before (first ++ pairs (take l.member-index l.members)) l.out.items;
+  kept : Extends l.initial.out.items l.out.items;
   named : All (λ m. IsUtf8 m.name) (take l.member-index l.members);
 }

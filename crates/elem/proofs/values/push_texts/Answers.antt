@@ -3,6 +3,7 @@ use Rattle.std.proofs.lemmas.List.Elements.{All-more}
 use Rattle.scene_json.specs.Characters.{quote}
 use Rattle.scene_json.specs.Value.{IsCompact}
 use Rattle.scene_json.proofs.Appended.{mapped-step, array-closed, mapped-compact}
+use Rattle.scene_json.proofs.Appending.{extends_same, extends_by, extends_then, on_err}
 use Rattle.elem.proofs.values.push_texts.Goals as goal
 use Rattle.elem.proofs.values.push_texts.Goals.{then-i-gt0+in_ok-push-2, else-i-gt0}
 
@@ -31,3 +32,21 @@ returns-clause-text c =
 pub returns-clause-nests : goal.returns-clause-nests
 returns-clause-nests c =
     rw (← c.as_slice-text-items.ensures) (mapped-compact quote 0 c.loop-i.i c.as_slice-text-items.result.now (omega arith) c.loop-i.invariant.shallow)
+
+pub returns-in_err-push-2-clause-kept : goal.returns-in_err-push-2-clause-kept
+returns-in_err-push-2-clause-kept c =
+    on_err c.from_residual-in_err-push-2.result
+    (extends_then _ _ _ (extends_by _ _ _ c.in_ok-push.ensures.items)
+    (extends_then _ _ _ (extends_by _ _ _ c.loop-i.invariant.made) (extends_same _ _ c.in_err-push-2.ensures.items)))
+
+pub returns-in_err-push_quote-clause-kept : goal.returns-in_err-push_quote-clause-kept
+returns-in_err-push_quote-clause-kept c =
+    on_err c.from_residual-in_err-push_quote.result
+    (extends_then _ _ _ (extends_by _ _ _ c.in_ok-push.ensures.items)
+    (extends_then _ _ _ (extends_by _ _ _ c.loop-i.invariant.made)
+    (extends_then _ _ _
+    (elim c.if-i-gt0.branch [
+      | then-i-gt0+in_ok-push-2 w ↦ extends_by _ _ _ (ap (λ v. v.items) w.out-is ∙ w.in_ok-push-2.ensures.items)
+      | else-i-gt0 w ↦ extends_same _ _ (ap (λ v. v.items) w.out-is)
+    ])
+    (extends_same _ _ c.in_err-push_quote.ensures.err))))

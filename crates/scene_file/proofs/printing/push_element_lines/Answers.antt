@@ -38,8 +38,8 @@ loop-i-preserved c =
           subst (λ t. IsLaidOutSoFar c.push.new.self t c.push.new.out.items)
           (ap (λ x. before ++ x) c.as_slice.ensures.value
           ∙ piece_behind text es c.index-elements-i.result c.loop-i.i c.clear.new.self.items c.push_comma.new.out.items c.push_element.new.out.items inside
-          c.index-elements-i.is c.clear.ensures.items c.in_ok-push_comma.ensures c.in_ok-push_element.ensures.text)
-          (c.in_ok-push.ensures before (c.loop-i.invariant.made text so_far));
+          c.index-elements-i.is c.clear.ensures.items c.in_ok-push_comma.ensures.ok c.in_ok-push_element.ensures.text)
+          (c.in_ok-push.ensures.ok before (c.loop-i.invariant.made text so_far));
       nest = All-more (λ e. IsCompact 120 (element_text e)) es c.loop-i.i c.index-elements-i.result inside c.loop-i.invariant.nest
           (subst (λ e. IsCompact 120 (element_text e)) c.index-elements-i.is c.in_ok-push_element.ensures.nests);
     }

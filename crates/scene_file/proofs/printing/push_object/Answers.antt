@@ -14,7 +14,7 @@ loop-i-preserved c =
     let inside : c.loop-i.i < length ms = omega arith in
     record {
       made = mapped-step (λ (m : Member). member_text (pair_of m)) c.push.new.self.items ms c.member-item.result c.loop-i.i c.loop-i.out.items c.push_comma.new.out.items
-          c.push_member.new.out.items inside c.member-item.is c.loop-i.invariant.made c.in_ok-push_comma.ensures c.in_ok-push_member.ensures.ok;
+          c.push_member.new.out.items inside c.member-item.is c.loop-i.invariant.made c.in_ok-push_comma.ensures.ok c.in_ok-push_member.ensures.ok;
       named = All-more (λ (m : Member). IsUtf8 m.name) ms c.loop-i.i c.member-item.result inside c.loop-i.invariant.named
           (subst (λ (m : Member). IsUtf8 m.name) c.member-item.is c.in_ok-push_member.ensures.utf8);
     }

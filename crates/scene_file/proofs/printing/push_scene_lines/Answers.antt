@@ -45,10 +45,10 @@ returns c =
     let compact : IsCompact 128 (scene_text head elements) =
     subst (IsCompact 128) told
     (scene-compact head elements files c.in_ok-push_front.ensures.nests c.in_ok-push_element_lines.ensures.nest c.in_ok-push_back.ensures.settings c.in_ok-push_back.ensures.files) in
-    let begun = c.in_ok-push.ensures [] (subst (IsLaidOutSoFar c.new-lines.result []) (sym c.requires) c.new-lines.ensures) in
+    let begun = c.in_ok-push.ensures.ok [] (subst (IsLaidOutSoFar c.new-lines.result []) (sym c.requires) c.new-lines.ensures) in
     let listed = c.in_ok-push_element_lines.ensures.laid_out front begun in
     on_ok_weaker c.push-2.result
     (λ each. subst (λ (h : Heading). IsLaidOut 0 (scene_text h elements) c.push-2.new.out.items) c.head.view_is
     (laid c.push-2.new.self (scene_text head elements) c.push-2.new.out.items compact
     (subst (λ text. IsLaidOutSoFar c.push-2.new.self text c.push-2.new.out.items) same (each made listed))))
-    c.push-2.ensures
+    c.push-2.ensures.ok

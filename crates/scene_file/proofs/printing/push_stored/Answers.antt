@@ -15,7 +15,7 @@ loop-i-preserved c =
       | in-Some+in_ok-push_comma+in_ok-push_element w ↦ ap (λ v. v.items) w.out-is
           ∙ mapped-step element_text c.args.out.now.items stored w.in-Some.e.now c.loop-i.i c.loop-i.out.items w.push_comma.new.out.items w.push_element.new.out.items inside
           (sym (get_or_from_slice_get stored c.loop-i.i w.in-Some.e.now w.in-Some.e.now (sym w.in-Some.ensures.element)))
-          c.loop-i.invariant w.in_ok-push_comma.ensures w.in_ok-push_element.ensures.text
+          c.loop-i.invariant w.in_ok-push_comma.ensures.ok w.in_ok-push_element.ensures.text
       | in_default w ↦ absurd (within_stored stored c.loop-i.i inside w.in_default.ensures.element)
     ]
 

@@ -7,7 +7,7 @@ use Rattle.scene_json.proofs.layout.pretty.Goals.{After-from_vec}
 
 laid : (c : After-from_vec) (tree : Tree) → IsGood tree → spelling tree ≡ c.args.value.now → c.from_vec.result ≡ spelling (laid_out 0 tree)
 laid c tree good spells =
-    let so_far = c.in_ok-push.ensures [] (rw c.new-out.ensures.items c.new.ensures) in
+    let so_far = c.in_ok-push.ensures.ok [] (rw c.new-out.ensures.items c.new.ensures) in
     c.from_vec.ensures
     ∙ sym (so_far.goes_on tree [] good (spells ∙ sym c.as_bytes.ensures.value ∙ sym (append-nil c.as_bytes.result.now)) ∙ append-nil c.push.new.out.items)
 

@@ -9,7 +9,7 @@ loop-i-preserved c =
     let xs = c.args.events.now in
     let inside : c.loop-i.i < length xs = omega arith in
     mapped-step refused_text c.args.out.now.items xs c.index-events-i.result c.loop-i.i c.loop-i.out.items c.push_comma.new.out.items c.push_event.new.out.items inside
-    c.index-events-i.is c.loop-i.invariant c.in_ok-push_comma.ensures c.in_ok-push_event.ensures
+    c.index-events-i.is c.loop-i.invariant c.in_ok-push_comma.ensures.ok c.in_ok-push_event.ensures
 
 pub returns : goal.returns
 returns c =

@@ -9,7 +9,7 @@ loop-i-preserved c =
     let xs = c.args.reports.now in
     let inside : c.loop-i.i < length xs = omega arith in
     mapped-step replica_text c.args.out.now.items xs c.index-reports-i.result c.loop-i.i c.loop-i.out.items c.push_comma.new.out.items c.push_replica.new.out.items inside
-    c.index-reports-i.is c.loop-i.invariant c.in_ok-push_comma.ensures c.in_ok-push_replica.ensures
+    c.index-reports-i.is c.loop-i.invariant c.in_ok-push_comma.ensures.ok c.in_ok-push_replica.ensures
 
 pub returns : goal.returns
 returns c =

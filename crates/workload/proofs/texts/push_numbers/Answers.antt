@@ -10,7 +10,7 @@ loop-i-preserved c =
     let i = c.loop-i.i in
     let inside : i < length numbers = omega arith in
     mapped-step decimal c.args.out.now.items numbers (get_or numbers i 0) i c.loop-i.out.items c.push_comma.new.out.items c.push_whole.new.out.items inside
-    (sym (get_or_default_zero numbers i (get_or numbers i 0) inside)) c.loop-i.invariant c.in_ok-push_comma.ensures c.in_ok-push_whole.ensures.ok
+    (sym (get_or_default_zero numbers i (get_or numbers i 0) inside)) c.loop-i.invariant c.in_ok-push_comma.ensures.ok c.in_ok-push_whole.ensures.ok
 
 pub returns : goal.returns
 returns c =

@@ -16,6 +16,6 @@ returns-in_default-clause-appended c more = ran (goal.at.returns-in_default-clau
 
 pub returns-clause-appended : goal.returns-clause-appended
 returns-clause-appended c more =
-    c.in_ok-push_byte.ensures (c.in-Some.others.now ++ more)
+    c.in_ok-push_byte.ensures.appended (c.in-Some.others.now ++ more)
     ∙ ap (λ x. c.extend_from_slice.new.self.items ++ layout_from c.args.self.now (x ++ more)) (sym c.in-Some.ensures.cases.0)
     ∙ ran (goal.at.returns-clause-appended c).In_ok-extend_from_slice more

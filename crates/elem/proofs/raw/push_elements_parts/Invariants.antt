@@ -3,7 +3,7 @@ use Rattle.std.proofs.Common.{◌≡◌, ◌++◌, All, map, take}
 use Rattle.std.specs.List.{join_with_byte}
 use Rattle.scene_json.specs.Value.{IsCompact}
 use Rattle.elem.specs.Texts.{element_text}
-use Rattle.elem.proofs.raw.push_elements.Given as goal
+use Rattle.elem.proofs.raw.push_elements_parts.Given as goal
 
 abbrev pub invariant-loop-i : goal.invariant-loop-i
 invariant-loop-i l = record {

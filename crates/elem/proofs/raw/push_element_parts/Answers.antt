@@ -3,6 +3,7 @@ use Rattle.std.proofs.Common.{◌≡◌, ℕ, ◌+◌, get_or, ◌<◌, List, []
 use Rattle.std.specs.Str.{IsUtf8}
 use Rattle.std.proofs.lemmas.List.Elements.{recursion_from_All}
 use Rattle.scene_json.specs.declared.text.Member.{Member}
+use Rattle.scene_json.proofs.Appending.{extends_same, extends_by, extends_then, on_err}
 use Rattle.elem.specs.declared.header.Header.{Header}
 use Rattle.elem.specs.declared.header.Header.TheVariants.{BoundElements}
 use Rattle.elem.specs.Drawn.{Drawn}
@@ -12,8 +13,8 @@ use Rattle.elem.specs.Texts.{element_members}
 use Rattle.elem.proofs.Headers.{header_pairs, merged-element, length-members, element-compact, element-rises}
 use Rattle.elem.proofs.Merging.{Merging, Merged, merging-from, merging-step, merging-closed, nest-pairs}
 use Rattle.elem.proofs.Sorting.{are_rising-from}
-use Rattle.elem.proofs.raw.push_element.Goals as goal
-use Rattle.elem.proofs.raw.push_element.Goals.{In_ok-push}
+use Rattle.elem.proofs.raw.push_element_parts.Goals as goal
+use Rattle.elem.proofs.raw.push_element_parts.Goals.{In_ok-push}
 
 pub loop-header-init : goal.loop-header-init
 loop-header-init c =
@@ -73,3 +74,23 @@ returns-clause-nests c =
 pub returns-clause-rise : goal.returns-clause-rise
 returns-clause-rise c =
     are_rising-from (element_members c.args.e.now) (element-rises c.args.e.now (valid (goal.at.returns-clause-rise c).In_ok-push))
+
+pub returns-in_err-rest-clause-kept : goal.returns-in_err-rest-clause-kept
+returns-in_err-rest-clause-kept c =
+    on_err c.from_residual.result (extends_then _ _ _ (extends_by _ _ _ c.loop-header.invariant.begun) c.in_err-rest.ensures.kept)
+
+pub returns-in_err-push_header-clause-kept : goal.returns-in_err-push_header-clause-kept
+returns-in_err-push_header-clause-kept c =
+    on_err c.from_residual-in_err-push_header.result
+    (extends_then _ _ _ (extends_by _ _ _ c.loop-header.invariant.begun) (extends_then _ _ _ c.in_ok-rest.ensures.kept c.in_err-push_header.ensures.kept))
+
+pub returns-in_err-push_members-clause-kept : goal.returns-in_err-push_members-clause-kept
+returns-in_err-push_members-clause-kept c =
+    on_err c.from_residual-in_err-push_members.result
+    (extends_then _ _ _ (extends_by _ _ _ c.loop-header.invariant.begun) c.in_err-push_members.ensures.kept)
+
+pub returns-in_err-push-clause-kept : goal.returns-in_err-push-clause-kept
+returns-in_err-push-clause-kept c =
+    on_err c.from_residual-in_err-push.result
+    (extends_then _ _ _ (extends_by _ _ _ c.loop-header.invariant.begun)
+    (extends_then _ _ _ c.in_ok-push_members.ensures.kept (extends_same _ _ c.in_err-push.ensures.items)))

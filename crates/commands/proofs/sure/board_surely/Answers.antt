@@ -1,0 +1,21 @@
+use Rattle.std.proofs.Common.{subst}
+use Rattle.commands.specs.Drills.{EndsDrilling}
+use Rattle.commands.specs.Serving.{EndsServing}
+use Rattle.commands.specs.Words.{asked}
+use Rattle.commands.specs.declared.status.Status.TheVariants.{ReadFault, WriteFault}
+use Rattle.commands.proofs.Never.{never, stays}
+use Rattle.commands.proofs.sure.board_surely.Goals as goal
+
+pub returns-clause-reads : goal.returns-clause-reads
+returns-clause-reads g c =
+    never (asked c.args.words.now) c.board.result ReadFault (λ e. cc) (λ none. c.board.ensures.usage.1 none)
+    (λ command is fault. stays (c.board.ensures.read_fault command is fault).0)
+    (λ service is fault. stays (subst (EndsServing service _ _ _ _) fault (c.board.ensures.served service is)).0)
+    (λ drill is fault. subst (EndsDrilling drill _ _) fault (c.board.ensures.drilled drill is))
+
+pub returns-clause-writes : goal.returns-clause-writes
+returns-clause-writes g c =
+    never (asked c.args.words.now) c.board.result WriteFault (λ e. cc) (λ none. c.board.ensures.usage.1 none)
+    (λ command is fault. stays (c.board.ensures.write_fault command is fault).1)
+    (λ service is fault. stays (subst (EndsServing service _ _ _ _) fault (c.board.ensures.served service is)).1)
+    (λ drill is fault. stays (subst (EndsDrilling drill _ _) fault (c.board.ensures.drilled drill is)).1)
