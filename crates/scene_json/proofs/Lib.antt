@@ -21,6 +21,7 @@ mod Places
 pub mod FirstFaults
 mod Stays
 mod OffsetRuns
+pub mod Feeds
 -- ---- the pass that compacts: what it appends is the compact text of the value that was read
 pub mod Escapes
 pub mod Contents

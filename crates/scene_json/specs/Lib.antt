@@ -2,6 +2,7 @@ pub mod Alike
 pub mod Characters
 pub mod Compact
 pub mod Faults
+pub mod Feeding
 pub mod Layout
 pub mod Lines
 pub mod Machine
@@ -10,6 +11,7 @@ pub mod Named
 pub mod Parts
 pub mod Passes
 pub mod Places
+pub mod Runs
 pub mod Stretches
 pub mod TheOne
 pub mod Tree
