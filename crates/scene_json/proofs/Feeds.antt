@@ -9,16 +9,24 @@ use Rattle.std.proofs.Math.ListN.{get_or-append}
 use Rattle.std.proofs.Math.Seq.{take-append_seam, drop-append_seam, take-append-add, drop-append-add, get_or-append_seam}
 use Rattle.scene_json.specs.Characters.{is_space, is_blank}
 use Rattle.scene_json.specs.Faults.{IsFirstFault}
-use Rattle.scene_json.specs.Feeding.{behind_space, Feeding, IsAt}
+use Rattle.scene_json.specs.Feeding.{behind_space, Feeding, IsAt, IsUnderWay}
 use Rattle.scene_json.specs.Runs.{run, start, is_over, EndsBefore}
 use Rattle.scene_json.specs.Value.{Stands}
 use Rattle.scene_json.specs.declared.brackets.Bracket.{Bracket}
+use Rattle.scene_json.specs.declared.number.Part.TheVariants.{Zero, Whole, Fraction, Exponent}
+use Rattle.scene_json.specs.declared.sequence.Tail.TheVariants.{One}
+use Rattle.scene_json.specs.declared.machine.Letters.TheVariants.{Ull}
+use Rattle.scene_json.specs.declared.machine.Place.TheVariants.{Sequence}
 use Rattle.scene_json.specs.declared.machine.Mode.{Mode}
-use Rattle.scene_json.specs.declared.machine.Mode.TheVariants.{After}
+use Rattle.scene_json.specs.declared.machine.Mode.TheVariants.{After, Fresh, Number, Quoted, Word}
+use Rattle.scene_json.specs.declared.machine.Mode.TheVariants as mode
+use Rattle.scene_json.specs.declared.fault.JsonFault.TheVariants.{Syntax}
 use Rattle.scene_json.specs.declared.machine.Move.TheVariants.{To}
 use Rattle.scene_json.specs.Machine.{Outcome, state, ended, refused, top, moved, step, fault_of}
-use Rattle.scene_json.proofs.Machines.{run-append}
-use Rattle.scene_json.proofs.Ends.{take_one, ended_stands, done_stands}
+use Rattle.scene_json.proofs.Machines.{run-append, Reaches}
+use Rattle.scene_json.proofs.Ends.{take_one, over, ended_stands, done_stands}
+use Rattle.scene_json.proofs.Onward.{onward}
+use Rattle.scene_json.proofs.ValueRuns.{runs_begins, runs_onward, stands_start}
 use Rattle.scene_json.proofs.OffsetRuns.{take-plus, refused_fault, undone_fault}
 use Rattle.scene_json.proofs.Reading.{Stands-once}
 use Rattle.scene_json.proofs.Stays.{stay_run}
@@ -122,6 +130,7 @@ Stands-cut xs text rest s = record {
 
 over_ends : (m : Mode) (st : List Bracket) → is_over m st ≡ true → (b : ℕ) → step 128 m st b ≡ ended b
 over_ends After [] e b = refl
+over_ends Fresh [] e b = refl
 over_ends m st e b = absurd (false≢true e)
 
 -- the machine ends before the first of these bytes
@@ -164,6 +173,29 @@ module _ (xs : List ℕ) (m : Mode) (st : List Bracket) (is : run 128 start xs �
 
   pub ended_on : (left more text : List ℕ) → EndsBefore m st left → Stands xs text [] → Stands (xs ++ (left ++ more)) text (left ++ more)
   ended_on left more text e s = ended_by (left ++ more) text (ends_by m st left more e) s
+
+-- where a value may end that isn't over, a number has, and a sign goes on with none
+sign_refused : (m : Mode) (st : List Bracket) → step 128 m st 32 ≡ ended 32 → is_over m st ≡ false → step 128 m st 43 ≡ refused
+sign_refused After [] e goes_on = absurd (false≢true (sym goes_on))
+sign_refused Fresh [] e goes_on = absurd (false≢true (sym goes_on))
+sign_refused (Number Zero) [] e goes_on = refl
+sign_refused (Number Whole) [] e goes_on = refl
+sign_refused (Number Fraction) [] e goes_on = refl
+sign_refused (Number Exponent) [] e goes_on = refl
+sign_refused (Word Ull) st e goes_on = absurd (cc)
+sign_refused (Quoted r (Sequence n One)) st e goes_on = absurd (cc)
+sign_refused m st e goes_on = absurd (cc)
+
+-- a value that isn't over has not ended with the bytes
+pub under_way : (xs : List ℕ) (m : Mode) (st : List Bracket) → run 128 start xs ≡ state m st → is_over m st ≡ false → IsUnderWay xs
+under_way xs m st is goes_on = record {
+  begins = runs_begins 128 xs (record { mode = m; brackets = st; reached = is });
+  unended = λ text stands.
+      let ends = over [] m st (runs_onward 128 [] xs [] start m st (stands_start (xs ++ []) text [] (stands [])) is) in
+      let sign : List ℕ = 43 ∷ [] in
+      let after = runs_onward 128 sign xs sign start m st (stands_start (xs ++ sign) text sign (stands sign)) is in
+      subst (λ o. Reaches 128 sign o []) (sign_refused m st ends goes_on) (onward 128 sign m st 43 [] after);
+}
 
 -- what a run over the bytes since the last value and a piece is
 pub run-kept : (rest piece : List ℕ) (m0 m : Mode) (st0 st : List Bracket) → run 128 start rest ≡ state m0 st0 → run 128 (state m0 st0) piece ≡ state m st
@@ -301,3 +333,7 @@ module _ (stream : List ℕ) (begin : ℕ) (feed : Feeding) (at : IsAt stream be
       let place : length stream ≡ feed.used = omega (arith, at.counted) in
       subst (λ k. IsFirstFault stream begin (fault_of m (top st) None k)) place
       (undone_fault stream begin (length stream) at.within m st (ap (run 128 start) taken ∙ run-behind at.stretch ∙ ap (run 128 start) at.kept ∙ ran) refl undone)
+
+  -- a value that must come is missing
+  pub missing_there : feed.rest ≡ [] → IsFirstFault stream begin (Syntax feed.used)
+  missing_there none = cut_off_there mode.Value [] (ap (run 128 start) none) (λ e. cc)

@@ -1,6 +1,7 @@
 -- Values that are read from pieces of a stream. This project's own.
 use Rattle.std.specs.Prelude.{◌≡◌, ℕ, ◌+◌, ◌≤◌, List, [], ◌∷◌, ◌++◌, Option, None, if◌then◌else◌, length, drop}
 use Rattle.scene_json.specs.Characters.{is_space}
+use Rattle.scene_json.specs.Value.{Begins, Stands}
 use Rattle.scene_json.specs.declared.fault.JsonFault.{JsonFault}
 
 -- the bytes behind the white space at their front
@@ -14,6 +15,12 @@ pub record Feeding : Type 0 where
   pub rest : List ℕ
   pub used : ℕ
   pub fault : Option JsonFault
+
+-- Some continuation makes these bytes a value behind white space, and none has ended with them: one that has stands there
+-- whatever follows.
+pub record IsUnderWay (bytes : List ℕ) : Type 0 where
+  pub begins : Begins 128 bytes
+  pub unended : (text : List ℕ) → ((more : List ℕ) → Stands (bytes ++ more) text more) → ⊥
 
 -- The feed has used the bytes of this stream but for those that are left, the last value ended at this offset, and no
 -- fault was met.

@@ -5,7 +5,7 @@ use Rattle.scene_json.specs.Machine.{Outcome, state, ended, refused, step}
 use Rattle.scene_json.specs.declared.brackets.Bracket.{Bracket}
 use Rattle.scene_json.specs.declared.machine.Machine.{Machine}
 use Rattle.scene_json.specs.declared.machine.Mode.{Mode}
-use Rattle.scene_json.specs.declared.machine.Mode.TheVariants.{After}
+use Rattle.scene_json.specs.declared.machine.Mode.TheVariants.{After, Fresh}
 use Rattle.scene_json.specs.declared.machine.Mode.TheVariants as mode
 use Rattle.scene_json.specs.declared.advancing.Progress.{Progress}
 use Rattle.scene_json.specs.declared.advancing.Progress.TheVariants as progress
@@ -25,9 +25,10 @@ run limit from (b ∷ bytes) = run limit (go limit from b) bytes
 abbrev pub start : Outcome
 start = state mode.Value []
 
--- The value has ended, whatever follows: it is no number, and no bracket is open.
+-- The value has ended, whatever follows: no bracket is open, and it is no scalar that is under way.
 abbrev pub is_over : Mode → List Bracket → Bool
 is_over After [] = true
+is_over Fresh [] = true
 is_over m st = false
 
 -- The value has ended before these bytes, whatever follows them.

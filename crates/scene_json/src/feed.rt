@@ -3,7 +3,7 @@
 ghost use Rattle.std.specs.Prelude.{◌≡◌, ◌⊎◌, ℕ, ◌+◌, ◌^◌, ◌<◌, ◌≤◌, List, [], ◌++◌, Some, None, Err, true, false, length, drop, vec_len, IfOk, OnOk, OnErr};
 ghost use Rattle.scene_json.specs.Characters.{is_blank};
 ghost use Rattle.scene_json.specs.Faults.{IsFirstFault};
-ghost use Rattle.scene_json.specs.Feeding.{behind_space, IsAt};
+ghost use Rattle.scene_json.specs.Feeding.{behind_space, IsAt, IsUnderWay};
 ghost use Rattle.scene_json.specs.Value.{Stands};
 ghost use Rattle.scene_json.specs.declared.fault.JsonFault.{JsonFault};
 
@@ -77,6 +77,7 @@ impl Feed {
           used = self.old.used + length piece.now;
           fault = None;
         }) }
+        ensures under_way { IfOk result (λ fed. fed.value ≡ None → IsUnderWay self.new.rest) }
         ensures emptied { IfOk result (λ fed. (text : List ℕ) → fed.value ≡ Some text
             → self.new ≡ record { rest = []; used = self.old.used + fed.used; fault = None }) }
         ensures some { IfOk result (λ fed. (text : List ℕ) → fed.value ≡ Some text → 0 < length self.old.rest + fed.used) }
@@ -123,7 +124,8 @@ impl Feed {
     }
 
     /// Ends the stream, and gives a number that only the end has ended. `None` comes exactly where nothing or white space
-    /// alone stands behind the last value; a fault, where a value has begun and isn't whole, and it is kept.
+    /// alone stands behind the last value, so that a further value is missing at the stream's end; a fault, where a value
+    /// has begun and isn't whole, and it is kept.
     pub fn end(&mut self) -> Result<Option<Raw>, Stop<JsonFault>>
         ensures none { IfOk result (λ found. found ≡ None → (self.old.rest ≡ []) × (self.new ≡ self.old)) }
         ensures emptied { IfOk result (λ found. (text : List ℕ) → found ≡ Some text
@@ -135,7 +137,8 @@ impl Feed {
         // Wherever the feed stands in a stream, at its end: white space alone is left; or the value stands there, and
         // nothing behind it; or the first fault.
         ensures blank { IfOk result (λ found. found ≡ None → (stream : List ℕ) (start : ℕ)
-            → IsAt stream start [] self.old → is_blank (drop start stream) ≡ true) }
+            → IsAt stream start [] self.old → (is_blank (drop start stream) ≡ true)
+            × IsFirstFault stream start (JsonFault.Syntax self.old.used)) }
         ensures value { IfOk result (λ found. (text : List ℕ) → found ≡ Some text → (stream : List ℕ) (start : ℕ)
             → IsAt stream start [] self.old → Stands (drop start stream) text []) }
         ensures first { (fault : JsonFault) → result ≡ Err (Stop.Fault fault) → (stream : List ℕ) (start : ℕ)

@@ -163,7 +163,7 @@ impl Machine {
         ensures { result ≡ is_over self.now.mode self.now.brackets }
     {
         match self.mode {
-            Mode::After => self.brackets.top().is_none(),
+            Mode::After | Mode::Fresh => self.brackets.top().is_none(),
             _ => false,
         }
     }

@@ -5,7 +5,8 @@ use Rattle.scene_json.specs.Faults.{IsFirstFault}
 use Rattle.scene_json.specs.Feeding.{behind_space, Feeding, IsAt}
 use Rattle.scene_json.specs.Value.{Stands}
 use Rattle.scene_json.specs.declared.fault.JsonFault.{JsonFault}
-use Rattle.scene_json.proofs.Feeds.{done_whole, run-kept, blank_there, more_there, number_there, cut_off_there}
+use Rattle.scene_json.specs.declared.fault.JsonFault.TheVariants.{Syntax}
+use Rattle.scene_json.proofs.Feeds.{done_whole, run-kept, blank_there, more_there, number_there, cut_off_there, missing_there}
 use Rattle.scene_json.proofs.feed.Feed.end.Goals as goal
 
 pub returns-then-is_empty-clause-blank : goal.returns-then-is_empty-clause-blank
@@ -13,7 +14,7 @@ returns-then-is_empty-clause-blank c none stream begin at =
     let feed : Feeding = record { rest = c.self.inside.rest.items; used = c.self.inside.used; fault = c.self.inside.fault } in
     let here : IsAt stream begin [] feed = subst (IsAt stream begin []) (sym c.self.view_is) at in
     let nothing : c.self.inside.rest.items ≡ [] = grind (arith, common_steps, c.is_empty.ensures, c.if-is_empty.true) in
-    blank_there stream begin feed here nothing
+    (blank_there stream begin feed here nothing, subst (λ (f : Feeding). IsFirstFault stream begin (Syntax f.used)) c.self.view_is (missing_there stream begin feed here nothing))
 
 pub returns-then-not-is_done-clause-first : goal.returns-then-not-is_done-clause-first
 returns-then-not-is_done-clause-first c fault is stream begin at =

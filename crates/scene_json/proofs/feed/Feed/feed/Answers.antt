@@ -1,11 +1,11 @@
 use Rattle.std.proofs.Common.{◌≡◌, ℕ, ◌+◌, List, [], ◌++◌, length, drop, take, Some, sym, ap, ap₂, subst, ◌∙◌}
 use Rattle.scene_json.specs.Faults.{IsFirstFault}
-use Rattle.scene_json.specs.Feeding.{behind_space, Feeding, IsAt}
+use Rattle.scene_json.specs.Feeding.{behind_space, Feeding, IsAt, IsUnderWay}
 use Rattle.scene_json.specs.Machine.{state}
 use Rattle.scene_json.specs.Runs.{HasRun}
 use Rattle.scene_json.specs.Value.{Stands}
 use Rattle.scene_json.specs.declared.fault.JsonFault.{JsonFault}
-use Rattle.scene_json.proofs.Feeds.{ended_whole, run-kept, kept-begun, going_on, value_there, fault_there, fault_apart}
+use Rattle.scene_json.proofs.Feeds.{ended_whole, run-kept, kept-begun, going_on, value_there, fault_there, fault_apart, under_way}
 use Rattle.scene_json.proofs.feed.Feed.feed.Goals as goal
 
 pub invariant_of-self-in-Through : goal.invariant_of-self-in-Through
@@ -63,3 +63,11 @@ returns-in-Refused-clause-first c fault is stream begin at =
       λ more. subst (IsFirstFault (stream ++ more) begin) (sym c.fault-fault.ensures ∙ same)
           (fault_there stream begin c.args.piece.now feed here m.mode m.brackets ran c.in-Refused.at n.mode n.brackets c.in-Refused.ensures.1 c.in-Refused.ensures.0 c.in-Refused.ensures.2 more),
     )
+
+pub returns-in_ok-keep-in-Through-clause-under_way : goal.returns-in_ok-keep-in-Through-clause-under_way
+returns-in_ok-keep-in-Through-clause-under_way c none =
+    let m = c.copy-machine.result in
+    let n = c.advance.new.machine in
+    let ran = c.self.invariant.ran ∙ sym (ap₂ state c.copy-machine.ensures.mode c.copy-machine.ensures.brackets) in
+    subst IsUnderWay (sym c.in_ok-keep-in-Through.ensures.ok)
+    (under_way _ n.mode n.brackets (run-kept c.self.inside.rest.items c.args.piece.now m.mode n.mode m.brackets n.brackets ran c.in-Through.ensures.0) c.in-Through.ensures.1)
