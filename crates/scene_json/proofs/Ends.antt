@@ -45,7 +45,7 @@ some_tree (scalar []) (inr (inr (inr word))) rest e = cc
 some_tree tree good rest e = cc
 
 -- what is said of a state that completes a value with nothing more
-abbrev IsOver : Mode → List Bracket → Type 0
+abbrev pub IsOver : Mode → List Bracket → Type 0
 IsOver m st = step 128 m st 32 ≡ ended 32
 
 module _ (left : List ℕ) where
@@ -102,7 +102,7 @@ module _ (left : List ℕ) where
   no_word Ull rest e = cc
   no_word letters rest e = cc
 
-  over : (m : Mode) (st : List Bracket) → Finishes 128 left m st [] → IsOver m st
+  pub over : (m : Mode) (st : List Bracket) → Finishes 128 left m st [] → IsOver m st
   over mode.Value st f = absurd (no_value st f)
   over Fresh st f = fresh_over st f
   over Name st (here n) = absurd (no_named st n)

@@ -22,6 +22,7 @@ pub mod FirstFaults
 mod Stays
 mod OffsetRuns
 pub mod Appending
+pub mod Feeds
 -- ---- the pass that compacts: what it appends is the compact text of the value that was read
 pub mod Escapes
 pub mod Contents

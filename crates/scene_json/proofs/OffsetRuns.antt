@@ -17,7 +17,7 @@ use Rattle.scene_json.proofs.Reading.{Stands-once}
 use Rattle.scene_json.proofs.Stays.{stay_run}
 
 -- a front of two parts
-take-plus : (n k : ℕ) (xs : List ℕ) → take (n + k) xs ≡ take n xs ++ take k (drop n xs)
+pub take-plus : (n k : ℕ) (xs : List ℕ) → take (n + k) xs ≡ take n xs ++ take k (drop n xs)
 take-plus n k xs =
     sym (take-append-drop n (take (n + k) xs)) ∙ ap₂ (λ (x y : List ℕ). x ++ y) (take-take n (n + k) xs (omega arith)) (drop-take n k xs)
 

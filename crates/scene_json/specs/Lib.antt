@@ -3,6 +3,7 @@ pub mod Appending
 pub mod Characters
 pub mod Compact
 pub mod Faults
+pub mod Feeding
 pub mod Layout
 pub mod Lines
 pub mod Machine
@@ -11,6 +12,7 @@ pub mod Named
 pub mod Parts
 pub mod Passes
 pub mod Places
+pub mod Runs
 pub mod Stretches
 pub mod TheOne
 pub mod Tree

@@ -42,6 +42,16 @@ impl Brackets {
         }
     }
 
+    /// The same brackets.
+    pub(crate) fn copy(&self) -> Brackets
+        ensures { result ≡ self.now }
+    {
+        Brackets {
+            kinds: self.kinds,
+            free: self.free,
+        }
+    }
+
     /// The innermost open bracket.
     pub(crate) fn top(&self) -> Option<Bracket>
         ensures { result ≡ top self.now }

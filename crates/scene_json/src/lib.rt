@@ -1,6 +1,7 @@
 //! JSON texts and their values.
 #![tactic(auto)]
 
+mod advancing;
 mod brackets;
 mod build;
 mod collapsing;
@@ -8,6 +9,7 @@ mod compacting;
 mod content;
 mod end;
 mod fault;
+mod feed;
 pub mod laws;
 mod layout;
 mod machine;
@@ -31,6 +33,7 @@ pub use build::{
 };
 pub use end::skip_space;
 pub use fault::{JsonFault, Shape};
+pub use feed::{Fed, Feed};
 pub use layout::{Lines, pretty};
 pub use named::{has_value, is_one_of, shaped, text_named, truth_named, value_named, whole_named};
 pub use nesting::{depth_of, nests_at_most};

@@ -6,6 +6,7 @@ ghost use Rattle.std.specs.Prelude.{◌≡◌, ◌↔◌, ◌-◌, ◌≤◌, Is
 ghost use Rattle.std.specs.List.{AllByRecursion};
 ghost use Rattle.scene_json.specs.Characters.{is_space, is_hex};
 ghost use Rattle.scene_json.specs.Machine.{closes_bracket, after_comma, after_string, value_begun, value_move, fresh_move, name_begun, name_move, colon_move, after_move, plain_move, led_move, escape_move, hex_move, sequence_move, string_move, number_move, first_letter, letters_after, word_move, moved, string_fault, bracket_fault, fault_of, top, step, ended, Stepped};
+ghost use Rattle.scene_json.specs.Runs.{is_over};
 ghost use Rattle.scene_json.specs.declared.machine.Move.TheVariants.{To};
 
 use crate::brackets::{Bracket, Brackets};
@@ -109,6 +110,17 @@ impl Machine {
         }
     }
 
+    /// An equal machine.
+    pub(crate) fn copy(&self) -> Machine
+        ensures mode { result.mode ≡ self.now.mode }
+        ensures brackets { result.brackets ≡ self.now.brackets }
+    {
+        Machine {
+            mode: self.mode,
+            brackets: self.brackets.copy(),
+        }
+    }
+
     /// Takes one byte more, unless no value goes on with it.
     pub(crate) fn step(&mut self, byte: u8) -> Step
         ensures { Stepped self.old self.new result byte }
@@ -144,6 +156,16 @@ impl Machine {
         ensures { IsTrue result ↔ (step 128 self.now.mode self.now.brackets 32 ≡ ended 32) }
     {
         matches!(moved(self.mode, self.brackets.top(), b' '), Move::End)
+    }
+
+    /// The value has ended, whatever follows.
+    pub(crate) fn is_over(&self) -> bool
+        ensures { result ≡ is_over self.now.mode self.now.brackets }
+    {
+        match self.mode {
+            Mode::After | Mode::Fresh => self.brackets.top().is_none(),
+            _ => false,
+        }
     }
 
     /// The fault where the text ends at this offset or goes on with this byte there, and no value does.
