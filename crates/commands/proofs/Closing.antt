@@ -11,7 +11,7 @@ use Rattle.room_core.specs.declared.limits.ServeEnd.{ServeEnd}
 use Rattle.room_core.specs.declared.limits.ServeEnd.TheVariants.{AllClosed, Idle as IdleEnd, LinkFault as LinkEnd, LinksFull, EventsFull, Memory as MemoryEnd}
 use Rattle.scene_file.specs.declared.scene.Scene.{Scene}
 use Rattle.commands.specs.Answers.{IsRefusal}
-use Rattle.commands.specs.Closing.{NoneRose, LeadsToClose, IsServedToClose}
+use Rattle.commands.specs.Closing.{NoneRose, LeadsToClose}
 use Rattle.commands.specs.Ends.{HasLeft}
 use Rattle.commands.specs.Faults.{status_of, IsNoted}
 use Rattle.commands.specs.Input.{HasScenes}
