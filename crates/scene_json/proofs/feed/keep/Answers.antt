@@ -1,4 +1,4 @@
-use Rattle.std.proofs.Common.{[], ◌++◌, ◌-◌, ◌≡◌, ℕ, List, Result, Ok, Err, arith, drop, length, refl, sym, take, ◌∙◌}
+use Rattle.std.proofs.Common.{[], ◌++◌, ◌-◌, ◌≡◌, ℕ, List, Result, Ok, Err, arith, drop, length, sym, take, ◌∙◌}
 use Rattle.std.proofs.lemmas.Grind.{common_steps}
 use Rattle.std.specs.Prelude.{OnOk, if◌then◌else◌, is_ok}
 use Rattle.scene_json.specs.Characters.{is_space}

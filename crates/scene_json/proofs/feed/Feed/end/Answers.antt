@@ -1,10 +1,9 @@
-use Rattle.std.proofs.Common.{◌≡◌, ℕ, List, [], ◌++◌, arith, refl, sym, ap, subst, ◌∙◌}
+use Rattle.std.proofs.Common.{◌≡◌, ℕ, List, [], ◌++◌, arith, refl, sym, subst, ◌∙◌}
 use Rattle.std.proofs.lemmas.Bool.{both_ways}
 use Rattle.std.proofs.lemmas.Grind.{common_steps}
 use Rattle.scene_json.specs.Faults.{IsFirstFault}
 use Rattle.scene_json.specs.Feeding.{behind_space, Feeding, IsAt}
 use Rattle.scene_json.specs.Value.{Stands}
-use Rattle.scene_json.specs.declared.fault.JsonFault.{JsonFault}
 use Rattle.scene_json.specs.declared.fault.JsonFault.TheVariants.{Syntax}
 use Rattle.scene_json.proofs.Feeds.{done_whole, run-kept, blank_there, more_there, number_there, cut_off_there, missing_there}
 use Rattle.scene_json.proofs.feed.Feed.end.Goals as goal

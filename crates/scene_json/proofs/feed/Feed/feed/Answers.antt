@@ -1,10 +1,9 @@
-use Rattle.std.proofs.Common.{◌≡◌, ℕ, ◌+◌, List, [], ◌++◌, length, drop, take, Some, sym, ap, ap₂, subst, ◌∙◌}
+use Rattle.std.proofs.Common.{◌≡◌, ℕ, ◌+◌, List, [], ◌++◌, length, drop, take, sym, ap₂, subst, ◌∙◌}
 use Rattle.scene_json.specs.Faults.{IsFirstFault}
 use Rattle.scene_json.specs.Feeding.{behind_space, Feeding, IsAt, IsUnderWay}
 use Rattle.scene_json.specs.Machine.{state}
 use Rattle.scene_json.specs.Runs.{HasRun}
 use Rattle.scene_json.specs.Value.{Stands}
-use Rattle.scene_json.specs.declared.fault.JsonFault.{JsonFault}
 use Rattle.scene_json.proofs.Feeds.{ended_whole, run-kept, kept-begun, going_on, value_there, fault_there, fault_apart, under_way}
 use Rattle.scene_json.proofs.feed.Feed.feed.Goals as goal
 
