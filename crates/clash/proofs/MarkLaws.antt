@@ -9,7 +9,7 @@ use Rattle.std.proofs.lemmas.Bool.{cases_Bool, and_from, and_parts, both_ways, c
 use Rattle.std.proofs.lemmas.List.Folds.{find-append}
 use Rattle.std.proofs.lemmas.Option.{slice_get-get_or}
 use Rattle.std.proofs.lemmas.Slice.Eq.{bytes_eq-Decides}
-use Rattle.elem.specs.Drawn.{Drawn}
+use Rattle.elem.specs.ElementValue.{ElementValue}
 use Rattle.clash.specs.Marks.{Mark, mark_of, is_marked, mark_cmp, place_of, AreListed}
 
 -- ---- equal marks
@@ -32,40 +32,40 @@ tied-itself a =
     sym (marks-tied a a)
     ∙ and_from (bytes_eq a.0 a.0 && (a.1 == a.1)) (a.2 == a.2) (and_from (bytes_eq a.0 a.0) (a.1 == a.1) ((bytes_eq-Decides a.0 a.0).1 refl) (eq-eqb a.1 a.1 refl)) (eq-eqb a.2 a.2 refl)
 
-marked-same : (q : Mark) (e : Drawn) → is_marked q e ≡ true → q ≡ mark_of e
+marked-same : (q : Mark) (e : ElementValue) → is_marked q e ≡ true → q ≡ mark_of e
 marked-same q e h =
     let outer = and_parts (bytes_eq q.0 e.id) ((q.1 == e.version) && (q.2 == e.nonce)) h in
     let inner = and_parts (q.1 == e.version) (q.2 == e.nonce) outer.1 in
     same-parts q (mark_of e) ((bytes_eq-Decides q.0 e.id).0 outer.0) (eqb-true q.1 e.version inner.0) (eqb-true q.2 e.nonce inner.1)
 
-pub marked-itself : (e : Drawn) → is_marked (mark_of e) e ≡ true
+pub marked-itself : (e : ElementValue) → is_marked (mark_of e) e ≡ true
 marked-itself e =
     and_from (bytes_eq e.id e.id) ((e.version == e.version) && (e.nonce == e.nonce)) ((bytes_eq-Decides e.id e.id).1 refl)
     (and_from (e.version == e.version) (e.nonce == e.nonce) (eq-eqb e.version e.version refl) (eq-eqb e.nonce e.nonce refl))
 
 -- ---- one element more
-get-last : (xs : List Drawn) (x : Drawn) → slice_get (xs ++ x ∷ []) (length xs) ≡ Some x
+get-last : (xs : List ElementValue) (x : ElementValue) → slice_get (xs ++ x ∷ []) (length xs) ≡ Some x
 get-last [] x = refl
 get-last (y ∷ xs) x = get-last xs x
 
-get-within : (xs : List Drawn) (x : Drawn) (i : ℕ) → i < length xs → slice_get (xs ++ x ∷ []) i ≡ slice_get xs i
+get-within : (xs : List ElementValue) (x : ElementValue) (i : ℕ) → i < length xs → slice_get (xs ++ x ∷ []) i ≡ slice_get xs i
 get-within [] x i l = absurd (omega arith)
 get-within (y ∷ xs) x zero l = refl
 get-within (y ∷ xs) x (suc i) l = get-within xs x i (omega arith)
 
-get-kept : (xs : List Drawn) (x : Drawn) (o : Option ℕ) → IfSome o (λ i. i < length xs) → option_and_then (slice_get (xs ++ x ∷ [])) o ≡ option_and_then (slice_get xs) o
+get-kept : (xs : List ElementValue) (x : ElementValue) (o : Option ℕ) → IfSome o (λ i. i < length xs) → option_and_then (slice_get (xs ++ x ∷ [])) o ≡ option_and_then (slice_get xs) o
 get-kept xs x None l = refl
 get-kept xs x (Some i) l = get-within xs x i l
 
-within-kept : (xs : List Drawn) (x : Drawn) (o : Option ℕ) → IfSome o (λ i. i < length xs) → IfSome o (λ i. i < length (xs ++ x ∷ []))
+within-kept : (xs : List ElementValue) (x : ElementValue) (o : Option ℕ) → IfSome o (λ i. i < length xs) → IfSome o (λ i. i < length (xs ++ x ∷ []))
 within-kept xs x None l = tt
 within-kept xs x (Some i) l = omega (arith, l, length-append xs (x ∷ []))
 
-or-none : (o : Option Drawn) → option_or o None ≡ o
+or-none : (o : Option ElementValue) → option_or o None ≡ o
 or-none None = refl
 or-none (Some x) = refl
 
-module _ (firsts : List Drawn) (old new : List (Mark × ℕ)) (e : Drawn) (listed : AreListed firsts old) (none : place_of old (mark_of e) ≡ None)
+module _ (firsts : List ElementValue) (old new : List (Mark × ℕ)) (e : ElementValue) (listed : AreListed firsts old) (none : place_of old (mark_of e) ≡ None)
     (updates : (q : Mark) → place_of new q ≡ cond (is_at (mark_cmp (mark_of e)) q) (Some (length firsts)) (place_of old q)) where
   IsListed : Mark → Type 0
   IsListed q =
@@ -103,13 +103,13 @@ module _ (firsts : List Drawn) (old new : List (Mark × ℕ)) (e : Drawn) (liste
   AreListed-added = record { within = λ q. (each-listed q).0; each = λ q. (each-listed q).1 }
 
 -- ---- the first element of a mark
-pub found-first : (firsts : List Drawn) (places : List (Mark × ℕ)) (mark : Mark) (e first : Drawn) (i : ℕ) → AreListed firsts places → mark ≡ mark_of e → Some i ≡ place_of places mark → first ≡ get_or firsts i first
+pub found-first : (firsts : List ElementValue) (places : List (Mark × ℕ)) (mark : Mark) (e first : ElementValue) (i : ℕ) → AreListed firsts places → mark ≡ mark_of e → Some i ≡ place_of places mark → first ≡ get_or firsts i first
     → find (is_marked (mark_of e)) firsts ≡ Some first
 found-first firsts places mark e first i listed same at is =
     let within : IfSome (Some i) (λ j. j < length firsts) = subst (λ o. IfSome o (λ j. j < length firsts)) (sym at) (listed.within mark) in
     ap (λ m. find (is_marked m) firsts) (sym same) ∙ sym (listed.each mark) ∙ ap (option_and_then (slice_get firsts)) (sym at)
     ∙ slice_get-get_or firsts i first within ∙ ap Some (sym is)
 
-pub found-none : (firsts : List Drawn) (places : List (Mark × ℕ)) (mark : Mark) (e : Drawn) → AreListed firsts places → mark ≡ mark_of e → None ≡ place_of places mark → find (is_marked (mark_of e)) firsts ≡ None
+pub found-none : (firsts : List ElementValue) (places : List (Mark × ℕ)) (mark : Mark) (e : ElementValue) → AreListed firsts places → mark ≡ mark_of e → None ≡ place_of places mark → find (is_marked (mark_of e)) firsts ≡ None
 found-none firsts places mark e listed same at =
     ap (λ m. find (is_marked m) firsts) (sym same) ∙ sym (listed.each mark) ∙ ap (option_and_then (slice_get firsts)) (sym at)

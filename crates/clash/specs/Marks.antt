@@ -5,16 +5,16 @@ use Rattle.std.specs.Cmp.Lexicographic.{slice_cmp}
 use Rattle.std.specs.Map.{lookup}
 use Rattle.std.specs.Ordering.{nat_cmp, ordering_then}
 use Rattle.std.specs.declared.cmp.Ordering.{Ordering}
-use Rattle.elem.specs.Drawn.{Drawn}
+use Rattle.elem.specs.ElementValue.{ElementValue}
 
 abbrev pub Mark : Type 0
 Mark = List ℕ × ℕ × ℕ
 
-abbrev pub mark_of : Drawn → Mark
+abbrev pub mark_of : ElementValue → Mark
 mark_of e = (e.id, e.version, e.nonce)
 
 -- whether an element has this id, version and nonce
-abbrev pub is_marked : Mark → Drawn → Bool
+abbrev pub is_marked : Mark → ElementValue → Bool
 is_marked mark e = bytes_eq mark.0 e.id && (mark.1 == e.version && mark.2 == e.nonce)
 
 abbrev pub mark_cmp : Mark → Mark → Ordering
@@ -25,6 +25,6 @@ abbrev pub place_of : List (Mark × ℕ) → Mark → Option ℕ
 place_of places mark = lookup (is_at (mark_cmp mark)) places
 
 -- For each mark the place of the first element that has it is listed, if there is one.
-pub record AreListed (firsts : List Drawn) (places : List (Mark × ℕ)) : Type 0 where
+pub record AreListed (firsts : List ElementValue) (places : List (Mark × ℕ)) : Type 0 where
   pub within : (mark : Mark) → IfSome (place_of places mark) (λ i. i < length firsts)
   pub each : (mark : Mark) → option_and_then (slice_get firsts) (place_of places mark) ≡ find (is_marked mark) firsts

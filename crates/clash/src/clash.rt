@@ -1,7 +1,7 @@
 //! Noted elements.
 
 ghost use Rattle.std.specs.Prelude.{◌≡◌, [], MatchBool, IfOk, OnOk, OnErr};
-ghost use Rattle.clash.specs.Firsts.{HasClash, IsLikeFirst, noted};
+ghost use Rattle.clash.specs.Firsts.{HasClash, IsLikeFirst, firsts_with};
 
 use crate::marks::{Mark, add, mark_of, place_of};
 use elem::{Element, same};
@@ -20,10 +20,10 @@ pub struct Clash {
 
 impl Model for Clash {
     ghost use Rattle.std.specs.Prelude.{List};
-    ghost use Rattle.elem.specs.Drawn.{Drawn};
+    ghost use Rattle.elem.specs.ElementValue.{ElementValue};
     ghost use Rattle.clash.specs.Marks.{AreListed};
 
-    ghost Value = { List Drawn };
+    ghost Value = { List ElementValue };
 
     ghost view = { λ c. c.firsts.items };
 
@@ -45,7 +45,7 @@ impl Clash {
     /// memory nothing is noted.
     pub fn note(&mut self, e: &Element) -> Result<bool, AllocError>
         ensures clash { IfOk result (λ clashes. MatchBool clashes (HasClash self.old e.now) (IsLikeFirst self.old e.now)) }
-        ensures noted { OnOk result (self.new ≡ noted self.old e.now) }
+        ensures noted { OnOk result (self.new ≡ firsts_with self.old e.now) }
         ensures err { OnErr result (self.new ≡ self.old) }
     {
         let mark = mark_of(e)?;

@@ -7,7 +7,7 @@ use Rattle.std.proofs.lemmas.Bool.Decides.{nat_tests}
 use Rattle.scene_json.proofs.Collapsed.{bytes_eq-true}
 use Rattle.scene_file.specs.declared.layout.Layout.{Layout}
 use Rattle.scene_file.specs.declared.layout.Layout.TheVariants.{Compact, Pretty}
-use Rattle.commands.specs.Services.{IsDrill, IsService, drill_of, number_within, is_number_within, service_of}
+use Rattle.commands.specs.Services.{IsDrillWithinLimits, IsService, drill_of, number_within, is_number_within, service_of}
 use Rattle.commands.specs.Words.{asked, asked_alone, asked_command, asked_drill, asked_layout, asked_service, words_of}
 use Rattle.commands.specs.declared.words.Command.{Command}
 use Rattle.commands.specs.declared.words.Command.TheVariants.{Restore, Merge, State, Pictures, Replay}
@@ -196,7 +196,7 @@ drill-made (Some seed) (Some events) drill e =
     let same = some-same _ drill e in
     (ap (λ (d : Drill). Some d.seed) same, ap (λ (d : Drill). Some d.events) same)
 
-drill-is : (options : List (List ℕ)) (drill : Drill) → asked_drill options ≡ Some drill → IsDrill drill
+drill-is : (options : List (List ℕ)) (drill : Drill) → asked_drill options ≡ Some drill → IsDrillWithinLimits drill
 drill-is [] drill e = absurd (none-some drill e)
 drill-is (seed ∷ []) drill e = absurd (none-some drill e)
 drill-is (seed ∷ events ∷ []) drill e =
@@ -208,11 +208,11 @@ drill-is (seed ∷ events ∷ []) drill e =
     }
 drill-is (seed ∷ events ∷ word ∷ more) drill e = absurd (none-some drill e)
 
-pub asked-drill : (words : List (List ℕ)) (drill : Drill) → asked words ≡ Some (Drilled drill) → IsDrill drill
+pub asked-drill : (words : List (List ℕ)) (drill : Drill) → asked words ≡ Some (Drilled drill) → IsDrillWithinLimits drill
 asked-drill [] drill e = absurd (none-some (Drilled drill) e)
 asked-drill (word ∷ options) drill e =
     by-word word (option_map Serve (asked_service options)) (option_map Drilled (asked_drill options)) (option_map Answer (asked_command word options))
-    (Some (Drilled drill)) (IsDrill drill)
+    (Some (Drilled drill)) (IsDrillWithinLimits drill)
     (λ is t. absurd (differs Serve drill Drilled (asked_service options) (λ service e. cc) is))
     (λ is. drill-is options drill (drilled (asked_drill options) drill is))
     (λ is. absurd (differs Answer drill Drilled (asked_command word options) (λ command e. cc) is)) e

@@ -5,7 +5,7 @@ use Rattle.board_io.specs.Ends.{SinkEnd}
 use Rattle.room_core.specs.Closing.{LeadToClose}
 use Rattle.room_core.specs.Rooms.{RoomState}
 use Rattle.room_core.specs.Serving.{at_start, IsServed}
-use Rattle.room_core.specs.Told.{Told}
+use Rattle.room_core.specs.Told.{LinksTold}
 use Rattle.room_core.specs.declared.limits.RoomLimits.{RoomLimits}
 use Rattle.room_core.specs.declared.limits.ServeEnd.{ServeEnd}
 use Rattle.room_core.specs.declared.limits.ServeEnd.TheVariants.{AllClosed, Idle as IdleEnd, LinkFault as LinkEnd, LinksFull, EventsFull, Memory as MemoryEnd}
@@ -34,7 +34,7 @@ drilled-whole f before after (inr wrote) write kept = absurd (kept (write wrote)
 -- what room_core says of rooms that are led to a close
 abbrev pub CloseSo : Type 0
 CloseSo =
-    (limits : RoomLimits) (room other new : RoomState) (before after : Told) (end : ServeEnd) → room.joined ≡ other.joined
+    (limits : RoomLimits) (room other new : RoomState) (before after : LinksTold) (end : ServeEnd) → room.joined ≡ other.joined
     → LeadToClose limits (at_start room) before after → IsServed limits (at_start other) new before after end
     → (end ≡ AllClosed) ⊎ ((end ≡ MemoryEnd) ⊎ (end ≡ LinkEnd))
 

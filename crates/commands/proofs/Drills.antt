@@ -16,8 +16,8 @@ use Rattle.session_text.specs.declared.event.Event.{Event}
 use Rattle.session_text.specs.declared.event.Event.TheVariants.{Change, Update, Deliver, Hold, Release, Undo, Redo}
 use Rattle.session_text.specs.declared.event.Pick.TheVariants.{All}
 use Rattle.session_text.specs.declared.session.Session.{Session}
-use Rattle.origins.specs.Own.{IsOwn, HasOwnUpdates}
-use Rattle.origins.specs.Told.{IsNoHold, HasNoHolds, IsTold, IsToldAll}
+use Rattle.origins.specs.Own.{IsOwnEvent, HasOwnUpdates}
+use Rattle.origins.specs.Told.{IsNoHold, HasNoHolds, IsDelivered, IsToldAll}
 use Rattle.workload.specs.Drills.{last_events}
 use Rattle.workload.specs.Facts.{IsDrill, IsOfReplicas, PicksAll}
 use Rattle.workload.specs.Texts.{rising, falling}
@@ -55,7 +55,7 @@ unopened session none =
     subst (λ elements. HaveClashes [] elements 0) (sym empty) refl
 
 -- no event of it brings updates from elsewhere, and none holds any off
-own : (event : Event) → IsOfReplicas event → IsOwn event
+own : (event : Event) → IsOfReplicas event → IsOwnEvent event
 own (Change at time capture command) is = tt
 own (Update elements) is = is
 own (Deliver to picks) is = tt
@@ -74,7 +74,7 @@ unheld (Undo at time) is = tt
 unheld (Redo at time) is = tt
 
 -- each replica is told of each message by one of the last four events
-told-last : (replicas made at message : ℕ) → replicas ≡ 4 → at < replicas → message < made → PicksAll made → IsTold (last_events made) at message
+told-last : (replicas made at message : ℕ) → replicas ≡ 4 → at < replicas → message < made → PicksAll made → IsDelivered (last_events made) at message
 told-last replicas made zero message four within some picks =
     record { picks = map All (rising made); delivery = (0, lit≤ tt, refl); whole = picks.up message some }
 told-last replicas made (suc zero) message four within some picks =

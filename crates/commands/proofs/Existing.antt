@@ -5,12 +5,12 @@ use Rattle.scene_json.specs.Characters.{is_blank, is_space}
 use Rattle.scene_json.specs.Compact.{Member as Pair}
 use Rattle.scene_json.specs.Value.{IsCompact}
 use Rattle.scene_json.proofs.CompactLaws.{Value-deeper}
-use Rattle.elem.specs.Drawn.{Drawn}
+use Rattle.elem.specs.ElementValue.{ElementValue}
 use Rattle.elem_store.proofs.Stored.{stored-exist}
 use Rattle.file_table.specs.References.{referred_files}
 use Rattle.file_table.proofs.Tabled.{picture-exists}
 use Rattle.scene_file.specs.Heads.{Heading}
-use Rattle.scene_file.specs.Reading.{IsFaultAt}
+use Rattle.scene_file.specs.Reading.{IsSceneFaultAt}
 use Rattle.scene_file.specs.Scenes.{scene_text, state_text}
 use Rattle.scene_file.specs.declared.layout.Layout.{Layout}
 use Rattle.scene_file.specs.declared.scene.Scene.{Scene}
@@ -25,8 +25,8 @@ use Rattle.session_text.proofs.SessionsOne.{session-or-fault}
 use Rattle.commands.specs.Answers.{IsAnswer, IsBoardOf, IsShownAs, IsStoredAs, HasPictures, IsRefusal, IsMadeOf, heads_of, updates_of, shown_of}
 use Rattle.commands.specs.Faults.{newline}
 use Rattle.commands.specs.Input.{ScenesLead, HasScenes, HasFaultyText}
-use Rattle.commands.specs.Pictures.{AreLines, IsTold}
-use Rattle.commands.specs.Pictures.IsTold.{size, not_base64, no_data_url}
+use Rattle.commands.specs.Pictures.{AreLines, IsToldOfPicture}
+use Rattle.commands.specs.Pictures.IsToldOfPicture.{size, not_base64, no_data_url}
 use Rattle.commands.specs.declared.status.Refusal.{Refusal}
 use Rattle.commands.specs.declared.status.Refusal.TheVariants as refusal
 use Rattle.commands.specs.declared.words.Command.{Command}
@@ -52,7 +52,7 @@ next-text : (bytes : List ℕ) (at : ℕ) (scenes : List Scene) → at ≤ lengt
 next-text bytes at scenes within lead onward = by (ended-or-not (drop at bytes) scenes) (scene-or-fault bytes at within)
   where
     by : ((scenes ≢ []) × (is_blank (drop at bytes) ≡ true)) ⊎ ((scenes ≡ []) ⊎ (is_blank (drop at bytes) ≡ false))
-        → ((scene : Scene) × (end : ℕ) × StandsAt bytes at scene end) ⊎ ((found : SceneFault) × IsFaultAt bytes at found) → Held bytes
+        → ((scene : Scene) × (end : ℕ) × StandsAt bytes at scene end) ⊎ ((found : SceneFault) × IsSceneFaultAt bytes at found) → Held bytes
     by (inl (some, blank)) next = inl (scenes, record { some = some; rest = drop at bytes; lead = lead; space = blank })
     by (inr begun) (inr (found, is)) =
         inr (length scenes + 1, found, record { scenes = scenes; start = at; within = within; lead = lead; counted = refl; begun = begun; faulty = is })
@@ -75,7 +75,7 @@ held-texts : (bytes : List ℕ) (scenes : List Scene) → HasScenes bytes scenes
 held-texts bytes scenes has = led-texts bytes has.rest scenes has.lead
 
 -- ---- the board, and what is told of it
-board-exists : (scenes : List Scene) → (head : Heading) × (stored : List Drawn) × IsBoardOf scenes head stored
+board-exists : (scenes : List Scene) → (head : Heading) × (stored : List ElementValue) × IsBoardOf scenes head stored
 board-exists scenes =
     let head = joined-exists (heads_of scenes) in
     let stored = stored-exist (updates_of scenes) in
@@ -103,7 +103,7 @@ state-exists scenes =
     let (head, stored, board) = board-exists scenes in
     (state_text head stored ++ newline, record { head = head; stored = stored; board = board; is_state = refl })
 
-told-exists : (entry : List ℕ) → IsCompact 126 entry → (told : List ℕ) × IsTold entry told
+told-exists : (entry : List ℕ) → IsCompact 126 entry → (told : List ℕ) × IsToldOfPicture entry told
 told-exists entry is = elim (picture-exists entry (Value-deeper (lit≤ tt) is)) [
   | inl (bytes, p) ↦ (decimal bytes, size bytes p)
   | inr (inl (content, has, none)) ↦ (codes "not base64", not_base64 content has none)

@@ -3,7 +3,7 @@ use Rattle.std.proofs.Common.{◌≡◌, ◌≢◌, ◌⊎◌, inl, inr, ℕ, �
 use Rattle.std.specs.List.{prefix_len}
 use Rattle.std.proofs.lemmas.Bool.{both_ways}
 use Rattle.scene_json.specs.Characters.{is_blank, is_space}
-use Rattle.scene_file.specs.Reading.{IsSceneAt, IsFaultAt}
+use Rattle.scene_file.specs.Reading.{IsSceneAt, IsSceneFaultAt}
 use Rattle.scene_file.specs.declared.scene.Scene.{Scene}
 use Rattle.scene_file.specs.declared.fault.SceneFault.{SceneFault}
 use Rattle.scene_file.proofs.Once.{scene-once, scene-some, fault-once, fault-none}
@@ -17,7 +17,7 @@ HasNoScene bytes = (scene : Scene) (rest : List ℕ) → IsSceneAt bytes scene r
 blank-none : (bytes : List ℕ) → is_blank bytes ≡ true → HasNoScene bytes
 blank-none bytes blank scene rest at = scene-some at blank
 
-faulty-none : (bytes : List ℕ) (at : ℕ) (fault : SceneFault) → IsFaultAt bytes at fault → HasNoScene (drop at bytes)
+faulty-none : (bytes : List ℕ) (at : ℕ) (fault : SceneFault) → IsSceneFaultAt bytes at fault → HasNoScene (drop at bytes)
 faulty-none bytes at fault is scene rest stands = fault-none bytes at fault is stands
 
 -- Scenes behind which none stands are determined, and so is what follows them.
@@ -45,7 +45,7 @@ pub faulty-once : (bytes : List ℕ) (number other : ℕ) (fault why : SceneFaul
 faulty-once bytes number other fault why r q =
     let both = scenes-once bytes (drop r.start bytes) (drop q.start bytes) r.scenes q.scenes r.lead q.lead (faulty-none bytes r.start fault r.faulty) (faulty-none bytes q.start why q.faulty) in
     let at = drop-once bytes r.start q.start r.within q.within both.1 in
-    (omega (arith, ap length both.0, r.counted, q.counted), fault-once bytes q.start fault why (subst (λ n. IsFaultAt bytes n fault) at r.faulty) q.faulty)
+    (omega (arith, ap length both.0, r.counted, q.counted), fault-once bytes q.start fault why (subst (λ n. IsSceneFaultAt bytes n fault) at r.faulty) q.faulty)
 
 all-read : (scenes others : List Scene) (rest : List ℕ) → others ≢ [] → scenes ≡ others → (scenes ≡ []) ⊎ (is_blank rest ≡ false) → is_blank rest ≡ true → ⊥
 all-read scenes others rest some same (inl none) blank = some (sym same ∙ none)

@@ -6,7 +6,7 @@ use Rattle.scene_json.specs.Compact.{Member as Pair}
 use Rattle.scene_json.specs.Members.{pair_of, pairs}
 use Rattle.scene_json.specs.declared.text.Member.{Member}
 use Rattle.commands.specs.Faults.{newline}
-use Rattle.commands.specs.Pictures.{AreLines, IsTold}
+use Rattle.commands.specs.Pictures.{AreLines, IsToldOfPicture}
 
 line-parts : (name told rest : List ℕ) → (quote name ++ (codes " " ++ (told ++ newline))) ++ rest ≡ quote name ++ (codes " " ++ (told ++ (newline ++ rest)))
 line-parts name told rest =
@@ -14,7 +14,7 @@ line-parts name told rest =
     ∙ ap (λ x. quote name ++ x) (append_assoc (codes " ") (told ++ newline) rest ∙ ap (λ x. codes " " ++ x) (append_assoc told newline rest))
 
 -- One line more stands behind those that are there.
-pub AreLines-more : (files : List Pair) (lines : List ℕ) (file : Pair) (told : List ℕ) → AreLines files lines → IsTold file.1 told
+pub AreLines-more : (files : List Pair) (lines : List ℕ) (file : Pair) (told : List ℕ) → AreLines files lines → IsToldOfPicture file.1 told
     → AreLines (files ++ file ∷ []) (lines ++ (quote file.0 ++ (codes " " ++ (told ++ newline))))
 AreLines-more [] lines file told are is =
     (told, [], is, refl, ap (λ x. x ++ (quote file.0 ++ (codes " " ++ (told ++ newline)))) are ∙ (sym (append-nil _) ∙ line-parts file.0 told []))
@@ -31,7 +31,7 @@ AreLines-more (first ∷ files) lines file told (words, rest, also, more, made) 
 
 -- The lines on the files so far and on one more.
 pub lines-next : (files : List Member) (i : ℕ) (file : Member) (lines new told : List ℕ) → i < length files → file ≡ get_or files i file → AreLines (pairs (take i files)) lines
-    → IsTold file.value told → new ≡ lines ++ (quote file.name ++ (codes " " ++ (told ++ newline))) → AreLines (pairs (take (i + 1) files)) new
+    → IsToldOfPicture file.value told → new ≡ lines ++ (quote file.name ++ (codes " " ++ (told ++ newline))) → AreLines (pairs (take (i + 1) files)) new
 lines-next files i file lines new told within at are is made =
     let next : take (i + 1) files ≡ take i files ++ file ∷ [] = take_more files i file within ∙ ap (λ f. take i files ++ f ∷ []) (sym at) in
     let all : pairs (take i files) ++ pair_of file ∷ [] ≡ pairs (take (i + 1) files) = sym (ap pairs next ∙ map-append pair_of (take i files) (file ∷ [])) in

@@ -4,7 +4,7 @@ use Rattle.std.specs.Option.{option_map}
 use Rattle.std.proofs.lemmas.Bool.Decides.{nat_tests}
 use Rattle.room_core.specs.Rooms.{RoomState}
 use Rattle.room_core.specs.Serving.{at_start, end_of, IsServed}
-use Rattle.room_core.specs.Told.{Told, Tells, texts_lost}
+use Rattle.room_core.specs.Told.{LinksTold, Tells, texts_lost}
 use Rattle.room_core.specs.declared.limits.ServeEnd.{ServeEnd}
 use Rattle.room_core.specs.declared.limits.ServeEnd.TheVariants.{LinkFault, Memory}
 use Rattle.room_core.specs.declared.limits.RoomLimits.{RoomLimits}
@@ -19,7 +19,7 @@ none-lost : (sent : Option (List (ℕ × List ℕ))) (lost : Option (List (ℕ �
 none-lost None lost = tt
 none-lost (Some texts) lost = kept lost
 
-nothing-told : (told : Told) → Tells told told [] []
+nothing-told : (told : LinksTold) → Tells told told [] []
 nothing-told told = record { given = kept told.given; sent = kept told.sent; lost = none-lost told.sent told.lost }
 
 above : (n : ℕ) → 1 ≤ n → nat_le n 0 ≡ false
@@ -28,7 +28,7 @@ above n h = grind (arith, nat_tests)
 runs : (service : Service) (room : RoomState) → IsService service → end_of service.limits (at_start room) ≡ None
 runs service room is = rw (above service.limits.events is.events, above service.limits.idle is.idle) refl
 
-pub failed-at_once : (service : Service) (room : RoomState) (told : Told) → IsService service → IsServed service.limits (at_start room) room told told LinkFault
+pub failed-at_once : (service : Service) (room : RoomState) (told : LinksTold) → IsService service → IsServed service.limits (at_start room) room told told LinkFault
 failed-at_once service room told is = record {
   rounds = [];
   are_rounds = tt;
@@ -38,7 +38,7 @@ failed-at_once service room told is = record {
   told = nothing-told told;
 }
 
-pub wanted-at_once : (service : Service) (room : RoomState) (told : Told) → IsService service → IsServed service.limits (at_start room) room told told Memory
+pub wanted-at_once : (service : Service) (room : RoomState) (told : LinksTold) → IsService service → IsServed service.limits (at_start room) room told told Memory
 wanted-at_once service room told is = record {
   rounds = [];
   are_rounds = tt;

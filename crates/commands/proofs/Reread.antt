@@ -7,21 +7,21 @@ use Rattle.std.proofs.lemmas.List.Elements.{All-nil, All-cons, All-head, All-tai
 use Rattle.std.proofs.lemmas.List.Sums.{AllPass-from_list_all, list_all-from_AllPass}
 use Rattle.std.proofs.lemmas.Map.Keys.{IsDistinct-IsPermutation}
 use Rattle.scene_json.specs.Members.{pairs}
-use Rattle.elem.specs.Drawn.{Drawn}
+use Rattle.elem.specs.ElementValue.{ElementValue}
 use Rattle.elem.specs.Facts.{IsElement}
-use Rattle.elem.specs.Said.{IsWritten as IsWrittenElement, AreElements}
+use Rattle.elem.specs.Said.{HasValidTexts as IsWrittenElement, AreElements}
 use Rattle.elem.specs.Texts.{element_text}
 use Rattle.elem_read.proofs.Whole.{IsSound-read}
-use Rattle.elem_read.specs.Reading.{IsWhole}
+use Rattle.elem_read.specs.Reading.{IsWholeElement}
 use Rattle.elem_store.specs.Updates.{AreStored, ids_of}
 use Rattle.elem_store.proofs.StoreLaws.{store-unique}
-use Rattle.file_table.specs.Table.{AreFilesOf}
-use Rattle.file_table.proofs.Least.{AreFilesOf-own}
+use Rattle.file_table.specs.Table.{AreLeastEntries}
+use Rattle.file_table.proofs.Least.{AreLeastEntries-own}
 use Rattle.view.specs.Shown.{is_live, live_elements, HaveDistinctIds, HaveKeysOrNone, HaveRisingKeys}
 use Rattle.view.specs.Settled.{AreSettled}
 use Rattle.view.proofs.ShownLaws.{HaveDistinctIds-rising, live_elements-rise, live_elements-live, shown-is, shown-again}
 use Rattle.scene_file.specs.Heads.{Heading, IsJoinedHead}
-use Rattle.scene_file.specs.Layouts.{IsWritten}
+use Rattle.scene_file.specs.Layouts.{IsWrittenIn}
 use Rattle.scene_file.specs.Reading.{IsSceneAt}
 use Rattle.scene_file.specs.Scenes.{scene_text}
 use Rattle.scene_file.specs.Whole.{IsWholeHead, IsWholeScene, HaveKeys, with_named_files}
@@ -51,7 +51,7 @@ heads-whole [] whole = All-nil IsWholeHead
 heads-whole (scene ∷ scenes) whole =
     All-cons IsWholeHead scene.head (heads_of scenes) (All-head IsWholeScene scene scenes whole).head (heads-whole scenes (All-tail IsWholeScene scene scenes whole))
 
-updates-all : (P : Drawn → Type 0) (scenes : List Scene) → ((scene : Scene) → IsWholeScene scene → All P scene.elements) → All IsWholeScene scenes → All P (updates_of scenes)
+updates-all : (P : ElementValue → Type 0) (scenes : List Scene) → ((scene : Scene) → IsWholeScene scene → All P scene.elements) → All IsWholeScene scenes → All P (updates_of scenes)
 updates-all P [] each whole = All-nil P
 updates-all P (scene ∷ scenes) each whole =
     All-append P scene.elements (updates_of scenes) (each scene (All-head IsWholeScene scene scenes whole)) (updates-all P scenes each (All-tail IsWholeScene scene scenes whole))
@@ -59,35 +59,35 @@ updates-all P (scene ∷ scenes) each whole =
 -- the updates of an input are elements
 pub updates-elements : (bytes : List ℕ) (scenes : List Scene) → HasScenes bytes scenes → AreElements (updates_of scenes)
 updates-elements bytes scenes has =
-    All-weaker IsWhole (λ e. IsElement e × IsWrittenElement e)
+    All-weaker IsWholeElement (λ e. IsElement e × IsWrittenElement e)
     (λ e whole. let sound = IsSound-read (element_text e) e whole in (sound.is_element, sound.written)) (updates_of scenes)
-    (updates-all IsWhole scenes (λ scene is. is.elements) (scenes-whole bytes scenes has))
+    (updates-all IsWholeElement scenes (λ scene is. is.elements) (scenes-whole bytes scenes has))
 
 -- whether an element has a key
-abbrev has_key : Drawn → Bool
+abbrev has_key : ElementValue → Bool
 has_key e = is_some e.index
 
-abbrev HasKey : Drawn → Type 0
+abbrev HasKey : ElementValue → Type 0
 HasKey e = has_key e ≡ true
 
-pub record IsWholeBoard (head : Heading) (stored : List Drawn) : Type 0 where
+pub record IsWholeBoard (head : Heading) (stored : List ElementValue) : Type 0 where
   pub head_whole : IsWholeHead head
-  pub whole : All IsWhole stored
+  pub whole : All IsWholeElement stored
   pub keys : HaveKeys stored
 
-pub board-whole : (bytes : List ℕ) (scenes : List Scene) (head : Heading) (stored : List Drawn) → HasScenes bytes scenes → IsBoardOf scenes head stored → IsWholeBoard head stored
+pub board-whole : (bytes : List ℕ) (scenes : List Scene) (head : Heading) (stored : List ElementValue) → HasScenes bytes scenes → IsBoardOf scenes head stored → IsWholeBoard head stored
 board-whole bytes scenes head stored has board =
     let whole = scenes-whole bytes scenes has in
     record {
       head_whole = joined-whole (heads_of scenes) head (heads-whole scenes whole) board.joined;
-      whole = stored-whole (updates_of scenes) stored (updates-all IsWhole scenes (λ scene is. is.elements) whole) board.stores;
+      whole = stored-whole (updates_of scenes) stored (updates-all IsWholeElement scenes (λ scene is. is.elements) whole) board.stores;
       keys = list_all-from_AllPass has_key stored
           (stored-all HasKey (updates_of scenes) stored board.stores (updates-all HasKey scenes (λ scene is. AllPass-from_list_all has_key scene.elements is.keys) whole));
     }
 
 -- ---- what is shown is read as one scene
 -- the scene that a board shows
-abbrev pub shown_scene : Heading → List Drawn → Scene
+abbrev pub shown_scene : Heading → List ElementValue → Scene
 shown_scene head stored = record { head = with_named_files head (shown_of stored); elements = shown_of stored }
 
 pub shown-read : (bytes : List ℕ) (scenes : List Scene) (layout : Layout) (text : List ℕ) → HasScenes bytes scenes → (is : IsShownAs scenes layout text)
@@ -95,7 +95,7 @@ pub shown-read : (bytes : List ℕ) (scenes : List Scene) (layout : Layout) (tex
 shown-read bytes scenes layout text has is =
     let board = board-whole bytes scenes is.head is.stored has is.board in
     let live = live_elements is.stored in
-    let each : All IsWhole (shown_of is.stored) = shown-whole live (All-filter is_live IsWhole is.stored board.whole) in
+    let each : All IsWholeElement (shown_of is.stored) = shown-whole live (All-filter is_live IsWholeElement is.stored board.whole) in
     record {
       some = λ e. cc;
       rest = newline;
@@ -109,18 +109,18 @@ shown-read bytes scenes layout text has is =
     }
 
 -- ---- the board of the scene that a board shows shows it again
-joined-own : (head : Heading) → IsWholeHead head → (elements : List Drawn) → IsJoinedHead (with_named_files head elements ∷ []) (with_named_files head elements)
+joined-own : (head : Heading) → IsWholeHead head → (elements : List ElementValue) → IsJoinedHead (with_named_files head elements ∷ []) (with_named_files head elements)
 joined-own head whole elements = record {
   source = sym (lesser_source-none head.source);
-  app_state = subst (λ given. AreFilesOf given (pairs head.app_state)) (sym (append-nil (pairs head.app_state))) (AreFilesOf-own (pairs head.app_state) whole.settings_ordered);
+  app_state = subst (λ given. AreLeastEntries given (pairs head.app_state)) (sym (append-nil (pairs head.app_state))) (AreLeastEntries-own (pairs head.app_state) whole.settings_ordered);
   files =
       let files = (with_named_files head elements).files in
-      subst (λ given. AreFilesOf given files) (sym (append-nil files)) (AreFilesOf-own files (named-rise head.files elements whole.files_ordered));
+      subst (λ given. AreLeastEntries given files) (sym (append-nil files)) (AreLeastEntries-own files (named-rise head.files elements whole.files_ordered));
 }
 
-module _ (stored : List Drawn) (rise : HaveDistinctIds (live_elements stored)) (whole : All IsWhole stored) where
+module _ (stored : List ElementValue) (rise : HaveDistinctIds (live_elements stored)) (whole : All IsWholeElement stored) where
   live-keys : HaveKeysOrNone (live_elements stored)
-  live-keys = keys-or-none (live_elements stored) (wholes-sound (live_elements stored) (All-filter is_live IsWhole stored whole))
+  live-keys = keys-or-none (live_elements stored) (wholes-sound (live_elements stored) (All-filter is_live IsWholeElement stored whole))
 
   shown-distinct : HaveDistinctIds (shown_of stored)
   shown-distinct =
@@ -130,17 +130,17 @@ module _ (stored : List Drawn) (rise : HaveDistinctIds (live_elements stored)) (
   shown-stored = subst (λ updates. AreStored updates (by_id (shown_of stored))) (sym (append-nil (shown_of stored))) (AreStored-by_id (shown_of stored) shown-distinct)
 
   -- what is stored of what is shown shows it
-  shown-shows : (news : List Drawn) → AreStored (shown_of stored ++ []) news → shown_of news ≡ shown_of stored
+  shown-shows : (news : List ElementValue) → AreStored (shown_of stored ++ []) news → shown_of news ≡ shown_of stored
   shown-shows news are =
       let same = store-unique (shown_of stored ++ []) news (by_id (shown_of stored)) are shown-stored in
       shown-again (live_elements stored) news rise live-keys (live_elements-live stored) (subst (IsPermutation (shown_of stored)) (sym same) (by_id-moved (shown_of stored)))
 
-live-distinct : (scenes : List Scene) (head : Heading) (stored : List Drawn) → IsBoardOf scenes head stored → HaveDistinctIds (live_elements stored)
+live-distinct : (scenes : List Scene) (head : Heading) (stored : List ElementValue) → IsBoardOf scenes head stored → HaveDistinctIds (live_elements stored)
 live-distinct scenes head stored board = HaveDistinctIds-rising (live_elements stored) (live_elements-rise stored board.stores.ordered)
 
-module _ (bytes : List ℕ) (scenes : List Scene) (head : Heading) (stored : List Drawn) (has : HasScenes bytes scenes) (board : IsBoardOf scenes head stored) where
+module _ (bytes : List ℕ) (scenes : List Scene) (head : Heading) (stored : List ElementValue) (has : HasScenes bytes scenes) (board : IsBoardOf scenes head stored) where
   -- the same text, of the board and of the board of what it shows
-  same-text : (news : List Drawn) → shown_of news ≡ shown_of stored → scene_text (with_named_files head (shown_of stored)) (shown_of news) ≡ scene_text head (shown_of stored)
+  same-text : (news : List ElementValue) → shown_of news ≡ shown_of stored → scene_text (with_named_files head (shown_of stored)) (shown_of news) ≡ scene_text head (shown_of stored)
   same-text news same = ap (scene_text (with_named_files head (shown_of stored))) same ∙ named-text head (shown_of stored)
 
   pub shown-once_more : (layout : Layout) (text : List ℕ) → IsShownAs scenes layout text → IsShownAs (shown_scene head stored ∷ []) layout text
@@ -158,7 +158,7 @@ module _ (bytes : List ℕ) (scenes : List Scene) (head : Heading) (stored : Lis
         stored = news;
         board = record { joined = joined-own head whole.head_whole (shown_of stored); stores = are };
         written = is.written;
-        scene = subst (λ t. IsWritten layout t is.written) ((λ i. scene_text (head_same i) (shown_of (kept i))) ∙ sym (same-text news same)) is.scene;
+        scene = subst (λ t. IsWrittenIn layout t is.written) ((λ i. scene_text (head_same i) (shown_of (kept i))) ∙ sym (same-text news same)) is.scene;
         ended = is.ended;
         rise = subst HaveRisingKeys shows is.rise;
         settled = subst AreSettled shows is.settled;
@@ -175,7 +175,7 @@ module _ (bytes : List ℕ) (scenes : List Scene) (head : Heading) (stored : Lis
         stored = stored;
         board = board;
         written = is.written;
-        scene = subst (λ t. IsWritten layout t is.written) ((λ i. scene_text (head_same i) (shown_of is.stored)) ∙ same-text is.stored same) is.scene;
+        scene = subst (λ t. IsWrittenIn layout t is.written) ((λ i. scene_text (head_same i) (shown_of is.stored)) ∙ same-text is.stored same) is.scene;
         ended = is.ended;
         rise = rise;
         settled = settled;

@@ -6,11 +6,11 @@ use Rattle.std.proofs.lemmas.List.{append-nil, map-append}
 use Rattle.scene_json.specs.Characters.{is_blank}
 use Rattle.scene_json.specs.Compact.{Member as Pair}
 use Rattle.scene_json.specs.Members.{pairs}
-use Rattle.elem.specs.Drawn.{Drawn}
+use Rattle.elem.specs.ElementValue.{ElementValue}
 use Rattle.elem_store.specs.Updates.{stored_of}
 use Rattle.elem_store.proofs.Leader.{joined_leader, stored-append}
 use Rattle.elem_store.proofs.StoreLaws.{AreStored-itself}
-use Rattle.file_table.specs.Table.{least_entry, AreFilesOf}
+use Rattle.file_table.specs.Table.{least_entry, AreLeastEntries}
 use Rattle.file_table.proofs.Least.{least-append, least-own}
 use Rattle.file_table.proofs.Lesser.{lesser_either}
 use Rattle.scene_file.specs.Heads.{Heading, lesser_source, least_source, settings_of, files_of}
@@ -75,7 +75,7 @@ parts-flip scenes others same = record {
   stored = λ id. sym (same.stored id);
 }
 
-same-board : (scenes others : List Scene) (head : Heading) (stored : List Drawn) → HaveSameParts scenes others → IsBoardOf scenes head stored → IsBoardOf others head stored
+same-board : (scenes others : List Scene) (head : Heading) (stored : List ElementValue) → HaveSameParts scenes others → IsBoardOf scenes head stored → IsBoardOf others head stored
 same-board scenes others head stored same board = record {
   joined = record {
     source = board.joined.source ∙ same.source;
@@ -122,10 +122,10 @@ parts-append scenes others more last same also = record {
     both-source a b = ap least_source (heads-append a b) ∙ source-append (heads_of a) (heads_of b)
 
 -- ---- a state
-abbrev state_scene : Heading → List Drawn → Scene
+abbrev state_scene : Heading → List ElementValue → Scene
 state_scene head stored = record { head = head; elements = stored }
 
-state-parts : (scenes : List Scene) (head : Heading) (stored : List Drawn) → IsBoardOf scenes head stored → HaveSameParts (state_scene head stored ∷ []) scenes
+state-parts : (scenes : List Scene) (head : Heading) (stored : List ElementValue) → IsBoardOf scenes head stored → HaveSameParts (state_scene head stored ∷ []) scenes
 state-parts scenes head stored board = record {
   source = lesser_source-none head.source ∙ board.joined.source;
   settings = λ name. own (pairs head.app_state) (settings_in scenes) name board.joined.app_state;
@@ -134,7 +134,7 @@ state-parts scenes head stored board = record {
       ap (λ updates. stored_of updates id) (append-nil stored) ∙ (sym ((AreStored-itself stored board.stores.ordered).each id) ∙ board.stores.each id);
 }
   where
-    own : (files given : List Pair) (id : List ℕ) → AreFilesOf given files → least_entry (files ++ []) id ≡ least_entry given id
+    own : (files given : List Pair) (id : List ℕ) → AreLeastEntries given files → least_entry (files ++ []) id ≡ least_entry given id
     own files given id are = ap (λ all. least_entry all id) (append-nil files) ∙ (least-own files id are.ordered ∙ are.each id)
 
 -- An input and a text hold scenes with the same parts.

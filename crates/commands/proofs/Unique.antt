@@ -5,7 +5,7 @@ use Rattle.base64.specs.Engines.{standard}
 use Rattle.scene_json.specs.Characters.{quote}
 use Rattle.scene_json.specs.Compact.{Member as Pair}
 use Rattle.scene_json.specs.Named.{value_at}
-use Rattle.elem.specs.Drawn.{Drawn}
+use Rattle.elem.specs.ElementValue.{ElementValue}
 use Rattle.elem.proofs.Once.{object-once, quote-once}
 use Rattle.elem_store.specs.Updates.{AreBest}
 use Rattle.elem_store.proofs.StoreLaws.{store-unique, stores-converge, AreStored-from_best}
@@ -13,7 +13,7 @@ use Rattle.file_table.specs.Picture.{HasData, HasUrl, IsDataUrl, IsPictureSize}
 use Rattle.file_table.specs.References.{referred_files}
 use Rattle.file_table.proofs.Urls.{content-unique}
 use Rattle.scene_file.specs.Heads.{Heading, IsJoinedHead}
-use Rattle.scene_file.specs.Reading.{IsFaultAt}
+use Rattle.scene_file.specs.Reading.{IsSceneFaultAt}
 use Rattle.scene_file.specs.Scenes.{state_text}
 use Rattle.scene_file.specs.Texts.{IsSceneText}
 use Rattle.scene_file.specs.declared.layout.Layout.{Layout}
@@ -32,8 +32,8 @@ use Rattle.session_text.proofs.SessionsOne.{session-once, fault-once as session-
 use Rattle.commands.specs.Answers.{IsAnswer, IsReplayed, IsSessionRefusal, IsBoardOf, IsShownAs, IsStoredAs, HasPictures, IsOneRefusal, IsRefusal, IsMadeOf, heads_of, updates_of, shown_of, HaveSameUpdatesAndHeads}
 use Rattle.commands.specs.Faults.{newline}
 use Rattle.commands.specs.Input.{HasScenes, HasFaultyText, HasExtraText}
-use Rattle.commands.specs.Pictures.{AreLines, IsTold}
-use Rattle.commands.specs.Pictures.IsTold.{size, not_base64, no_data_url}
+use Rattle.commands.specs.Pictures.{AreLines, IsToldOfPicture}
+use Rattle.commands.specs.Pictures.IsToldOfPicture.{size, not_base64, no_data_url}
 use Rattle.commands.specs.declared.status.Refusal.{Refusal}
 use Rattle.commands.specs.declared.status.Refusal.TheVariants as refusal
 use Rattle.commands.specs.declared.words.Command.{Command}
@@ -42,11 +42,11 @@ use Rattle.commands.proofs.Reread.{scenes-whole, heads-whole, updates-elements}
 use Rattle.commands.proofs.Inputs.{input-once, faulty-once, faulty-scenes, extra-scene, extra-once}
 
 -- ---- the board of scenes
-stored-once : {scenes : List Scene} {head other : Heading} {stored news : List Drawn} → IsBoardOf scenes head stored → IsBoardOf scenes other news
+stored-once : {scenes : List Scene} {head other : Heading} {stored news : List ElementValue} → IsBoardOf scenes head stored → IsBoardOf scenes other news
     → (head ≡ other) × (stored ≡ news)
 stored-once a b = (head-once a.joined b.joined, store-unique _ _ _ a.stores b.stores)
 
-scene-same : (layout : Layout) (head other : Heading) (stored news : List Drawn) (a b : List ℕ) → head ≡ other → stored ≡ news
+scene-same : (layout : Layout) (head other : Heading) (stored news : List ElementValue) (a b : List ℕ) → head ≡ other → stored ≡ news
     → IsSceneText layout head (shown_of stored) a → IsSceneText layout other (shown_of news) b → a ≡ b
 scene-same layout head other stored news a b same kept first second =
     text-once layout other (shown_of news) a b (subst (λ h. IsSceneText layout h (shown_of news) a) same (subst (λ s. IsSceneText layout head (shown_of s) a) kept first)) second
@@ -79,7 +79,7 @@ size-once entry n m p q =
     let bytes : p.bytes ≡ q.bytes = cc in
     p.size_is ∙ (ap length bytes ∙ sym q.size_is)
 
-told-once : (entry a b : List ℕ) → IsTold entry a → IsTold entry b → a ≡ b
+told-once : (entry a b : List ℕ) → IsToldOfPicture entry a → IsToldOfPicture entry b → a ≡ b
 told-once entry a b (size n p) (size m q) = ap decimal (size-once entry n m p q)
 told-once entry a b (size n p) (not_base64 content data' fails) = absurd (fails n p)
 told-once entry a b (size n p) (no_data_url none) = absurd (none p.text p.has_data)
@@ -124,7 +124,7 @@ refusal-none bytes refusal.TooMany scenes none has = none
 
 -- a refusal of what is to be one scene: for its text, or for what follows it
 data Refused (bytes : List ℕ) : Refusal → Type 0 where
-  in_text : (found : SceneFault) → IsFaultAt bytes 0 found → Refused bytes (refusal.Text 1 found)
+  in_text : (found : SceneFault) → IsSceneFaultAt bytes 0 found → Refused bytes (refusal.Text 1 found)
   behind : (at : ℕ) → HasExtraText bytes at → Refused bytes (refusal.Extra at)
 
 refused : (bytes : List ℕ) (f : Refusal) → IsOneRefusal bytes f → Refused bytes f
@@ -217,7 +217,7 @@ merges-converge layout bytes others text other_text h (scenes, has, a) (news, al
     let kept = sym (stores-converge (updates_of h.scenes) (updates_of h.other_scenes) mine.stored theirs.stored h.same (updates-elements bytes h.scenes h.bytes_hold) mine.board.stores theirs.board.stores) in
     theirs.ended ∙ (ap (λ t. t ++ newline) (scene-same layout theirs.head mine.head theirs.stored mine.stored theirs.written mine.written head kept theirs.scene mine.scene) ∙ sym mine.ended)
 
-pub merge-of-best : (layout : Layout) (bytes text : List ℕ) (scenes : List Scene) (head : Heading) (chosen : List Drawn)
+pub merge-of-best : (layout : Layout) (bytes text : List ℕ) (scenes : List Scene) (head : Heading) (chosen : List ElementValue)
     → HasScenes bytes scenes → IsJoinedHead (heads_of scenes) head → AreBest (updates_of scenes) chosen
     → IsAnswer (Merge layout) bytes (Ok text) → (written : List ℕ) × IsSceneText layout head (shown_of chosen) written × (text ≡ written ++ newline)
 merge-of-best layout bytes text scenes head chosen has joined best (others, also, a) =

@@ -1,13 +1,13 @@
 -- What an input is answered with, command by command. This project's own; what is stored is Excalidraw's reconcile, and the
 -- texts are after its JSON schema.
 use Rattle.std.specs.Prelude.{◌≡◌, ℕ, List, [], ◌∷◌, ◌++◌, Result, Ok, Err, flat_map, map}
-use Rattle.elem.specs.Drawn.{Drawn}
+use Rattle.elem.specs.ElementValue.{ElementValue}
 use Rattle.elem_store.specs.Updates.{AreStored, HaveSameUpdates}
 use Rattle.file_table.specs.References.{referred_files}
 use Rattle.view.specs.Settled.{AreSettled}
 use Rattle.view.specs.Shown.{live_elements, shown, HaveRisingKeys}
 use Rattle.scene_file.specs.Heads.{Heading, IsJoinedHead, HaveSameHeads}
-use Rattle.scene_file.specs.Reading.{IsFaultAt}
+use Rattle.scene_file.specs.Reading.{IsSceneFaultAt}
 use Rattle.scene_file.specs.Scenes.{state_text}
 use Rattle.scene_file.specs.Texts.{IsSceneText}
 use Rattle.scene_file.specs.declared.layout.Layout.{Layout}
@@ -25,26 +25,26 @@ use Rattle.commands.specs.declared.words.Command.{Command}
 use Rattle.commands.specs.declared.words.Command.TheVariants.{Restore, Merge, State, Pictures, Replay}
 
 -- the elements of scenes, one scene after the other: each is an update; and the heads of scenes
-abbrev pub updates_of : List Scene → List Drawn
+abbrev pub updates_of : List Scene → List ElementValue
 updates_of scenes = flat_map (λ (scene : Scene). scene.elements) scenes
 
 abbrev pub heads_of : List Scene → List Heading
 heads_of scenes = map (λ (scene : Scene). scene.head) scenes
 
 -- The board of these scenes has their joined head, and stores of all their updates these elements.
-pub record IsBoardOf (scenes : List Scene) (head : Heading) (stored : List Drawn) : Type 0 where
+pub record IsBoardOf (scenes : List Scene) (head : Heading) (stored : List ElementValue) : Type 0 where
   pub joined : IsJoinedHead (heads_of scenes) head
   pub stores : AreStored (updates_of scenes) stored
 
 -- what a board shows of its stored elements: the live ones in scene order, settled
-abbrev pub shown_of : List Drawn → List Drawn
+abbrev pub shown_of : List ElementValue → List ElementValue
 shown_of stored = shown (live_elements stored)
 
 -- The text of the scene that the board of these scenes shows, and a newline. Its keys rise strictly, and its elements
 -- agree on their links, frames and groups.
 pub record IsShownAs (scenes : List Scene) (layout : Layout) (text : List ℕ) : Type 0 where
   pub head : Heading
-  pub stored : List Drawn
+  pub stored : List ElementValue
   pub board : IsBoardOf scenes head stored
   pub written : List ℕ
   pub scene : IsSceneText layout head (shown_of stored) written
@@ -55,20 +55,20 @@ pub record IsShownAs (scenes : List Scene) (layout : Layout) (text : List ℕ) :
 -- The text of all that the board of these scenes stores, and a newline.
 pub record IsStoredAs (scenes : List Scene) (text : List ℕ) : Type 0 where
   pub head : Heading
-  pub stored : List Drawn
+  pub stored : List ElementValue
   pub board : IsBoardOf scenes head stored
   pub is_state : text ≡ state_text head stored ++ newline
 
 -- A line on each file that the board of these scenes shows.
 pub record HasPictures (scenes : List Scene) (text : List ℕ) : Type 0 where
   pub head : Heading
-  pub stored : List Drawn
+  pub stored : List ElementValue
   pub board : IsBoardOf scenes head stored
   pub lines : AreLines (referred_files head.files (shown_of stored)) text
 
 -- The first fault of an input that is to be one scene: its first text has it, or a further byte follows the scene.
 abbrev pub IsOneRefusal : List ℕ → Refusal → Type 0
-IsOneRefusal bytes (refusal.Text number found) = (number ≡ 1) × IsFaultAt bytes 0 found
+IsOneRefusal bytes (refusal.Text number found) = (number ≡ 1) × IsSceneFaultAt bytes 0 found
 IsOneRefusal bytes (refusal.Extra at) = HasExtraText bytes at
 IsOneRefusal bytes (refusal.Event number found) = ⊥
 IsOneRefusal bytes refusal.TooMany = ⊥

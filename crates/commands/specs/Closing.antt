@@ -1,7 +1,7 @@
 -- Runs that end with all done, unless memory is wanted. This project's own.
 use Rattle.std.specs.Prelude.{◌≡◌, ◌⊎◌, ℕ, List}
 use Rattle.board_io.specs.Counts.{Rose}
-use Rattle.elem.specs.Drawn.{Drawn}
+use Rattle.elem.specs.ElementValue.{ElementValue}
 use Rattle.room_core.specs.Closing.{LeadToClose}
 use Rattle.room_core.specs.Serving.{at_start}
 use Rattle.scene_file.specs.Heads.{Heading}
@@ -23,7 +23,7 @@ pub record NoneRose (before after : Ends) : Type 0 where
 -- The links lead a room of these scenes, which begins with what their board stores, to a close within the service's limits.
 pub record LeadsToClose (service : Service) (scenes : List Scene) (before after : Ends) : Type 0 where
   pub head : Heading
-  pub stored : List Drawn
+  pub stored : List ElementValue
   pub board : IsBoardOf scenes head stored
   pub leads : LeadToClose service.limits (at_start (room_of stored)) before.links.told after.links.told
 

@@ -13,7 +13,7 @@ use Rattle.session_text.specs.declared.session.Session.{Session}
 use Rattle.workload.specs.Texts.{drill_text}
 use Rattle.commands.specs.Ends.{Span}
 use Rattle.commands.specs.Faults.{newline, Noted}
-use Rattle.commands.specs.Services.{IsDrill}
+use Rattle.commands.specs.Services.{IsDrillWithinLimits}
 use Rattle.commands.specs.declared.status.Fault.TheVariants as fault
 use Rattle.commands.specs.declared.status.Status.{Status}
 use Rattle.commands.specs.declared.status.Status.TheVariants as status
@@ -73,5 +73,5 @@ EndsDrilling drill output notes other = ⊥
 -- In every drill no two updates clash, and all replicas show one scene: the last two lines say so.
 abbrev pub DrillsAgree : Type 0
 DrillsAgree =
-    (drill : Drill) (text : List ℕ) → IsDrill drill → IsDrilled drill text
+    (drill : Drill) (text : List ℕ) → IsDrillWithinLimits drill → IsDrilled drill text
     → (report : Report) × (text ≡ first_lines drill report (last_lines 0 true))

@@ -2,7 +2,7 @@
 use Rattle.std.specs.Prelude.{◌≡◌, ℕ, ◌≤◌, List, [], ◌∷◌, ◌++◌, ◌⊎◌, length, take, codes, decimal}
 use Rattle.board_io.specs.Counts.{Rose}
 use Rattle.board_io.specs.Ends.{SinkEnd, Took}
-use Rattle.scene_file.specs.Faults.{fault_words}
+use Rattle.scene_file.specs.Faults.{scene_fault_words}
 use Rattle.session_text.specs.Faults as sessions
 use Rattle.commands.specs.declared.status.Status.{Status}
 use Rattle.commands.specs.declared.status.Status.TheVariants as status
@@ -40,10 +40,10 @@ line_of fault.Memory = codes "board: out of memory" ++ newline
 line_of fault.Usage = codes "board: usage: restore, merge, state, replay, pictures, drill SEED EVENTS, serve PORT LINKS IDLE" ++ newline
 line_of fault.Read = codes "board: read fault" ++ newline
 line_of fault.TooLong = codes "board: input is longer than 67108864 bytes" ++ newline
-line_of (fault.Refused (refusal.Text number found)) = codes "board: text " ++ (decimal number ++ (codes ": " ++ (fault_words found ++ newline)))
+line_of (fault.Refused (refusal.Text number found)) = codes "board: text " ++ (decimal number ++ (codes ": " ++ (scene_fault_words found ++ newline)))
 line_of (fault.Refused (refusal.Extra at)) = codes "board: extra text at byte " ++ (decimal at ++ newline)
 line_of (fault.Refused (refusal.Event number found)) =
-    codes "board: text " ++ (decimal number ++ (codes ": " ++ (sessions.fault_words found ++ newline)))
+    codes "board: text " ++ (decimal number ++ (codes ": " ++ (sessions.session_fault_words found ++ newline)))
 line_of (fault.Refused refusal.TooMany) = codes "board: more than 250000 events" ++ newline
 line_of fault.Write = codes "board: write fault" ++ newline
 

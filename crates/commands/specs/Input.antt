@@ -2,7 +2,7 @@
 use Rattle.std.specs.Prelude.{◌≡◌, ◌≢◌, ◌⊎◌, ℕ, ◌+◌, ◌<◌, ◌≤◌, List, [], ◌∷◌, true, false, length, drop}
 use Rattle.std.specs.List.{prefix_len}
 use Rattle.scene_json.specs.Characters.{is_blank, is_space}
-use Rattle.scene_file.specs.Reading.{IsSceneAt, IsFaultAt}
+use Rattle.scene_file.specs.Reading.{IsSceneAt, IsSceneFaultAt}
 use Rattle.scene_file.specs.declared.scene.Scene.{Scene}
 use Rattle.scene_file.specs.declared.fault.SceneFault.{SceneFault}
 
@@ -27,7 +27,7 @@ pub record HasFaultyText (bytes : List ℕ) (number : ℕ) (fault : SceneFault) 
   pub lead : ScenesLead bytes scenes (drop start bytes)
   pub counted : number ≡ length scenes + 1
   pub begun : (scenes ≡ []) ⊎ (is_blank (drop start bytes) ≡ false)
-  pub faulty : IsFaultAt bytes start fault
+  pub faulty : IsSceneFaultAt bytes start fault
 
 -- A scene stands at the front, and behind it and white space a further byte, at this offset.
 pub record HasExtraText (bytes : List ℕ) (at : ℕ) : Type 0 where

@@ -7,8 +7,8 @@ use Rattle.commands.specs.declared.words.Drill.{Drill}
 use Rattle.commands.specs.declared.words.Service.{Service}
 
 -- how many events other than Idle a room is served at most
-abbrev pub most_events : ℕ
-most_events = 1000000000
+abbrev pub most_room_events : ℕ
+most_room_events = 1000000000
 
 -- whether a word is a number in plain decimal, at least the one number and at most the other
 abbrev pub is_number_within : ℕ → ℕ → List ℕ → Bool
@@ -22,7 +22,7 @@ number_within least most word = if is_number_within least most word then Some (d
 -- the service with these numbers in this layout, where all are there
 abbrev pub service_of : Option ℕ → Option ℕ → Option ℕ → Option Layout → Option Service
 service_of (Some port) (Some links) (Some idle) (Some layout) =
-    Some (record { port = port; limits = record { links = links; idle = idle; events = most_events }; layout = layout })
+    Some (record { port = port; limits = record { links = links; idle = idle; events = most_room_events }; layout = layout })
 service_of port links idle layout = None
 
 -- Each of its limits is at least 1.
@@ -37,7 +37,7 @@ drill_of (Some seed) (Some events) = Some (record { seed = seed; events = events
 drill_of seed events = None
 
 -- Its numbers are within their limits.
-pub record IsDrill (drill : Drill) : Type 0 where
+pub record IsDrillWithinLimits (drill : Drill) : Type 0 where
   pub seed : drill.seed ≤ 9007199254740991
   pub some : 1 ≤ drill.events
   pub most : drill.events ≤ 200000

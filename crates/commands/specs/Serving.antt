@@ -3,7 +3,7 @@ use Rattle.std.specs.Prelude.{◌≡◌, ◌⊎◌, ℕ, ◌≤◌, List, [], �
 use Rattle.board_io.specs.Counts.{Rose}
 use Rattle.board_io.specs.Ends.{SourceEnd, SinkEnd, Took}
 use Rattle.board_io.specs.declared.links.LinkEvent.{LinkEvent}
-use Rattle.elem.specs.Drawn.{Drawn}
+use Rattle.elem.specs.ElementValue.{ElementValue}
 use Rattle.view.specs.Settled.{AreSettled}
 use Rattle.view.specs.Shown.{HaveRisingKeys}
 use Rattle.scene_file.specs.Heads.{Heading}
@@ -12,7 +12,7 @@ use Rattle.scene_file.specs.declared.layout.Layout.{Layout}
 use Rattle.scene_file.specs.declared.scene.Scene.{Scene}
 use Rattle.room_core.specs.Rooms.{RoomState}
 use Rattle.room_core.specs.Serving.{at_start, IsServed}
-use Rattle.room_core.specs.Told.{Told, told_of}
+use Rattle.room_core.specs.Told.{LinksTold, told_of}
 use Rattle.room_core.specs.declared.limits.ServeEnd.{ServeEnd}
 use Rattle.room_core.specs.declared.limits.ServeEnd.TheVariants.{AllClosed, Idle as IdleEnd, LinkFault as LinkEnd, LinksFull, EventsFull, Memory as MemoryEnd}
 use Rattle.commands.specs.Answers.{IsBoardOf, IsRefusal, shown_of}
@@ -28,7 +28,7 @@ use Rattle.commands.specs.declared.words.Service.{Service}
 -- What is seen of the links of a room: the port that they listen on, what they tell, and how many of their calls failed.
 pub record LinksEnd : Type 0 where
   pub port : Option ℕ
-  pub told : Told
+  pub told : LinksTold
   pub faults : ℕ
 
 -- what is seen of these links
@@ -42,12 +42,12 @@ pub record Ends : Type 0 where
   pub links : LinksEnd
 
 -- a room that stores these elements, without links
-abbrev pub room_of : List Drawn → RoomState
+abbrev pub room_of : List ElementValue → RoomState
 room_of stored = record { elements = stored; joined = [] }
 
 -- The text is that of the scene that is shown of these stored elements, and a newline. Its keys rise strictly, and its
 -- elements agree on their links, frames and groups.
-pub record IsSceneOfStored (layout : Layout) (head : Heading) (stored : List Drawn) (text : List ℕ) : Type 0 where
+pub record IsSceneOfStored (layout : Layout) (head : Heading) (stored : List ElementValue) (text : List ℕ) : Type 0 where
   pub written : List ℕ
   pub scene : IsSceneText layout head (shown_of stored) written
   pub ended : text ≡ written ++ newline
@@ -56,15 +56,15 @@ pub record IsSceneOfStored (layout : Layout) (head : Heading) (stored : List Dra
 
 -- A room that began with these stored elements was served to this end; and the text is that of the scene of what it stores
 -- then, under this head.
-pub record WasHeld (service : Service) (head : Heading) (stored : List Drawn) (before after : Told) (end : ServeEnd) (text : List ℕ) : Type 0 where
+pub record WasHeld (service : Service) (head : Heading) (stored : List ElementValue) (before after : LinksTold) (end : ServeEnd) (text : List ℕ) : Type 0 where
   pub last : RoomState
   pub served : IsServed service.limits (at_start (room_of stored)) last before after end
   pub scene : IsSceneOfStored service.layout head last.elements text
 
 -- The room of these scenes, which begins with what their board stores under their joined head, was held so.
-pub record IsRoomOf (service : Service) (scenes : List Scene) (before after : Told) (end : ServeEnd) (text : List ℕ) : Type 0 where
+pub record IsRoomOf (service : Service) (scenes : List Scene) (before after : LinksTold) (end : ServeEnd) (text : List ℕ) : Type 0 where
   pub head : Heading
-  pub stored : List Drawn
+  pub stored : List ElementValue
   pub board : IsBoardOf scenes head stored
   pub held : WasHeld service head stored before after end text
 

@@ -11,7 +11,7 @@ ghost use Rattle.session_text.specs.Sessions.{IsSessionOf};
 ghost use Rattle.workload.specs.Texts.{drill_text};
 ghost use Rattle.commands.specs.Drills as drills;
 ghost use Rattle.commands.specs.Drills.{of_first, show_one_scene, IsDrilled};
-ghost use Rattle.commands.specs.Services.{IsDrill};
+ghost use Rattle.commands.specs.Services.{IsDrillWithinLimits};
 ghost use Rattle.commands.specs.declared.status.Fault.{Fault};
 
 use crate::status::Fault;
@@ -24,7 +24,7 @@ use workload::make_session;
 
 /// Runs a drill, and writes what it tells.
 pub(crate) fn drill<K: Sink>(alloc: Global, drill: Drill, output: &mut K) -> Result<(), Fault>
-    requires { IsDrill drill }
+    requires { IsDrillWithinLimits drill }
     ensures done { OnOk result ((text : Items ℕ) × IsDrilled drill text × Took (K.seen output.old) (K.seen output.new) text) }
     ensures write_fault { result ≡ Err Fault.Write
         → ((text : Items ℕ) × (n : ℕ) × IsDrilled drill text × Took (K.seen output.old) (K.seen output.new) (take n text))
@@ -44,7 +44,7 @@ pub(crate) fn drill<K: Sink>(alloc: Global, drill: Drill, output: &mut K) -> Res
 
 /// The text that a drill tells.
 fn told(alloc: Global, drill: Drill) -> Result<Bytes, AllocError>
-    requires { IsDrill drill }
+    requires { IsDrillWithinLimits drill }
     ensures { IfOk result (IsDrilled drill) }
 {
     let session = generated(alloc, drill)?;
@@ -54,7 +54,7 @@ fn told(alloc: Global, drill: Drill) -> Result<Bytes, AllocError>
 
 /// The generated session, which is read as every other one. The text has no fault.
 fn generated(alloc: Global, drill: Drill) -> Result<Session, AllocError>
-    requires { IsDrill drill }
+    requires { IsDrillWithinLimits drill }
     ensures read { IfOk result (IsSessionOf (drill_text drill.seed drill.events)) }
     ensures session { IfOk result IsSession }
 {

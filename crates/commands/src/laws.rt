@@ -1,7 +1,7 @@
 //! Laws on what inputs are answered with, for all inputs. They do nothing when they run.
 
 ghost use Rattle.std.specs.Prelude.{◌≡◌, ◌↔◌, ℕ, List, ◌++◌, Result, Ok, Some};
-ghost use Rattle.elem.specs.Drawn.{Drawn};
+ghost use Rattle.elem.specs.ElementValue.{ElementValue};
 ghost use Rattle.elem_store.specs.Updates.{AreBest};
 ghost use Rattle.scene_file.specs.Heads.{Heading, IsJoinedHead};
 ghost use Rattle.scene_file.specs.Texts.{IsSceneText};
@@ -33,7 +33,7 @@ pub fn answer_is_unique()
 
 /// The best update of each id makes the text of a merge.
 pub fn merge_is_of_the_best()
-    ensures { (layout : Layout) (bytes text : List ℕ) (scenes : List Scene) (head : Heading) (chosen : List Drawn)
+    ensures { (layout : Layout) (bytes text : List ℕ) (scenes : List Scene) (head : Heading) (chosen : List ElementValue)
         → HasScenes bytes scenes → IsJoinedHead (heads_of scenes) head
         → AreBest (updates_of scenes) chosen → IsAnswer (Command.Merge layout) bytes (Ok text)
         → (written : List ℕ) × IsSceneText layout head (shown_of chosen) written × (text ≡ written ++ newline) }

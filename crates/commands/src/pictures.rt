@@ -4,7 +4,7 @@ ghost use Rattle.std.specs.Prelude.{◌≡◌, ◌++◌, ℕ, List as Items, IfO
 ghost use Rattle.scene_json.specs.Characters.{quote};
 ghost use Rattle.scene_json.specs.Members.{pairs};
 ghost use Rattle.commands.specs.Faults.{newline};
-ghost use Rattle.commands.specs.Pictures.{AreLines, IsTold};
+ghost use Rattle.commands.specs.Pictures.{AreLines, IsToldOfPicture};
 
 use board_io::{Bytes, List, Stop};
 use file_table::{PictureFault, picture_size};
@@ -24,7 +24,7 @@ pub(crate) fn picture_lines(alloc: Global, files: &List<Member>) -> Result<Bytes
 
 /// Appends the line on a file.
 fn push_line(alloc: Global, lines: &mut Vec<u8>, file: &Member) -> Result<(), AllocError>
-    ensures { OnOk result ((told : Items ℕ) × IsTold file.now.value told
+    ensures { OnOk result ((told : Items ℕ) × IsToldOfPicture file.now.value told
         × (lines.new.items ≡ lines.old.items ++ (quote file.now.name ++ (codes " " ++ (told ++ newline))))) }
 {
     let told = told(alloc, &file.value)?;
@@ -37,7 +37,7 @@ fn push_line(alloc: Global, lines: &mut Vec<u8>, file: &Member) -> Result<(), Al
 
 /// What is told of an entry's picture: how many bytes it has, or why there is none.
 fn told(alloc: Global, entry: &Raw) -> Result<String, AllocError>
-    ensures { IfOk result (λ told. IsTold entry.now (string_bytes told)) }
+    ensures { IfOk result (λ told. IsToldOfPicture entry.now (string_bytes told)) }
 {
     match picture_size(alloc, entry) {
         Ok(size) => size.to_string(alloc),

@@ -10,7 +10,7 @@ ghost use Rattle.commands.specs.Drills.{DrillsAgree, EndsDrilling};
 ghost use Rattle.commands.specs.Ends.{span, EndsWith, GaveWithin, GaveTooMuch, HasLeft, WasDone, WasDoneInPart, WasRead, WasRefused};
 ghost use Rattle.commands.specs.Faults.{status_of, Noted};
 ghost use Rattle.commands.specs.Replays.{ChangesAreCaptured, NothingIsPending, PrintedScenesAgree, RedoRepeats, ReplicasConverge, ReplicasStoreTheBest, UndoBringsBack};
-ghost use Rattle.commands.specs.Services.{IsDrill, IsService};
+ghost use Rattle.commands.specs.Services.{IsDrillWithinLimits, IsService};
 ghost use Rattle.commands.specs.Serving.{links_seen, end_status, EndsServing, WasServedTo};
 ghost use Rattle.commands.specs.Words.{asked};
 ghost use Rattle.room_core.specs.declared.limits.ServeEnd.{ServeEnd};
@@ -190,7 +190,7 @@ fn drill_run<K: Sink, N: Sink>(
     output: &mut K,
     notes: &mut N,
 ) -> Status
-    requires { IsDrill request }
+    requires { IsDrillWithinLimits request }
     ensures drilled { EndsDrilling request (span (K.seen output.old) (K.seen output.new)) (span (N.seen notes.old) (N.seen notes.new)) result }
     ensures complete { ¬ Rose (K.seen output.old).faults (K.seen output.new).faults → (result ≡ Status.Done) ⊎ (result ≡ Status.Memory) }
     ensures notes_kept { result ≡ Status.Done → notes.new ≡ notes.old }

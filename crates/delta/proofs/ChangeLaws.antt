@@ -9,7 +9,7 @@ use Rattle.scene_json.specs.Value.{IsCompact}
 use Rattle.scene_json.specs.declared.text.Member.{Member}
 use Rattle.scene_json.proofs.Collapsed.{bytes_eq-true, bytes_eq-same, bytes_eq-apart}
 use Rattle.frac_keys.specs.Rising.{are_rising}
-use Rattle.elem.specs.Drawn.{Drawn}
+use Rattle.elem.specs.ElementValue.{ElementValue}
 use Rattle.elem.specs.Facts.{IsElement, is_header, names}
 use Rattle.elem.proofs.Sorting.{IsRising}
 use Rattle.delta.specs.declared.change.Change.{Change}
@@ -30,7 +30,7 @@ OnOk-weaker (Ok x) P Q f h = f h
 OnOk-weaker (Err e) P Q f h = h
 
 -- ---- an element of which a further member was set
-pub IsScalarSet-member : (e : Drawn) (name : List ℕ) (value : Option (List ℕ)) (rest : List Member) → header_named e.kind name ≡ None → IsRising (pairs e.rest) → rest ≡ with_value name value e.rest → IsScalarSet e (record e { rest = rest }) name value
+pub IsScalarSet-member : (e : ElementValue) (name : List ℕ) (value : Option (List ℕ)) (rest : List Member) → header_named e.kind name ≡ None → IsRising (pairs e.rest) → rest ≡ with_value name value e.rest → IsScalarSet e (record e { rest = rest }) name value
 IsScalarSet-member e name value rest other rise is = record {
   stamp = record { id = refl; kind = refl; version = refl; nonce = refl; updated = refl };
   groups = refl;
@@ -47,7 +47,7 @@ IsScalarSet-member e name value rest other rise is = record {
         ap Some (header_kept e rest h)
         ∙ sym (ap (λ b. if b then value else scalar_at e n (Some h)) (bytes_eq-apart n name (λ same. some-none h (sym here ∙ ap (header_named e.kind) same ∙ other))))
 
-pub IsElement-rest : (e : Drawn) (name : List ℕ) (value : Option (List ℕ)) (rest : List Member) → IsElement e → is_header e.kind name ≡ false → IfSome value (IsCompact 119) → rest ≡ with_value name value e.rest → IsElement (record e { rest = rest })
+pub IsElement-rest : (e : ElementValue) (name : List ℕ) (value : Option (List ℕ)) (rest : List Member) → IsElement e → is_header e.kind name ≡ false → IfSome value (IsCompact 119) → rest ≡ with_value name value e.rest → IsElement (record e { rest = rest })
 IsElement-rest e name value rest old free compact is = record {
   named = old.named;
   version = old.version;
@@ -77,10 +77,10 @@ IsElement-rest e name value rest old free compact is = record {
     valued (Some v) h = (h, tt)
 
 -- ---- one change
-pub Changes-none : (e : Drawn) → Changes [] e e
+pub Changes-none : (e : ElementValue) → Changes [] e e
 Changes-none e = record { stamp = record { id = refl; kind = refl; version = refl; nonce = refl; updated = refl }; scalars = λ n. refl; groups = refl; bound = refl }
 
-pub Changes-scalar : (old new : Drawn) (name : List ℕ) (before after : Option (List ℕ)) → IsScalarSet old new name after → Changes (Scalar name before after ∷ []) old new
+pub Changes-scalar : (old new : ElementValue) (name : List ℕ) (before after : Option (List ℕ)) → IsScalarSet old new name after → Changes (Scalar name before after ∷ []) old new
 Changes-scalar old new name before after set = record {
   stamp = set.stamp;
   scalars = λ n. set.scalars n ∙ chosen (bytes_eq n name) (scalar_of old n);
@@ -101,7 +101,7 @@ Changes-scalar old new name before after set = record {
     same_bound false = refl
 
 -- ---- one change more
-pub Changes-more : (cs : List Change) (c : Change) (a b d : Drawn) → Changes cs a b → Changes (c ∷ []) b d → change_of cs (name_of c) ≡ None → Changes (cs ++ c ∷ []) a d
+pub Changes-more : (cs : List Change) (c : Change) (a b d : ElementValue) → Changes cs a b → Changes (c ∷ []) b d → change_of cs (name_of c) ≡ None → Changes (cs ++ c ∷ []) a d
 Changes-more cs c a b d first next none = record {
   stamp = record {
     id = next.stamp.id ∙ first.stamp.id;

@@ -6,12 +6,12 @@ use Rattle.scene_json.proofs.Collapsed.{bytes_eq-true, bytes_eq-same, bytes_eq-a
 use Rattle.scene_json.specs.declared.text.Member.{Member}
 use Rattle.elem.specs.declared.kind.Kind.{Kind}
 use Rattle.elem.specs.declared.kind.Kind.TheVariants.{Rectangle, Diamond, Ellipse, Arrow, Line, Freedraw, Text, Image, Frame, Magicframe, Iframe, Embeddable, Other}
-use Rattle.elem.specs.Drawn.{Drawn}
+use Rattle.elem.specs.ElementValue.{ElementValue}
 use Rattle.elem.specs.Facts.{is_header, own_names}
 use Rattle.delta.specs.declared.header.Header.{Header}
 use Rattle.delta.specs.declared.header.Header.TheVariants as headers
 use Rattle.delta.specs.Facts.{other_names}
-use Rattle.delta.specs.Headers.{own_header, header_named, header_text, value_named, scalar_at}
+use Rattle.delta.specs.Headers.{own_header, header_named, scalar_text, value_named, scalar_at}
 use Rattle.delta.specs.Kept.{IsHeaderSet, IsScalarSet}
 
 -- the name of a header member
@@ -118,7 +118,7 @@ not-header kind n free e =
     rw (o1.0, o2.0, o5.0, o6.0, o7.0, deleted.0, index.0, o3.0, frame.0, o4.0, own) refl
 
 -- ---- an element of which one scalar was set
-pub header_kept : (e : Drawn) (rest : List Member) (h : Header) → header_text (record e { rest = rest }) h ≡ header_text e h
+pub header_kept : (e : ElementValue) (rest : List Member) (h : Header) → scalar_text (record e { rest = rest }) h ≡ scalar_text e h
 header_kept e rest headers.Deleted = refl
 header_kept e rest headers.Index = refl
 header_kept e rest headers.Frame = refl
@@ -127,7 +127,7 @@ header_kept e rest headers.StartBinding = refl
 header_kept e rest headers.EndBinding = refl
 header_kept e rest headers.File = refl
 
-pub IsScalarSet-header : (old new : Drawn) (name : List ℕ) (h : Header) (v : List ℕ) → header_named old.kind name ≡ Some h → IsHeaderSet old new h v → IsScalarSet old new name (Some v)
+pub IsScalarSet-header : (old new : ElementValue) (name : List ℕ) (h : Header) (v : List ℕ) → header_named old.kind name ≡ Some h → IsHeaderSet old new h v → IsScalarSet old new name (Some v)
 IsScalarSet-header old new name h v mine set = record {
   stamp = set.stamp;
   groups = set.groups;
@@ -143,8 +143,8 @@ IsScalarSet-header old new name h v mine set = record {
         elim (cases_Bool (bytes_eq other name)) [
           | inl t ↦
               let same : k ≡ h = some-same k h (sym is ∙ ap (header_named old.kind) (bytes_eq-true other name t) ∙ mine) in
-              ap (λ x. Some (header_text new x)) same ∙ ap Some set.text ∙ sym (ap (λ b. if b then Some v else Some (header_text old k)) t)
+              ap (λ x. Some (scalar_text new x)) same ∙ ap Some set.text ∙ sym (ap (λ b. if b then Some v else Some (scalar_text old k)) t)
           | inr f ↦
               let apart : k ≢ h = λ e. false≢true (sym f ∙ ap (λ n. bytes_eq n name) (named-once old.kind other name h (is ∙ ap Some e) mine) ∙ bytes_eq-same name) in
-              ap Some (set.others k apart) ∙ sym (ap (λ b. if b then Some v else Some (header_text old k)) f)
+              ap Some (set.others k apart) ∙ sym (ap (λ b. if b then Some v else Some (scalar_text old k)) f)
         ]

@@ -4,12 +4,12 @@ use Rattle.std.proofs.lemmas.List.Elements.{Contains-append_left, Contains-push,
 use Rattle.frac_keys.specs.Keys.{bytes_less}
 use Rattle.delta.specs.Delta.{Delta}
 use Rattle.frac_keys.specs.Rising.{are_rising}
-use Rattle.elem.specs.Drawn.{Drawn}
+use Rattle.elem.specs.ElementValue.{ElementValue}
 use Rattle.elem.specs.Order.{unstamped}
 use Rattle.delta.specs.declared.header.Header.{Header}
 use Rattle.delta.specs.declared.header.Header.TheVariants as headers
-use Rattle.delta.specs.Headers.{header_named, header_text, scalar_at, scalar_of}
-use Rattle.delta.specs.Parts.{StandsFor, inverse, inverses, scalar_change, groups_change, bound_change}
+use Rattle.delta.specs.Headers.{header_named, scalar_text, scalar_at, scalar_of}
+use Rattle.delta.specs.Parts.{PartStandsFor, inverse, inverses, scalar_change, groups_change, bound_change}
 use Rattle.delta.proofs.ChangeLaws.{AreParts-inverse, names-inverted}
 use Rattle.delta.proofs.PartLaws.{part-once, turned, change-inverted, scalar-turned, groups-turned, bound-turned}
 use Rattle.delta.proofs.Placing.{same_members}
@@ -18,7 +18,7 @@ use Rattle.delta.proofs.RisingIds.{Contains-map, Contains-to_map, rising-push}
 
 module _ (parts : List Delta) (pairs : List Pair) (pair : Pair) (stands : EntryStandsFor parts pairs) where
   -- a changed pair behind those of lesser ids has a part behind the parts
-  pub entry-more : (part : Delta) → ((other : Pair) → Contains pairs other → bytes_less other.after.id pair.after.id ≡ true) → IsChanged pair → StandsFor part pair.before pair.after → EntryStandsFor (parts ++ part ∷ []) (pairs ++ pair ∷ [])
+  pub entry-more : (part : Delta) → ((other : Pair) → Contains pairs other → bytes_less other.after.id pair.after.id ≡ true) → IsChanged pair → PartStandsFor part pair.before pair.after → EntryStandsFor (parts ++ part ∷ []) (pairs ++ pair ∷ [])
   entry-more part less changed difference = record {
     ordered =
         let below : (p : Delta) → Contains parts p → bytes_less p.id part.id ≡ true = λ p c.
@@ -27,7 +27,7 @@ module _ (parts : List Delta) (pairs : List Pair) (pair : Pair) (stands : EntryS
         rising-push (λ (p : Delta). p.id) parts part below stands.ordered;
     each_part = λ p c. elim (Contains-push_cases parts part p c) [
       | inl earlier ↦ let own = stands.each_part p earlier in (own.0, Contains-append_left pairs (pair ∷ []) own.0 own.1, own.2)
-      | inr same ↦ (pair, Contains-push pairs pair, record { changed = changed; stands = subst (λ q. StandsFor q pair.before pair.after) same difference })
+      | inr same ↦ (pair, Contains-push pairs pair, record { changed = changed; stands = subst (λ q. PartStandsFor q pair.before pair.after) same difference })
     ];
     each_pair = λ q c. elim (Contains-push_cases pairs pair q c) [
       | inl earlier ↦ elim (stands.each_pair q earlier) [
@@ -72,13 +72,13 @@ entry-once ps qs pairs first second =
     same_members (λ (p : Delta). p.id) ps qs first.ordered second.ordered (in-other ps qs pairs first second) (in-other qs ps pairs second first)
 
 -- ---- stamps play no part
-scalar-unstamped : (e : Drawn) (name : List ℕ) → scalar_of (unstamped e) name ≡ scalar_of e name
+scalar-unstamped : (e : ElementValue) (name : List ℕ) → scalar_of (unstamped e) name ≡ scalar_of e name
 scalar-unstamped e name = elim (header_named e.kind name) as (λ o. scalar_at (unstamped e) name o ≡ scalar_at e name o) [
   | None ↦ refl
   | Some h ↦ ap Some (text h)
 ]
   where
-    text : (h : Header) → header_text (unstamped e) h ≡ header_text e h
+    text : (h : Header) → scalar_text (unstamped e) h ≡ scalar_text e h
     text headers.Deleted = refl
     text headers.Index = refl
     text headers.Frame = refl
@@ -87,22 +87,22 @@ scalar-unstamped e name = elim (header_named e.kind name) as (λ o. scalar_at (u
     text headers.EndBinding = refl
     text headers.File = refl
 
-scalars-same-but-stamp : (a b : Drawn) → unstamped a ≡ unstamped b → (name : List ℕ) → scalar_of a name ≡ scalar_of b name
-scalars-same-but-stamp a b same name = sym (scalar-unstamped a name) ∙ ap (λ (e : Drawn). scalar_of e name) same ∙ scalar-unstamped b name
+scalars-same-but-stamp : (a b : ElementValue) → unstamped a ≡ unstamped b → (name : List ℕ) → scalar_of a name ≡ scalar_of b name
+scalars-same-but-stamp a b same name = sym (scalar-unstamped a name) ∙ ap (λ (e : ElementValue). scalar_of e name) same ∙ scalar-unstamped b name
 
 module _ (pair other : Pair) (same : IsSamePair pair other) where
   ids : pair.after.id ≡ other.after.id
-  ids = ap (λ (e : Drawn). e.id) same.after
+  ids = ap (λ (e : ElementValue). e.id) same.after
 
   kinds : pair.after.kind ≡ other.after.kind
-  kinds = ap (λ (e : Drawn). e.kind) same.after
+  kinds = ap (λ (e : ElementValue). e.kind) same.after
 
   old_kinds : pair.before.kind ≡ other.before.kind
-  old_kinds = ap (λ (e : Drawn). e.kind) same.before
+  old_kinds = ap (λ (e : ElementValue). e.kind) same.before
 
   pub same-changed : IsChanged pair → IsChanged other
   same-changed changed = record {
-    id = sym (ap (λ (e : Drawn). e.id) same.before) ∙ changed.id ∙ ids;
+    id = sym (ap (λ (e : ElementValue). e.id) same.before) ∙ changed.id ∙ ids;
     kind = sym old_kinds ∙ changed.kind ∙ kinds;
     differ = λ e. changed.differ (same.before ∙ e ∙ sym same.after);
   }
@@ -121,8 +121,8 @@ module _ (pair other : Pair) (same : IsSamePair pair other) where
           kind = is.stands.kind ∙ kinds;
           rise = is.stands.rise;
           scalars = λ name scalar. is.stands.scalars name scalar ∙ ap₂ (scalar_change name) (before name) (after name);
-          groups = is.stands.groups ∙ ap₂ groups_change (ap (λ (e : Drawn). e.groups) same.before) (ap (λ (e : Drawn). e.groups) same.after);
-          bound = is.stands.bound ∙ ap₂ bound_change (ap (λ (e : Drawn). e.bound) same.before) (ap (λ (e : Drawn). e.bound) same.after);
+          groups = is.stands.groups ∙ ap₂ groups_change (ap (λ (e : ElementValue). e.groups) same.before) (ap (λ (e : ElementValue). e.groups) same.after);
+          bound = is.stands.bound ∙ ap₂ bound_change (ap (λ (e : ElementValue). e.bound) same.before) (ap (λ (e : ElementValue). e.bound) same.after);
         };
       }
 

@@ -8,7 +8,7 @@ use Rattle.elem.specs.declared.kind.Kind.{Kind}
 use Rattle.elem.specs.declared.kind.Kind.TheVariants.{Rectangle, Diamond, Ellipse, Arrow, Line, Freedraw, Text, Image, Frame, Magicframe, Iframe, Embeddable, Other}
 use Rattle.elem.specs.declared.parts.BoundRef.{BoundRef}
 use Rattle.elem.specs.declared.parts.Binding.{Binding}
-use Rattle.elem.specs.Drawn.{Drawn}
+use Rattle.elem.specs.ElementValue.{ElementValue}
 use Rattle.elem.specs.Facts.{IsElement, IsBinding, is_header, header_names, own_names, names}
 use Rattle.elem.specs.Order.{unstamped}
 use Rattle.elem.specs.Texts.{text_or_null, binding_text}
@@ -18,11 +18,11 @@ use Rattle.delta.specs.declared.header.Header.{Header}
 use Rattle.delta.specs.declared.header.Header.TheVariants as headers
 use Rattle.delta.specs.Applied.{IsApplied, scalar_after, groups_after, bound_after}
 use Rattle.delta.specs.Delta.{Delta}
-use Rattle.delta.specs.Entries.{entries_same-exact, entries_same-same}
+use Rattle.delta.specs.Entries.{same_listing_entry-exact, same_listing_entry-same}
 use Rattle.delta.specs.Facts.{name_of}
-use Rattle.delta.specs.Headers.{own_header, header_named, header_text, value_named, scalar_at, scalar_of}
-use Rattle.delta.specs.Joined.{are_same, joined, stays, is_gained, first_occurrences, entries_same}
-use Rattle.delta.specs.Parts.{change_of, scalar_change, groups_change, bound_change, scalars_same, is_list, StandsFor, inverted, inverse}
+use Rattle.delta.specs.Headers.{own_header, header_named, scalar_text, value_named, scalar_at, scalar_of}
+use Rattle.delta.specs.Joined.{are_same, joined, stays, is_gained, first_occurrences, same_listing_entry}
+use Rattle.delta.specs.Parts.{change_of, scalar_change, groups_change, bound_change, scalars_same, is_list, PartStandsFor, inverted, inverse}
 use Rattle.delta.specs.Undone.{undone_scalar, undone_list, IsUndone}
 use Rattle.delta.proofs.HeaderLaws.{header_name, named, own-named}
 use Rattle.delta.proofs.Injective.{text-same, truth-same, binding-same}
@@ -105,11 +105,11 @@ groups-turned b a =
 pub bound-turned : (b a : List BoundRef) → turned (bound_change b a) ≡ bound_change a b
 unfolding turned
 bound-turned b a =
-    (elim (are_same entries_same b a) as (λ same. turned (if same then None else Some (Bound b a)) ≡ (if same then None else Some (Bound a b))) [ true ↦ refl | false ↦ refl ])
-    ∙ ap (λ same. if same then None else Some (Bound a b)) (lists_same-turned entries_same entries_same-exact entries_same-same b a)
+    (elim (are_same same_listing_entry b a) as (λ same. turned (if same then None else Some (Bound b a)) ≡ (if same then None else Some (Bound a b))) [ true ↦ refl | false ↦ refl ])
+    ∙ ap (λ same. if same then None else Some (Bound a b)) (lists_same-turned same_listing_entry same_listing_entry-exact same_listing_entry-same b a)
 
 -- a part of two elements is one alone
-pub part-once : (p q : Delta) (before after : Drawn) → StandsFor p before after → StandsFor q before after → p ≡ q
+pub part-once : (p q : Delta) (before after : ElementValue) → PartStandsFor p before after → PartStandsFor q before after → p ≡ q
 part-once p q before after first second =
     let id = first.id ∙ sym second.id in
     let kind = first.kind ∙ sym second.kind in
@@ -213,24 +213,24 @@ list-header kind n l = elim (cases_Bool (bytes_eq n (codes "groupIds"))) [
 ]
 
 -- a list is no scalar
-list-scalar : (e : Drawn) (n : List ℕ) → IsElement e → is_list n ≡ true → scalar_of e n ≡ None
+list-scalar : (e : ElementValue) (n : List ℕ) → IsElement e → is_list n ≡ true → scalar_of e n ≡ None
 list-scalar e n is l = at (header_named e.kind n) refl
   where
     at : (o : Option Header) → header_named e.kind n ≡ o → scalar_at e n o ≡ None
     at None h = none-header e.kind n e.rest (list-header e.kind n l) is.free
     at (Some k) h = absurd (header-apart n k l (named e.kind n k h))
 
-module _ (a b : Drawn) (is : IsElement a) (is' : IsElement b) (kind : a.kind ≡ b.kind) (scalars : (n : List ℕ) → scalar_of a n ≡ scalar_of b n) where
-  at-kind : (k : Kind) (n : List ℕ) (h : Header) → a.kind ≡ k → header_named k n ≡ Some h → header_text a h ≡ header_text b h
+module _ (a b : ElementValue) (is : IsElement a) (is' : IsElement b) (kind : a.kind ≡ b.kind) (scalars : (n : List ℕ) → scalar_of a n ≡ scalar_of b n) where
+  at-kind : (k : Kind) (n : List ℕ) (h : Header) → a.kind ≡ k → header_named k n ≡ Some h → scalar_text a h ≡ scalar_text b h
   at-kind k n h e own =
       some-same _ _ (sym (ap (scalar_at a n) (ap (λ k. header_named k n) e ∙ own)) ∙ scalars n ∙ ap (scalar_at b n) (ap (λ k. header_named k n) (sym kind ∙ e) ∙ own))
 
-  texts-same : (k : Kind) (n : List ℕ) (h : Header) (x y : Option (List ℕ)) → header_named k n ≡ Some h → IfSome x (λ id. a.kind ≡ k) → IfSome y (λ id. b.kind ≡ k) → (header_text a h ≡ header_text b h → text_or_null x ≡ text_or_null y) → x ≡ y
+  texts-same : (k : Kind) (n : List ℕ) (h : Header) (x y : Option (List ℕ)) → header_named k n ≡ Some h → IfSome x (λ id. a.kind ≡ k) → IfSome y (λ id. b.kind ≡ k) → (scalar_text a h ≡ scalar_text b h → text_or_null x ≡ text_or_null y) → x ≡ y
   texts-same k n h None None own p q f = refl
   texts-same k n h (Some x) y own p q f = text-same (Some x) y (f (at-kind k n h p own))
   texts-same k n h None (Some y) own p q f = text-same None (Some y) (f (at-kind k n h (kind ∙ q) own))
 
-  bindings-same : (n : List ℕ) (h : Header) (x y : Option Binding) → header_named Arrow n ≡ Some h → IfSome x (λ binding. (a.kind ≡ Arrow) × IsBinding binding) → IfSome y (λ binding. (b.kind ≡ Arrow) × IsBinding binding) → (header_text a h ≡ header_text b h → binding_text x ≡ binding_text y) → x ≡ y
+  bindings-same : (n : List ℕ) (h : Header) (x y : Option Binding) → header_named Arrow n ≡ Some h → IfSome x (λ binding. (a.kind ≡ Arrow) × IsBinding binding) → IfSome y (λ binding. (b.kind ≡ Arrow) × IsBinding binding) → (scalar_text a h ≡ scalar_text b h → binding_text x ≡ binding_text y) → x ≡ y
   bindings-same n h None None own p q f = refl
   bindings-same n h (Some x) None own p q f = binding-same (Some x) None p.1 tt (f (at-kind Arrow n h p.0 own))
   bindings-same n h (Some x) (Some y) own p q f = binding-same (Some x) (Some y) p.1 q.1 (f (at-kind Arrow n h p.0 own))
@@ -297,9 +297,9 @@ groups-undone : (b a now : List (List ℕ)) → groups_after (turned (groups_cha
 unfolding turned
 groups-undone b a now = elim (are_same bytes_eq b a) as (λ same. groups_after (turned (if same then None else Some (Groups b a))) now ≡ (if same then now else joined bytes_eq a b now)) [ true ↦ refl | false ↦ refl ]
 
-bound-undone : (b a now : List BoundRef) → bound_after (turned (bound_change b a)) now ≡ undone_list entries_same b a now
+bound-undone : (b a now : List BoundRef) → bound_after (turned (bound_change b a)) now ≡ undone_list same_listing_entry b a now
 unfolding turned
-bound-undone b a now = elim (are_same entries_same b a) as (λ same. bound_after (turned (if same then None else Some (Bound b a))) now ≡ (if same then now else joined entries_same a b now)) [ true ↦ refl | false ↦ refl ]
+bound-undone b a now = elim (are_same same_listing_entry b a) as (λ same. bound_after (turned (if same then None else Some (Bound b a))) now ≡ (if same then now else joined same_listing_entry a b now)) [ true ↦ refl | false ↦ refl ]
 
 undone_scalar-now : (b a : Option (List ℕ)) → undone_scalar b a a ≡ b
 undone_scalar-now b a = elim (cases_Bool (scalars_same b a)) [
@@ -330,12 +330,12 @@ groups-forward b a =
 
 bound-forward : (b a : List BoundRef) → bound_after (bound_change b a) b ≡ a
 bound-forward b a =
-    (elim (are_same entries_same b a) as (λ s. bound_after (if s then None else Some (Bound b a)) b ≡ (if s then b else joined entries_same b a b)) [ true ↦ refl | false ↦ refl ])
-    ∙ list-forward entries_same entries_same-exact entries_same-same b a
+    (elim (are_same same_listing_entry b a) as (λ s. bound_after (if s then None else Some (Bound b a)) b ≡ (if s then b else joined same_listing_entry b a b)) [ true ↦ refl | false ↦ refl ])
+    ∙ list-forward same_listing_entry same_listing_entry-exact same_listing_entry-same b a
 
 -- ---- the laws
-module _ (part : Delta) (before after : Drawn) (is : IsElement before) (is' : IsElement after) (stands : StandsFor part before after) where
-  pub undone-from : (now result : Drawn) → IsElement now → IsElement result → IsApplied (inverse part) now result → IsUndone before after now result
+module _ (part : Delta) (before after : ElementValue) (is : IsElement before) (is' : IsElement after) (stands : PartStandsFor part before after) where
+  pub undone-from : (now result : ElementValue) → IsElement now → IsElement result → IsApplied (inverse part) now result → IsUndone before after now result
   undone-from now result isnow isresult applied = record {
     undone = λ kind.
         let changed = applied.changed (stands.kind ∙ kind) in
@@ -355,7 +355,7 @@ module _ (part : Delta) (before after : Drawn) (is : IsElement before) (is' : Is
     other = λ kind. applied.other (λ e. kind (sym stands.kind ∙ e));
   }
 
-  pub applied-forward : (result : Drawn) → IsElement result → before.id ≡ after.id → before.kind ≡ after.kind → IsApplied part before result → unstamped result ≡ unstamped after
+  pub applied-forward : (result : ElementValue) → IsElement result → before.id ≡ after.id → before.kind ≡ after.kind → IsApplied part before result → unstamped result ≡ unstamped after
   applied-forward result isresult id kind applied =
       let changed = applied.changed (stands.kind ∙ sym kind) in
       same-unstamped result after isresult is' (changed.stamp.kind ∙ kind)
@@ -367,17 +367,17 @@ module _ (part : Delta) (before after : Drawn) (is : IsElement before) (is' : Is
       (changed.groups ∙ ap (λ o. groups_after o before.groups) stands.groups ∙ groups-forward before.groups after.groups)
       (changed.bound ∙ ap (λ o. bound_after o before.bound) stands.bound ∙ bound-forward before.bound after.bound)
 
-  pub applied-back : (result : Drawn) → IsElement result → before.id ≡ after.id → before.kind ≡ after.kind → IsApplied (inverse part) after result → unstamped result ≡ unstamped before
+  pub applied-back : (result : ElementValue) → IsElement result → before.id ≡ after.id → before.kind ≡ after.kind → IsApplied (inverse part) after result → unstamped result ≡ unstamped before
   applied-back result isresult id kind applied =
       let undoes = (undone-from after result is' isresult applied).undone refl in
       same-unstamped result before isresult is (undoes.stamp.kind ∙ sym kind)
       (λ n. undoes.scalars n ∙ undone_scalar-now (scalar_of before n) (scalar_of after n))
       (undoes.stamp.id ∙ sym id)
       (undoes.groups ∙ undone_list-now bytes_eq bytes_eq-true bytes_eq-same before.groups after.groups)
-      (undoes.bound ∙ undone_list-now entries_same entries_same-exact entries_same-same before.bound after.bound)
+      (undoes.bound ∙ undone_list-now same_listing_entry same_listing_entry-exact same_listing_entry-same before.bound after.bound)
 
 -- a part makes one element of another one
-module _ (part : Delta) (now a b : Drawn) (is : IsElement a) (is' : IsElement b) (p : IsApplied part now a) (q : IsApplied part now b) where
+module _ (part : Delta) (now a b : ElementValue) (is : IsElement a) (is' : IsElement b) (p : IsApplied part now a) (q : IsApplied part now b) where
   pub applied-once : part.kind ≡ now.kind → unstamped a ≡ unstamped b
   applied-once kind =
       let made = p.changed kind in

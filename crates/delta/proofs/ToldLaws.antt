@@ -10,7 +10,7 @@ use Rattle.scene_json.specs.Value.{IsCompact}
 use Rattle.scene_json.specs.declared.text.Member.{Member}
 use Rattle.scene_json.proofs.Collapsed.{bytes_eq-true, bytes_eq-same}
 use Rattle.elem.specs.declared.parts.BoundRef.{BoundRef}
-use Rattle.elem.specs.Drawn.{Drawn}
+use Rattle.elem.specs.ElementValue.{ElementValue}
 use Rattle.elem.specs.declared.kind.Kind.{Kind}
 use Rattle.elem.specs.Facts.{names, is_header, header_names, own_names}
 use Rattle.delta.specs.declared.change.Change.{Change}
@@ -19,14 +19,14 @@ use Rattle.delta.specs.declared.header.Header.{Header}
 use Rattle.delta.specs.declared.header.Header.TheVariants as headers
 use Rattle.delta.specs.Facts.{IsChange, IsScalar, name_of, change_names, other_names}
 use Rattle.delta.specs.Headers.{header_named, value_named, scalar_at, scalar_of}
-use Rattle.delta.specs.Joined.{are_same, entries_same}
+use Rattle.delta.specs.Joined.{are_same, same_listing_entry}
 use Rattle.delta.specs.Parts.{change_of, scalar_change, groups_change, bound_change, scalars_same}
-use Rattle.delta.specs.Told.{change_between, with_change, Told, AreChanges}
+use Rattle.delta.specs.Told.{change_between, with_change, AreChangesOf, AreAllChanges}
 use Rattle.delta.proofs.HeaderLaws.{header_name, named}
 use Rattle.delta.proofs.Placing.{item-put, rising-put, each-put}
 
 -- a change, if it is one, is of the member of this name in elements of the kind
-abbrev pub IsOf : Drawn → List ℕ → Option Change → Type 0
+abbrev pub IsOf : ElementValue → List ℕ → Option Change → Type 0
 IsOf e name o = IfSome o (λ c. (name_of c ≡ name) × IsChange e.kind c)
 
 or_false : (b : Bool) → (b || false) ≡ b
@@ -42,7 +42,7 @@ nothing true o e = e
 nothing false o e = refl
 
 -- what the names tell with one more
-module _ (before after : Drawn) (known : List (List ℕ)) (cs : List Change) (name : List ℕ) (told : Told before after known cs) where
+module _ (before after : ElementValue) (known : List (List ℕ)) (cs : List Change) (name : List ℕ) (told : AreChangesOf before after known cs) where
   wanted : List ℕ → Option Change
   wanted n = if list_any (bytes_eq n) (known ++ name ∷ []) then change_between before after n else None
 
@@ -78,7 +78,7 @@ module _ (before after : Drawn) (known : List (List ℕ)) (cs : List Change) (na
         ∙ told.told n ∙ others n f
   ]
 
-  with_told : (o : Option Change) → o ≡ change_between before after name → IsOf after name o → Told before after (known ++ name ∷ []) (with_change cs o)
+  with_told : (o : Option Change) → o ≡ change_between before after name → IsOf after name o → AreChangesOf before after (known ++ name ∷ []) (with_change cs o)
   unfolding wanted
   with_told None is of = record { told = by-name cs (λ n f. refl) (none-told (sym is)); rise = told.rise; each = told.each }
   with_told (Some c) is of = record {
@@ -87,14 +87,14 @@ module _ (before after : Drawn) (known : List (List ℕ)) (cs : List Change) (na
     each = each-put name_of (IsChange after.kind) c cs of.1 told.each;
   }
 
-  pub Told-more : (o : Option Change) (new : List Change) → o ≡ change_between before after name → IsOf after name o → new ≡ with_change cs o → Told before after (known ++ name ∷ []) new
-  Told-more o new is of made = subst (Told before after (known ++ name ∷ [])) (sym made) (with_told o is of)
+  pub AreChangesOf-more : (o : Option Change) (new : List Change) → o ≡ change_between before after name → IsOf after name o → new ≡ with_change cs o → AreChangesOf before after (known ++ name ∷ []) new
+  AreChangesOf-more o new is of made = subst (AreChangesOf before after (known ++ name ∷ [])) (sym made) (with_told o is of)
 
-pub Told-none : (before after : Drawn) → Told before after [] []
-Told-none before after = record { told = λ n. refl; rise = refl; each = tt }
+pub AreChangesOf-none : (before after : ElementValue) → AreChangesOf before after [] []
+AreChangesOf-none before after = record { told = λ n. refl; rise = refl; each = tt }
 
 -- ---- changes of scalars and lists
-pub scalar-between : (before after : Drawn) (name : List ℕ) → list_any (bytes_eq name) other_names ≡ false → scalar_change name (scalar_of before name) (scalar_of after name) ≡ change_between before after name
+pub scalar-between : (before after : ElementValue) (name : List ℕ) → list_any (bytes_eq name) other_names ≡ false → scalar_change name (scalar_of before name) (scalar_of after name) ≡ change_between before after name
 scalar-between before after name free =
     let o1 = or_parts (bytes_eq name (codes "id")) _ free in
     let o2 = or_parts (bytes_eq name (codes "type")) _ o1.1 in
@@ -104,17 +104,17 @@ scalar-between before after name free =
     sym (ap (λ b. if b then groups_change before.groups after.groups else (if bytes_eq name (codes "boundElements") then bound_change before.bound after.bound else scalar)) o3.0
     ∙ ap (λ b. if b then bound_change before.bound after.bound else scalar) o4.0)
 
-pub IsOf-scalar : (e : Drawn) (name : List ℕ) (before after : Option (List ℕ)) → list_any (bytes_eq name) other_names ≡ false → IsScalar (header_named e.kind name) before → IsScalar (header_named e.kind name) after → IsOf e name (scalar_change name before after)
+pub IsOf-scalar : (e : ElementValue) (name : List ℕ) (before after : Option (List ℕ)) → list_any (bytes_eq name) other_names ≡ false → IsScalar (header_named e.kind name) before → IsScalar (header_named e.kind name) after → IsOf e name (scalar_change name before after)
 IsOf-scalar e name before after free b a =
     elim (scalars_same before after) as (λ same. IsOf e name (if same then None else Some (Scalar name before after))) [ true ↦ tt | false ↦ (refl, (free, b, a)) ]
 
-pub IsOf-groups : (e : Drawn) (before after : List (List ℕ)) → IsOf e (codes "groupIds") (groups_change before after)
+pub IsOf-groups : (e : ElementValue) (before after : List (List ℕ)) → IsOf e (codes "groupIds") (groups_change before after)
 IsOf-groups e before after =
     elim (are_same bytes_eq before after) as (λ same. IsOf e (codes "groupIds") (if same then None else Some (Groups before after))) [ true ↦ tt | false ↦ (refl, tt) ]
 
-pub IsOf-bound : (e : Drawn) (before after : List BoundRef) → IsOf e (codes "boundElements") (bound_change before after)
+pub IsOf-bound : (e : ElementValue) (before after : List BoundRef) → IsOf e (codes "boundElements") (bound_change before after)
 IsOf-bound e before after =
-    elim (are_same entries_same before after) as (λ same. IsOf e (codes "boundElements") (if same then None else Some (Bound before after))) [ true ↦ tt | false ↦ (refl, tt) ]
+    elim (are_same same_listing_entry before after) as (λ same. IsOf e (codes "boundElements") (if same then None else Some (Bound before after))) [ true ↦ tt | false ↦ (refl, tt) ]
 
 -- ---- all names
 abbrev pub first_names : List (List ℕ)
@@ -137,8 +137,8 @@ not-named name (m ∷ ms) h =
     let parts = or_parts (bytes_eq name m.name) (list_any (bytes_eq name) (names ms)) h in
     ap (λ b. if b then Some m.value else value_named name ms) parts.0 ∙ not-named name ms parts.1
 
-pub AreChanges-from : (before after : Drawn) (cs : List Change) → before.kind ≡ after.kind → Told before after ((first_names ++ names before.rest) ++ names after.rest) cs → AreChanges before after cs
-AreChanges-from before after cs kind told = record {
+pub AreAllChanges-from : (before after : ElementValue) (cs : List Change) → before.kind ≡ after.kind → AreChangesOf before after ((first_names ++ names before.rest) ++ names after.rest) cs → AreAllChanges before after cs
+AreAllChanges-from before after cs kind told = record {
   told = λ n. elim (cases_Bool (list_any (bytes_eq n) ((first_names ++ names before.rest) ++ names after.rest))) [
     | inl t ↦ told.told n ∙ ap (λ b. if b then change_between before after n else None) t
     | inr f ↦ told.told n ∙ ap (λ b. if b then change_between before after n else None) f ∙ sym (none n f)
@@ -159,7 +159,7 @@ AreChanges-from before after cs kind told = record {
         ∙ ap (λ o. scalar_change n o (scalar_of after n)) (gone before (header_named before.kind n) refl first.0 first.1)
         ∙ ap (λ o. scalar_change n None o) (gone after (header_named after.kind n) refl first.0 last.1)
       where
-        gone : (e : Drawn) (o : Option Header) → header_named e.kind n ≡ o → list_any (bytes_eq n) first_names ≡ false → list_any (bytes_eq n) (names e.rest) ≡ false → scalar_at e n o ≡ None
+        gone : (e : ElementValue) (o : Option Header) → header_named e.kind n ≡ o → list_any (bytes_eq n) first_names ≡ false → list_any (bytes_eq n) (names e.rest) ≡ false → scalar_at e n o ≡ None
         gone e None is unnamed unrest = not-named n e.rest unrest
         gone e (Some h) is unnamed unrest =
             absurd (false≢true (sym unnamed ∙ ap (λ m. list_any (bytes_eq m) first_names) (named e.kind n h is) ∙ header-first h))

@@ -5,24 +5,24 @@ use Rattle.scene_json.proofs.Collapsed.{bytes_eq-true, bytes_eq-same}
 use Rattle.elem.specs.declared.kind.Role.{Role}
 use Rattle.elem.specs.declared.kind.Role.TheVariants as roles
 use Rattle.elem.specs.declared.parts.BoundRef.{BoundRef}
-use Rattle.delta.specs.Joined.{roles_same, entries_same}
+use Rattle.delta.specs.Joined.{same_role, same_listing_entry}
 
-roles-exact : (a b : Role) → roles_same a b ≡ true → a ≡ b
+roles-exact : (a b : Role) → same_role a b ≡ true → a ≡ b
 roles-exact roles.Arrow roles.Arrow h = refl
 roles-exact roles.Text roles.Text h = refl
 roles-exact roles.Arrow roles.Text h = absurd (false≢true h)
 roles-exact roles.Text roles.Arrow h = absurd (false≢true h)
 
-roles-same : (a : Role) → roles_same a a ≡ true
+roles-same : (a : Role) → same_role a a ≡ true
 roles-same roles.Arrow = refl
 roles-same roles.Text = refl
 
-pub entries_same-exact : (a b : BoundRef) → entries_same a b ≡ true → a ≡ b
-entries_same-exact a b h =
-    let parts = and_parts (bytes_eq a.id b.id) (roles_same a.role b.role) h in
+pub same_listing_entry-exact : (a b : BoundRef) → same_listing_entry a b ≡ true → a ≡ b
+same_listing_entry-exact a b h =
+    let parts = and_parts (bytes_eq a.id b.id) (same_role a.role b.role) h in
     let id = bytes_eq-true a.id b.id parts.0 in
     let role = roles-exact a.role b.role parts.1 in
     λ i. record { id = id i; role = role i }
 
-pub entries_same-same : (a : BoundRef) → entries_same a a ≡ true
-entries_same-same a = and_from (bytes_eq a.id a.id) (roles_same a.role a.role) (bytes_eq-same a.id) (roles-same a.role)
+pub same_listing_entry-same : (a : BoundRef) → same_listing_entry a a ≡ true
+same_listing_entry-same a = and_from (bytes_eq a.id a.id) (same_role a.role a.role) (bytes_eq-same a.id) (roles-same a.role)

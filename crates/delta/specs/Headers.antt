@@ -5,7 +5,7 @@ use Rattle.scene_json.specs.Named.{value_at}
 use Rattle.scene_json.specs.declared.text.Member.{Member}
 use Rattle.elem.specs.declared.kind.Kind.{Kind}
 use Rattle.elem.specs.declared.kind.Kind.TheVariants.{Rectangle, Diamond, Ellipse, Arrow, Line, Freedraw, Text, Image, Frame, Magicframe, Iframe, Embeddable, Other}
-use Rattle.elem.specs.Drawn.{Drawn}
+use Rattle.elem.specs.ElementValue.{ElementValue}
 use Rattle.elem.specs.Texts.{truth_text, text_or_null, binding_text}
 use Rattle.delta.specs.declared.header.Header.{Header}
 use Rattle.delta.specs.declared.header.Header.TheVariants as headers
@@ -36,23 +36,23 @@ header_named kind name =
     else (if bytes_eq name (codes "frameId") then Some headers.Frame else own_header kind name))
 
 -- the compact text of a header member
-abbrev pub header_text : Drawn → Header → List ℕ
-header_text e headers.Deleted = truth_text e.deleted
-header_text e headers.Index = text_or_null e.index
-header_text e headers.Frame = text_or_null e.frame
-header_text e headers.Container = text_or_null e.container
-header_text e headers.StartBinding = binding_text e.start_binding
-header_text e headers.EndBinding = binding_text e.end_binding
-header_text e headers.File = text_or_null e.file
+abbrev pub scalar_text : ElementValue → Header → List ℕ
+scalar_text e headers.Deleted = truth_text e.deleted
+scalar_text e headers.Index = text_or_null e.index
+scalar_text e headers.Frame = text_or_null e.frame
+scalar_text e headers.Container = text_or_null e.container
+scalar_text e headers.StartBinding = binding_text e.start_binding
+scalar_text e headers.EndBinding = binding_text e.end_binding
+scalar_text e headers.File = text_or_null e.file
 
 -- the value of the member of this name, if there is one
 abbrev pub value_named : List ℕ → List Member → Option (List ℕ)
 value_named name members = value_at name (pairs members)
 
-abbrev pub scalar_at : Drawn → List ℕ → Option Header → Option (List ℕ)
-scalar_at e name (Some header) = Some (header_text e header)
+abbrev pub scalar_at : ElementValue → List ℕ → Option Header → Option (List ℕ)
+scalar_at e name (Some header) = Some (scalar_text e header)
 scalar_at e name None = value_named name e.rest
 
 -- the compact text of the scalar member of this name, if the element has one
-abbrev pub scalar_of : Drawn → List ℕ → Option (List ℕ)
+abbrev pub scalar_of : ElementValue → List ℕ → Option (List ℕ)
 scalar_of e name = scalar_at e name (header_named e.kind name)

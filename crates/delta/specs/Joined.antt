@@ -5,15 +5,15 @@ use Rattle.elem.specs.declared.kind.Role.{Role}
 use Rattle.elem.specs.declared.kind.Role.TheVariants as roles
 use Rattle.elem.specs.declared.parts.BoundRef.{BoundRef}
 
-abbrev pub roles_same : Role → Role → Bool
-roles_same roles.Arrow roles.Arrow = true
-roles_same roles.Text roles.Text = true
-roles_same roles.Arrow roles.Text = false
-roles_same roles.Text roles.Arrow = false
+abbrev pub same_role : Role → Role → Bool
+same_role roles.Arrow roles.Arrow = true
+same_role roles.Text roles.Text = true
+same_role roles.Arrow roles.Text = false
+same_role roles.Text roles.Arrow = false
 
 -- whether two entries of a listing are the same
-abbrev pub entries_same : BoundRef → BoundRef → Bool
-entries_same a b = bytes_eq a.id b.id && roles_same a.role b.role
+abbrev pub same_listing_entry : BoundRef → BoundRef → Bool
+same_listing_entry a b = bytes_eq a.id b.id && same_role a.role b.role
 
 -- whether two lists are the same: as long, and the same item by item
 abbrev pub are_same : {T : Type 0} → (T → T → Bool) → List T → List T → Bool

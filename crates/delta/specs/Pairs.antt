@@ -1,23 +1,23 @@
 -- Entries, and the elements before and after that they stand for. This project's own, after Excalidraw's history.
 use Rattle.std.specs.Prelude.{◌≡◌, ◌≢◌, ◌⊎◌, ℕ, List, Option, Contains, map}
-use Rattle.elem.specs.Drawn.{Drawn}
+use Rattle.elem.specs.ElementValue.{ElementValue}
 use Rattle.elem.specs.Order.{unstamped}
 use Rattle.delta.specs.Delta.{Delta}
 use Rattle.delta.specs.Facts.{AreParts}
-use Rattle.delta.specs.Parts.{StandsFor, counted}
+use Rattle.delta.specs.Parts.{PartStandsFor, counted}
 
 -- an element as it was before and as it is after
 pub record Pair : Type 0 where
-  pub before : Drawn
-  pub after : Drawn
+  pub before : ElementValue
+  pub after : ElementValue
 
 -- an element with the one before, if there was one; where there was none, it counts as the element, deleted
-abbrev pub pair_with : Option Drawn → Drawn → Pair
+abbrev pub pair_with : Option ElementValue → ElementValue → Pair
 pair_with before e = record { before = counted before e; after = e }
 
 -- the elements, each with the one of its id before
-abbrev pub pairs_from : (List ℕ → Option Drawn) → List Drawn → List Pair
-pairs_from before elements = map (λ (e : Drawn). pair_with (before e.id) e) elements
+abbrev pub pairs_from : (List ℕ → Option ElementValue) → List ElementValue → List Pair
+pairs_from before elements = map (λ (e : ElementValue). pair_with (before e.id) e) elements
 
 -- Both are of one id and one kind and differ outside the stamp.
 pub record IsChanged (pair : Pair) : Type 0 where
@@ -32,7 +32,7 @@ IsUnchanged pair = pair.before.kind ≡ pair.after.kind → unstamped pair.befor
 -- The pair is changed, and this is the part of its change.
 pub record IsPartOf (part : Delta) (pair : Pair) : Type 0 where
   pub changed : IsChanged pair
-  pub stands : StandsFor part pair.before pair.after
+  pub stands : PartStandsFor part pair.before pair.after
 
 -- An entry stands for pairs: it has the part of each pair that is changed, and no other one, in the order of their ids.
 pub record EntryStandsFor (parts : List Delta) (pairs : List Pair) : Type 0 where

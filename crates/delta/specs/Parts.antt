@@ -2,13 +2,13 @@
 use Rattle.std.specs.Prelude.{◌≡◌, ℕ, List, Bool, true, false, ◌||◌, Option, Some, None, find, map, codes, bytes_eq, if◌then◌else◌}
 use Rattle.frac_keys.specs.Rising.{are_rising}
 use Rattle.elem.specs.declared.parts.BoundRef.{BoundRef}
-use Rattle.elem.specs.Drawn.{Drawn}
+use Rattle.elem.specs.ElementValue.{ElementValue}
 use Rattle.delta.specs.declared.change.Change.{Change}
 use Rattle.delta.specs.declared.change.Change.TheVariants.{Scalar, Groups, Bound}
 use Rattle.delta.specs.Delta.{Delta}
 use Rattle.delta.specs.Facts.{name_of, change_names}
 use Rattle.delta.specs.Headers.{scalar_of}
-use Rattle.delta.specs.Joined.{are_same, entries_same}
+use Rattle.delta.specs.Joined.{are_same, same_listing_entry}
 
 -- the change of the member of this name, if there is one
 abbrev pub change_of : List Change → List ℕ → Option Change
@@ -29,7 +29,7 @@ abbrev pub groups_change : List (List ℕ) → List (List ℕ) → Option Change
 groups_change before after = if are_same bytes_eq before after then None else Some (Groups before after)
 
 abbrev pub bound_change : List BoundRef → List BoundRef → Option Change
-bound_change before after = if are_same entries_same before after then None else Some (Bound before after)
+bound_change before after = if are_same same_listing_entry before after then None else Some (Bound before after)
 
 -- whether the member of this name is a list
 abbrev pub is_list : List ℕ → Bool
@@ -37,7 +37,7 @@ is_list name = bytes_eq name (codes "groupIds") || bytes_eq name (codes "boundEl
 
 -- The part stands for a pair of elements: it has the change of each member in which they differ, and no other one, in the
 -- order of the members' names.
-pub record StandsFor (part : Delta) (before after : Drawn) : Type 0 where
+pub record PartStandsFor (part : Delta) (before after : ElementValue) : Type 0 where
   pub id : part.id ≡ after.id
   pub kind : part.kind ≡ after.kind
   pub rise : are_rising (change_names part.changes) ≡ true
@@ -47,7 +47,7 @@ pub record StandsFor (part : Delta) (before after : Drawn) : Type 0 where
   pub bound : change_of part.changes (codes "boundElements") ≡ bound_change before.bound after.bound
 
 -- Where there is no old element, it counts as the new one, deleted.
-abbrev pub counted : Option Drawn → Drawn → Drawn
+abbrev pub counted : Option ElementValue → ElementValue → ElementValue
 counted None new = record new { deleted = true }
 counted (Some old) new = old
 

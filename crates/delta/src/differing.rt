@@ -10,8 +10,8 @@ ghost use Rattle.delta.specs.Placed.{with_item};
 ghost use Rattle.std.specs.Option.{option_map_or};
 ghost use Rattle.delta.specs.Headers.{header_named, scalar_of, value_named};
 ghost use Rattle.delta.specs.Parts as parts;
-ghost use Rattle.delta.specs.Parts.{StandsFor, counted, groups_change, bound_change};
-ghost use Rattle.delta.specs.Told.{Told, AreChanges, with_change};
+ghost use Rattle.delta.specs.Parts.{PartStandsFor, counted, groups_change, bound_change};
+ghost use Rattle.delta.specs.Told.{AreChangesOf, AreAllChanges, with_change};
 
 use crate::change::Change;
 use crate::header::{header_named, header_raw};
@@ -27,7 +27,7 @@ use std::alloc::{AllocError, Global};
 /// deleted.
 pub fn difference(alloc: Global, old: Option<&Element>, new: &Element) -> Result<Part, AllocError>
     requires { IfSome (option_copied old) (λ old. (old.id ≡ new.now.id) × (old.kind ≡ new.now.kind)) }
-    ensures { IfOk result (λ part. StandsFor part (counted (option_copied old.entry) new.now) new.now) }
+    ensures { IfOk result (λ part. PartStandsFor part (counted (option_copied old.entry) new.now) new.now) }
 {
     let changes = match old {
         Some(old) => changes_between(alloc, old, new)?,
@@ -42,7 +42,7 @@ pub fn difference(alloc: Global, old: Option<&Element>, new: &Element) -> Result
 
 /// The changes from the element, deleted, to itself.
 fn creation(alloc: Global, new: &Element) -> Result<Vec<Change>, AllocError>
-    ensures { IfOk result (λ changes. AreChanges (record new.now { deleted = true }) new.now changes.items) }
+    ensures { IfOk result (λ changes. AreAllChanges (record new.now { deleted = true }) new.now changes.items) }
 {
     let mut old = new.try_clone()?;
     old.deleted = true;
@@ -52,7 +52,7 @@ fn creation(alloc: Global, new: &Element) -> Result<Vec<Change>, AllocError>
 /// The changes from an element to another one of its kind.
 fn changes_between(alloc: Global, old: &Element, new: &Element) -> Result<Vec<Change>, AllocError>
     requires { old.now.kind ≡ new.now.kind }
-    ensures { IfOk result (λ changes. AreChanges old.now new.now changes.items) }
+    ensures { IfOk result (λ changes. AreAllChanges old.now new.now changes.items) }
 {
     let mut changes = Vec::new(alloc);
     note_groups(&mut changes, old, new)?;
@@ -65,8 +65,8 @@ fn changes_between(alloc: Global, old: &Element, new: &Element) -> Result<Vec<Ch
 
 /// Adds the change of the groups, if they differ.
 fn note_groups(changes: &mut Vec<Change>, old: &Element, new: &Element) -> Result<(), AllocError>
-    requires { Told old.now new.now [] changes.old.items }
-    ensures { OnOk result (Told old.now new.now (codes "groupIds" ∷ []) changes.new.items) }
+    requires { AreChangesOf old.now new.now [] changes.old.items }
+    ensures { OnOk result (AreChangesOf old.now new.now (codes "groupIds" ∷ []) changes.new.items) }
 {
     add(changes, groups_change(&old.groups, &new.groups)?)
 }
@@ -86,8 +86,8 @@ fn groups_change(before: &List<Text>, after: &List<Text>) -> Result<Option<Chang
 
 /// Adds the change of the listing, if it differs.
 fn note_bound(changes: &mut Vec<Change>, old: &Element, new: &Element) -> Result<(), AllocError>
-    requires { Told old.now new.now (codes "groupIds" ∷ []) changes.old.items }
-    ensures { OnOk result (Told old.now new.now (codes "groupIds" ∷ codes "boundElements" ∷ []) changes.new.items) }
+    requires { AreChangesOf old.now new.now (codes "groupIds" ∷ []) changes.old.items }
+    ensures { OnOk result (AreChangesOf old.now new.now (codes "groupIds" ∷ codes "boundElements" ∷ []) changes.new.items) }
 {
     add(changes, bound_change(&old.bound, &new.bound)?)
 }
@@ -116,8 +116,8 @@ fn note_headers(
     new: &Element,
 ) -> Result<(), AllocError>
     requires kind { old.now.kind ≡ new.now.kind }
-    requires told { Told old.now new.now (codes "groupIds" ∷ codes "boundElements" ∷ []) changes.old.items }
-    ensures { OnOk result (Told old.now new.now
+    requires told { AreChangesOf old.now new.now (codes "groupIds" ∷ codes "boundElements" ∷ []) changes.old.items }
+    ensures { OnOk result (AreChangesOf old.now new.now
         (codes "groupIds" ∷ codes "boundElements" ∷ codes "isDeleted" ∷ codes "index" ∷ codes "frameId"
         ∷ codes "containerId" ∷ codes "startBinding" ∷ codes "endBinding" ∷ codes "fileId" ∷ []) changes.new.items) }
 {
@@ -140,8 +140,8 @@ fn note_named(
 ) -> Result<(), AllocError>
     requires free { list_any (bytes_eq name.now) other_names ≡ false }
     requires kind { old.now.kind ≡ new.now.kind }
-    ensures { (names : Items (Items ℕ)) → Told old.now new.now names changes.old.items
-        → OnOk result (Told old.now new.now (names ++ name.now ∷ []) changes.new.items) }
+    ensures { (names : Items (Items ℕ)) → AreChangesOf old.now new.now names changes.old.items
+        → OnOk result (AreChangesOf old.now new.now (names ++ name.now ∷ []) changes.new.items) }
 {
     note(alloc, changes, old, new, &Text::from_str(alloc, name)?)
 }
@@ -156,8 +156,8 @@ fn note_rest(
 ) -> Result<(), AllocError>
     requires free { list_any (λ name. list_any (bytes_eq name) other_names) (names rest.now) ≡ false }
     requires kind { old.now.kind ≡ new.now.kind }
-    ensures { (known : Items (Items ℕ)) → Told old.now new.now known changes.old.items
-        → OnOk result (Told old.now new.now (known ++ names rest.now) changes.new.items) }
+    ensures { (known : Items (Items ℕ)) → AreChangesOf old.now new.now known changes.old.items
+        → OnOk result (AreChangesOf old.now new.now (known ++ names rest.now) changes.new.items) }
 {
     for member in rest.as_slice() {
         note(alloc, changes, old, new, &member.name)?;
@@ -175,8 +175,8 @@ fn note(
 ) -> Result<(), AllocError>
     requires free { list_any (bytes_eq name.now) other_names ≡ false }
     requires kind { old.now.kind ≡ new.now.kind }
-    ensures { (names : Items (Items ℕ)) → Told old.now new.now names changes.old.items
-        → OnOk result (Told old.now new.now (names ++ name.now ∷ []) changes.new.items) }
+    ensures { (names : Items (Items ℕ)) → AreChangesOf old.now new.now names changes.old.items
+        → OnOk result (AreChangesOf old.now new.now (names ++ name.now ∷ []) changes.new.items) }
 {
     let before = scalar_raw(alloc, old, name)?;
     let after = scalar_raw(alloc, new, name)?;

@@ -6,7 +6,7 @@ ghost use Rattle.frac_keys.specs.Keys.{is_key};
 ghost use Rattle.elem.specs.Texts.{text_or_null, truth_text};
 ghost use Rattle.delta.specs.Facts.{IsAccepted};
 ghost use Rattle.delta.specs.Headers as headers;
-ghost use Rattle.delta.specs.Headers.{header_text};
+ghost use Rattle.delta.specs.Headers.{scalar_text};
 ghost use Rattle.delta.specs.Kept.{IsHeaderSet, BelongsTo};
 
 use crate::binding::{binding_of, binding_raw, text_in};
@@ -64,7 +64,7 @@ fn is_named(name: &Text, characters: &str) -> bool
 
 /// The compact text of a header member, which has a form that is accepted.
 pub(crate) fn header_raw(alloc: Global, e: &Element, header: Header) -> Result<Raw, AllocError>
-    ensures text { IfOk result (λ raw. raw ≡ header_text e.now header) }
+    ensures text { IfOk result (λ raw. raw ≡ scalar_text e.now header) }
     ensures accepted { IfOk result (IsAccepted header) }
     ensures nests { IfOk result (IsCompact 119) }
 {

@@ -2,8 +2,8 @@
 
 ghost use Rattle.std.specs.Prelude.{◌≡◌, [], ◌∷◌, ◌++◌, not, ◌&&◌, filter, true, bytes_eq, IfOk, OnOk, if◌then◌else◌};
 ghost use Rattle.scene_json.proofs.Collapsed.{bytes_eq-true};
-ghost use Rattle.delta.specs.Joined.{are_same, is_in, stays, is_gained, first_occurrences, joined, entries_same, roles_same};
-ghost use Rattle.delta.specs.Entries.{entries_same-exact};
+ghost use Rattle.delta.specs.Joined.{are_same, is_in, stays, is_gained, first_occurrences, joined, same_listing_entry, same_role};
+ghost use Rattle.delta.specs.Entries.{same_listing_entry-exact};
 
 use board_io::List;
 use elem::{BoundRef, Role};
@@ -42,12 +42,12 @@ impl Item for Text {
 }
 
 impl Item for BoundRef {
-    ghost same = { entries_same };
+    ghost same = { same_listing_entry };
 
-    ghost exact = { entries_same-exact };
+    ghost exact = { same_listing_entry-exact };
 
     fn same(&self, other: &BoundRef) -> bool {
-        self.id == other.id && roles_same(self.role, other.role)
+        self.id == other.id && same_role(self.role, other.role)
     }
 
     fn try_clone(&self) -> Result<BoundRef, AllocError> {
@@ -56,8 +56,8 @@ impl Item for BoundRef {
 }
 
 /// Whether two roles are the same.
-fn roles_same(role: Role, other: Role) -> bool
-    ensures { result ≡ roles_same role other }
+fn same_role(role: Role, other: Role) -> bool
+    ensures { result ≡ same_role role other }
 {
     role == other
 }

@@ -1,13 +1,13 @@
 //! Laws on parts, for all of them. They do nothing when they run.
 
 ghost use Rattle.std.specs.Prelude.{◌≡◌, List, map};
-ghost use Rattle.elem.specs.Drawn.{Drawn};
+ghost use Rattle.elem.specs.ElementValue.{ElementValue};
 ghost use Rattle.elem.specs.Facts.{IsElement};
 ghost use Rattle.elem.specs.Order.{unstamped};
 ghost use Rattle.delta.specs.Applied.{IsApplied};
 ghost use Rattle.delta.specs.Delta.{Delta};
 ghost use Rattle.delta.specs.Pairs.{Pair, EntryStandsFor, HasSamePairs, exchanged};
-ghost use Rattle.delta.specs.Parts.{StandsFor, inverse, inverses};
+ghost use Rattle.delta.specs.Parts.{PartStandsFor, inverse, inverses};
 ghost use Rattle.delta.specs.Undone.{IsUndone};
 
 /// Inverting twice is nothing.
@@ -17,7 +17,7 @@ pub fn inverse_of_inverse()
 
 /// A part makes one element of another one, but for the stamp.
 pub fn applied_is_unique()
-    ensures { (part : Delta) (now result other : Drawn)
+    ensures { (part : Delta) (now result other : ElementValue)
         → IsElement result → IsElement other → part.kind ≡ now.kind
         → IsApplied part now result → IsApplied part now other → unstamped result ≡ unstamped other }
 {}
@@ -25,26 +25,26 @@ pub fn applied_is_unique()
 /// The difference of two elements makes the new one of the old one, but for the stamp, and its inverse makes the old one of
 /// the new one.
 pub fn difference_leads_on_and_back()
-    ensures on { (part : Delta) (old new result : Drawn)
+    ensures on { (part : Delta) (old new result : ElementValue)
         → IsElement old → IsElement new → IsElement result → old.id ≡ new.id → old.kind ≡ new.kind
-        → StandsFor part old new → IsApplied part old result → unstamped result ≡ unstamped new }
-    ensures back { (part : Delta) (old new result : Drawn)
+        → PartStandsFor part old new → IsApplied part old result → unstamped result ≡ unstamped new }
+    ensures back { (part : Delta) (old new result : ElementValue)
         → IsElement old → IsElement new → IsElement result → old.id ≡ new.id → old.kind ≡ new.kind
-        → StandsFor part old new → IsApplied (inverse part) new result → unstamped result ≡ unstamped old }
+        → PartStandsFor part old new → IsApplied (inverse part) new result → unstamped result ≡ unstamped old }
 {}
 
 /// The inverse of a part makes the undone element of any element: what others changed meanwhile stays, but for the members
 /// in which the part's elements differ.
 pub fn inverse_undoes()
-    ensures { (part : Delta) (before after now result : Drawn)
+    ensures { (part : Delta) (before after now result : ElementValue)
         → IsElement before → IsElement after → IsElement now → IsElement result
-        → StandsFor part before after → IsApplied (inverse part) now result → IsUndone before after now result }
+        → PartStandsFor part before after → IsApplied (inverse part) now result → IsUndone before after now result }
 {}
 
 /// Two elements have one part.
 pub fn part_is_unique()
-    ensures { (part other : Delta) (before after : Drawn)
-        → StandsFor part before after → StandsFor other before after → part ≡ other }
+    ensures { (part other : Delta) (before after : ElementValue)
+        → PartStandsFor part before after → PartStandsFor other before after → part ≡ other }
 {}
 
 /// Pairs have one entry.

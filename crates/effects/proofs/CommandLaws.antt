@@ -12,13 +12,13 @@ use Rattle.frac_keys.specs.Rising.{ends_rise, are_rising, is_key_or_none}
 use Rattle.frac_keys.proofs.BetweenLaws.{key_between-law}
 use Rattle.elem.specs.declared.parts.Binding.{Binding}
 use Rattle.elem.specs.declared.parts.BoundRef.{BoundRef}
-use Rattle.elem.specs.Drawn.{Drawn}
-use Rattle.elem.specs.Order.{unstamped}
-use Rattle.elem_store.specs.Updates.{is_of, element_of, ids_of}
+use Rattle.elem.specs.ElementValue.{ElementValue}
+use Rattle.elem.specs.Order.{unstamped, has_id}
+use Rattle.elem_store.specs.Updates.{element_of, ids_of}
 use Rattle.elem_store.proofs.Ids.{same_id}
 use Rattle.elem_store.proofs.Lists.{Contains-head, Contains-cons, find-Some, is_some-find, list_any-false}
 use Rattle.links.specs.Arrows.{names_target}
-use Rattle.links.specs.Entries.{same_entry, arrow_entry, lists}
+use Rattle.links.specs.Entries.{same_listing_entry, arrow_entry, lists}
 use Rattle.links.specs.Names.{is_id, is_arrow, target_of}
 use Rattle.view.specs.Shown.{index_of, is_live, HaveRisingKeys, HaveKeysOrNone}
 use Rattle.effects.specs.declared.command.Command.{Command}
@@ -32,10 +32,10 @@ use Rattle.effects.specs.Changed.{outcome, created_at}
 use Rattle.effects.specs.Deleting.{kept_name, kept_end, kept_entries, without_names, deleted_from, has_gone_names}
 use Rattle.effects.specs.Effects.{effect}
 use Rattle.effects.specs.Given.{stored_after}
-use Rattle.effects.specs.Linking.{end_at, with_end, with_end_of, listed, unlisted, with_entry, without_entry, old_target}
+use Rattle.effects.specs.Linking.{end_at, with_end, with_end_of, listed, unlisted, with_listing_entry, without_listing_entry, old_target}
 use Rattle.effects.specs.Naming.{is_among, is_some_that, apart_from}
-use Rattle.effects.specs.Placing.{Gap, others, first_key, last_key_or, gap_above, gap_at, gap_of, lies_within, key_within, key_at, key_in, settled}
-use Rattle.effects.specs.Refusals.{first_missing, is_live_id, is_kind_of, named_ids, own_spot, spot_ids, unless_right}
+use Rattle.effects.specs.Placing.{Gap, others, first_key, last_key_or, gap_above, gap_at, gap_of, lies_within, key_within, key_at, key_in, with_view_key}
+use Rattle.effects.specs.Refusals.{first_missing, is_live_id, is_kind_of, command_ids, own_spot, spot_ids, unless_right}
 use Rattle.effects.proofs.KeepingLaws.{Self, with_end_of-keeps}
 use Rattle.effects.proofs.OutcomeLaws.{some-or-none, or-none, none-missing, none-misfit, created-given, stored_after-given, stored_after-kept, not-created, after-live, after-dead}
 use Rattle.effects.proofs.PlacingLaws.{Rises, Rises-shown, Rises-lower, ends_rise-none}
@@ -45,30 +45,30 @@ unmapped : {X Y : Type 0} (f : X → Y) (o : Option X) → option_map f o ≡ No
 unmapped f None h = refl
 unmapped f (Some x) h = absurd (none-some (f x) (sym h))
 
-live-found : (stored : List Drawn) (id : List ℕ) → is_live_id stored id ≡ true → (old : Drawn) × (element_of stored id ≡ Some old) × (is_live old ≡ true)
+live-found : (stored : List ElementValue) (id : List ℕ) → is_live_id stored id ≡ true → (old : ElementValue) × (element_of stored id ≡ Some old) × (is_live old ≡ true)
 live-found stored id h = elim (some-or-none (element_of stored id)) [
-  | inl none ↦ absurd (false≢true (sym (ap (λ (o : Option Drawn). option_map_or is_live o false) none) ∙ h))
-  | inr some ↦ (some.0, some.1, sym (ap (λ (o : Option Drawn). option_map_or is_live o false) some.1) ∙ h)
+  | inl none ↦ absurd (false≢true (sym (ap (λ (o : Option ElementValue). option_map_or is_live o false) none) ∙ h))
+  | inr some ↦ (some.0, some.1, sym (ap (λ (o : Option ElementValue). option_map_or is_live o false) some.1) ∙ h)
 ]
 
 pub at-some : {X : Type 0} (P : X → Type 0) (o : Option X) (x : X) → o ≡ Some x → P x → IsSomeAnd o P
 at-some P o x is p = subst (λ o. IsSomeAnd o P) (sym is) p
 
-module _ (stored shown : List Drawn) (command : Command) (time nonce : ℕ) (given : List Drawn) (told : outcome stored shown command time nonce ≡ Ok given) where
-  pub named-live : (id : List ℕ) → Contains (named_ids command) id → (old : Drawn) × (element_of stored id ≡ Some old) × (is_live old ≡ true)
+module _ (stored shown : List ElementValue) (command : Command) (time nonce : ℕ) (given : List ElementValue) (told : outcome stored shown command time nonce ≡ Ok given) where
+  pub named-live : (id : List ℕ) → Contains (command_ids command) id → (old : ElementValue) × (element_of stored id ≡ Some old) × (is_live old ≡ true)
   named-live id c =
       let missing' = (λ (id : List ℕ). not (is_live_id stored id)) in
-      let none = unmapped NoElement (find missing' (named_ids command))
-      (or-none (first_missing stored (named_ids command)) (own_spot command) (none-missing stored shown command time nonce given told)).0 in
+      let none = unmapped NoElement (find missing' (command_ids command))
+      (or-none (first_missing stored (command_ids command)) (own_spot command) (none-missing stored shown command time nonce given told)).0 in
       live-found stored id
       (not-false (is_live_id stored id)
-      (list_any-false missing' (named_ids command) id (sym (is_some-find missing' (named_ids command)) ∙ ap is_some none) c))
+      (list_any-false missing' (command_ids command) id (sym (is_some-find missing' (command_ids command)) ∙ ap is_some none) c))
 
   module _ (ordered : are_rising (ids_of stored) ≡ true) where
     -- of what is stored then of a named id this holds, if it holds of all that the command makes of the live element, but
     -- for the stamp
-    pub named-after : (P : Drawn → Type 0) (id : List ℕ) → Contains (named_ids command) id
-        → ((old : Drawn) → element_of stored id ≡ Some old → is_live old ≡ true → (e : Drawn) → unstamped e ≡ unstamped (effect stored shown command old) → P e)
+    pub named-after : (P : ElementValue → Type 0) (id : List ℕ) → Contains (command_ids command) id
+        → ((old : ElementValue) → element_of stored id ≡ Some old → is_live old ≡ true → (e : ElementValue) → unstamped e ≡ unstamped (effect stored shown command old) → P e)
         → IsSomeAnd (stored_after stored given id) P
     named-after P id c holds =
         let old = named-live id c in
@@ -76,19 +76,19 @@ module _ (stored shown : List Drawn) (command : Command) (time nonce : ℕ) (giv
         at-some P (stored_after stored given id) new.0 new.1 (holds old.0 old.1 old.2 new.0 new.2)
 
 -- ---- bound arrows
-end-unstamped : (side : Side) (e : Drawn) → end_at side (unstamped e) ≡ end_at side e
+end-unstamped : (side : Side) (e : ElementValue) → end_at side (unstamped e) ≡ end_at side e
 end-unstamped Start e = refl
 end-unstamped End e = refl
 
-end-bound : (side : Side) (e : Drawn) (bound : List BoundRef) → end_at side (record e { bound = bound }) ≡ end_at side e
+end-bound : (side : Side) (e : ElementValue) (bound : List BoundRef) → end_at side (record e { bound = bound }) ≡ end_at side e
 end-bound Start e bound = refl
 end-bound End e bound = refl
 
-end-given : (side : Side) (binding : Option Binding) (e : Drawn) → end_at side (with_end side binding e) ≡ binding
+end-given : (side : Side) (binding : Option Binding) (e : ElementValue) → end_at side (with_end side binding e) ≡ binding
 end-given Start binding e = refl
 end-given End binding e = refl
 
-end-either : (side : Side) (b : Bool) (e : Drawn) (bound : List BoundRef) → end_at side (if b then record e { bound = bound } else e) ≡ end_at side e
+end-either : (side : Side) (b : Bool) (e : ElementValue) (bound : List BoundRef) → end_at side (if b then record e { bound = bound } else e) ≡ end_at side e
 end-either side true e bound = end-bound side e bound
 end-either side false e bound = refl
 
@@ -96,8 +96,8 @@ right-kind : (b : Bool) (id : List ℕ) → unless_right b id ≡ None → b ≡
 right-kind true id h = refl
 right-kind false id h = absurd (none-some (WrongKind id) (sym h))
 
-kind-at : (stored : List Drawn) (id : List ℕ) (old : Drawn) → element_of stored id ≡ Some old → is_kind_of stored is_arrow id ≡ true → is_arrow old.kind ≡ true
-kind-at stored id old found h = sym (ap (λ (o : Option Drawn). option_map_or (λ (e : Drawn). is_arrow e.kind) o false) found) ∙ h
+kind-at : (stored : List ElementValue) (id : List ℕ) (old : ElementValue) → element_of stored id ≡ Some old → is_kind_of stored is_arrow id ≡ true → is_arrow old.kind ≡ true
+kind-at stored id old found h = sym (ap (λ (o : Option ElementValue). option_map_or (λ (e : ElementValue). is_arrow e.kind) o false) found) ∙ h
 
 -- ---- names of what is gone
 kept-name : (gone : List ℕ → Bool) (name : Option (List ℕ)) → is_some_that gone (kept_name gone name) ≡ false
@@ -119,7 +119,7 @@ kept-entries gone (entry ∷ entries) = elim (cases_Bool (gone entry.id)) [
   | inr f ↦ rw (f, f) (kept-entries gone entries)
 ]
 
-unnamed : (gone : List ℕ → Bool) (e : Drawn) → has_gone_names gone (without_names gone e) ≡ false
+unnamed : (gone : List ℕ → Bool) (e : ElementValue) → has_gone_names gone (without_names gone e) ≡ false
 unnamed gone e =
     let entries = list_any (λ (entry : BoundRef). gone entry.id) (kept_entries gone e.bound) in
     let start = is_some_that gone (target_of (kept_end gone e.start_binding)) in
@@ -131,12 +131,12 @@ unnamed gone e =
     (or_from end' entries (kept-end gone e.end_binding) (kept-entries gone e.bound))))
 
 -- what lists the entry
-lists-added : (entry : BoundRef) (entries : List BoundRef) → same_entry entry entry ≡ true → lists (with_entry entry entries) entry ≡ true
+lists-added : (entry : BoundRef) (entries : List BoundRef) → same_listing_entry entry entry ≡ true → lists (with_listing_entry entry entries) entry ≡ true
 lists-added entry entries own = elim (cases_Bool (lists entries entry)) [
   | inl t ↦ ap (λ es. lists es entry) (cond-true (lists entries entry) entries (entries ++ entry ∷ []) t) ∙ t
   | inr f ↦ ap (λ es. lists es entry) (cond-false (lists entries entry) entries (entries ++ entry ∷ []) f)
-      ∙ list_any-append (same_entry entry) entries (entry ∷ [])
-      ∙ or_right (lists entries entry) (lists (entry ∷ []) entry) (or_left (same_entry entry entry) false own)
+      ∙ list_any-append (same_listing_entry entry) entries (entry ∷ [])
+      ∙ or_right (lists entries entry) (lists (entry ∷ []) entry) (or_left (same_listing_entry entry entry) false own)
 ]
 
 apart : (target : List ℕ) (old : Option (List ℕ)) (id : List ℕ) → id ≡ target → is_id id (apart_from (Some target) old) ≡ false
@@ -146,16 +146,16 @@ apart target (Some other) id is = elim (cases_Bool (bytes_eq other target)) [
   | inr differ ↦ rw differ (bytes_eq-apart id other (λ same. both_ways (bytes_eq other target) differ (subst (λ i. bytes_eq i target ≡ true) (sym is ∙ same) (bytes_eq-same target))))
 ]
 
-lists-bound : (target : List ℕ) (entry : BoundRef) (old : Option (List ℕ)) (e : Drawn) → e.id ≡ target → same_entry entry entry ≡ true
+lists-bound : (target : List ℕ) (entry : BoundRef) (old : Option (List ℕ)) (e : ElementValue) → e.id ≡ target → same_listing_entry entry entry ≡ true
     → lists (unlisted (apart_from (Some target) old) entry (listed (Some target) entry e)).bound entry ≡ true
 lists-bound target entry old e is own =
-    let more = record e { bound = with_entry entry e.bound } in
+    let more = record e { bound = with_listing_entry entry e.bound } in
     let one : listed (Some target) entry e ≡ more = cond-true (bytes_eq e.id target) more e (subst (λ i. bytes_eq e.id i ≡ true) is (bytes_eq-same e.id)) in
     let two : unlisted (apart_from (Some target) old) entry more ≡ more =
-    cond-false (is_id e.id (apart_from (Some target) old)) (record more { bound = without_entry entry more.bound }) more (apart target old e.id is) in
-    ap (λ (d : Drawn). lists d.bound entry) (ap (unlisted (apart_from (Some target) old) entry) one ∙ two) ∙ lists-added entry e.bound own
+    cond-false (is_id e.id (apart_from (Some target) old)) (record more { bound = without_listing_entry entry more.bound }) more (apart target old e.id is) in
+    ap (λ (d : ElementValue). lists d.bound entry) (ap (unlisted (apart_from (Some target) old) entry) one ∙ two) ∙ lists-added entry e.bound own
 
-module _ (stored shown : List Drawn) (time nonce : ℕ) (given : List Drawn) (ordered : are_rising (ids_of stored) ≡ true) where
+module _ (stored shown : List ElementValue) (time nonce : ℕ) (given : List ElementValue) (ordered : are_rising (ids_of stored) ≡ true) where
   module _ (arrow : List ℕ) (side : Side) (target : List ℕ) (rest : List Member) (told : outcome stored shown (commands.Bind arrow side target rest) time nonce ≡ Ok given) where
     abbrev binding : Option Binding
     binding = Some (record { target = target; rest = rest })
@@ -164,26 +164,26 @@ module _ (stored shown : List Drawn) (time nonce : ℕ) (given : List Drawn) (or
     bind = commands.Bind arrow side target rest
 
     -- the arrow's end names the target
-    pub bound-end : IsSomeAnd (stored_after stored given arrow) (λ (e : Drawn). end_at side e ≡ binding)
-    bound-end = named-after stored shown bind time nonce given told ordered (λ (e : Drawn). end_at side e ≡ binding) arrow (Contains-head arrow (target ∷ []))
+    pub bound-end : IsSomeAnd (stored_after stored given arrow) (λ (e : ElementValue). end_at side e ≡ binding)
+    bound-end = named-after stored shown bind time nonce given told ordered (λ (e : ElementValue). end_at side e ≡ binding) arrow (Contains-head arrow (target ∷ []))
         (λ old found live e same.
-        let own = same_id arrow old (find-Some (is_of arrow) stored old found).1 in
+        let own = same_id arrow old (find-Some (has_id arrow) stored old found).1 in
         let kind = kind-at stored arrow old found (right-kind (is_kind_of stored is_arrow arrow) arrow (or-none (unless_right (is_kind_of stored is_arrow arrow) arrow) (unless_right (names_target shown (Some target)) target) (none-misfit stored shown bind time nonce given told)).0) in
         let ended = with_end_of arrow side binding old in
         let listing = listed (target_of binding) (arrow_entry arrow) ended in
         sym (end-unstamped side e) ∙ ap (end_at side) same ∙ end-unstamped side (effect stored shown bind old)
-        ∙ end-either side (is_id listing.id (apart_from (target_of binding) (old_target stored arrow side))) listing (without_entry (arrow_entry arrow) listing.bound)
-        ∙ end-either side (is_id ended.id (target_of binding)) ended (with_entry (arrow_entry arrow) ended.bound)
+        ∙ end-either side (is_id listing.id (apart_from (target_of binding) (old_target stored arrow side))) listing (without_listing_entry (arrow_entry arrow) listing.bound)
+        ∙ end-either side (is_id ended.id (target_of binding)) ended (with_listing_entry (arrow_entry arrow) ended.bound)
         ∙ ap (end_at side) (cond-true (bytes_eq arrow old.id && is_arrow old.kind) (with_end side binding old) old (and_from (bytes_eq arrow old.id) (is_arrow old.kind) (subst (λ i. bytes_eq arrow i ≡ true) own (bytes_eq-same arrow)) kind))
         ∙ end-given side binding old)
 
     -- and the target lists the arrow
-    pub bound-listed : IsSomeAnd (stored_after stored given target) (λ (e : Drawn). lists e.bound (arrow_entry arrow) ≡ true)
-    bound-listed = named-after stored shown bind time nonce given told ordered (λ (e : Drawn). lists e.bound (arrow_entry arrow) ≡ true) target (Contains-cons arrow (target ∷ []) target (Contains-head target []))
+    pub bound-listed : IsSomeAnd (stored_after stored given target) (λ (e : ElementValue). lists e.bound (arrow_entry arrow) ≡ true)
+    bound-listed = named-after stored shown bind time nonce given told ordered (λ (e : ElementValue). lists e.bound (arrow_entry arrow) ≡ true) target (Contains-cons arrow (target ∷ []) target (Contains-head target []))
         (λ old found live e same.
-        let own = same_id target old (find-Some (is_of target) stored old found).1 in
+        let own = same_id target old (find-Some (has_id target) stored old found).1 in
         let ended = with_end_of arrow side binding old in
-        ap (λ (d : Drawn). lists d.bound (arrow_entry arrow)) same
+        ap (λ (d : ElementValue). lists d.bound (arrow_entry arrow)) same
         ∙ lists-bound target (arrow_entry arrow) (old_target stored arrow side) ended
         (ap (λ (s : Self). s.id) (with_end_of-keeps arrow side binding old) ∙ sym own) (bytes_eq-same arrow))
 
@@ -192,9 +192,9 @@ module _ (stored shown : List Drawn) (time nonce : ℕ) (given : List Drawn) (or
     abbrev gone : List ℕ → Bool
     gone = is_among ids
 
-    delete-made : (id : List ℕ) (old : Drawn) → Contains ids id → element_of stored id ≡ Some old → deleted_from gone old ≡ record old { deleted = true }
+    delete-made : (id : List ℕ) (old : ElementValue) → Contains ids id → element_of stored id ≡ Some old → deleted_from gone old ≡ record old { deleted = true }
     delete-made id old c found =
-        let own = same_id id old (find-Some (is_of id) stored old found).1 in
+        let own = same_id id old (find-Some (has_id id) stored old found).1 in
         cond-true (gone old.id) (record old { deleted = true }) (without_names gone old) (subst (λ i. gone i ≡ true) own (among ids id c))
       where
         among : (ids : List (List ℕ)) (id : List ℕ) → Contains ids id → is_among ids id ≡ true
@@ -204,22 +204,22 @@ module _ (stored shown : List Drawn) (time nonce : ℕ) (given : List Drawn) (or
         ]
 
     -- each named element is given as a deleted one
-    pub deleted-given : (id : List ℕ) → Contains ids id → IsSomeAnd (element_of given id) (λ (e : Drawn). e.deleted ≡ true)
+    pub deleted-given : (id : List ℕ) → Contains ids id → IsSomeAnd (element_of given id) (λ (e : ElementValue). e.deleted ≡ true)
     deleted-given id c =
         let old = named-live stored shown (commands.Delete ids) time nonce given told id c in
         let new = after-live stored shown (commands.Delete ids) time nonce given told ordered id old.0 old.1 old.2 in
-        let dead : new.0.deleted ≡ true = ap (λ (d : Drawn). d.deleted) (new.2 ∙ ap unstamped (delete-made id old.0 c old.1)) in
+        let dead : new.0.deleted ≡ true = ap (λ (d : ElementValue). d.deleted) (new.2 ∙ ap unstamped (delete-made id old.0 c old.1)) in
         elim (some-or-none (element_of given id)) [
           | inl none ↦ absurd
               (let same = same_Some new.0 old.0 (sym new.1 ∙ stored_after-kept stored given id none ∙ old.1) in
               false≢true (sym (ap not dead) ∙ ap is_live same ∙ old.2))
           | inr some ↦
               let same = same_Some some.0 new.0 (sym (stored_after-given stored given id some.0 some.1) ∙ new.1) in
-              at-some (λ (e : Drawn). e.deleted ≡ true) (element_of given id) some.0 some.1 (ap (λ (d : Drawn). d.deleted) same ∙ dead)
+              at-some (λ (e : ElementValue). e.deleted ≡ true) (element_of given id) some.0 some.1 (ap (λ (d : ElementValue). d.deleted) same ∙ dead)
         ]
 
     -- and no live element that is stored then names one of them
-    pub deleted-unnamed : (id : List ℕ) (e : Drawn) → stored_after stored given id ≡ Some e → is_live e ≡ true → has_gone_names gone e ≡ false
+    pub deleted-unnamed : (id : List ℕ) (e : ElementValue) → stored_after stored given id ≡ Some e → is_live e ≡ true → has_gone_names gone e ≡ false
     deleted-unnamed id e is live = elim (some-or-none (element_of stored id)) [
       | inl none ↦ absurd (none-some e
           (sym none ∙ sym (stored_after-kept stored given id (not-created stored shown (commands.Delete ids) time nonce given told ordered id none refl)) ∙ is))
@@ -245,7 +245,7 @@ pub record IsOpen (gap : Gap) : Type 0 where
   pub high : is_key_or_none gap.high ≡ true
   pub rises : ends_rise gap.low gap.high ≡ true
 
-others-keys : (id : List ℕ) (es : List Drawn) → HaveKeysOrNone es → HaveKeysOrNone (others id es)
+others-keys : (id : List ℕ) (es : List ElementValue) → HaveKeysOrNone es → HaveKeysOrNone (others id es)
 others-keys id [] h = h
 others-keys id (e ∷ es) h =
     let parts = and_parts (is_key_or_none e.index) (list_all is_key_or_none (map index_of es)) h in
@@ -254,28 +254,28 @@ others-keys id (e ∷ es) h =
       | inr other ↦ rw other (and_from (is_key_or_none e.index) (list_all is_key_or_none (map index_of (others id es))) parts.0 (others-keys id es parts.1))
     ]
 
-others-rise : (id : List ℕ) (low : Option (List ℕ)) (es : List Drawn) → Rises low es → Rises low (others id es)
+others-rise : (id : List ℕ) (low : Option (List ℕ)) (es : List ElementValue) → Rises low es → Rises low (others id es)
 others-rise id low [] h = tt
 others-rise id low (e ∷ es) h = elim (cases_Bool (bytes_eq id e.id)) [
   | inl same ↦ rw same (Rises-lower low h.0 (others id es) h.2 (others-rise id (Some h.0) es h.3))
   | inr other ↦ rw other (h.0, h.1, h.2, others-rise id (Some h.0) es h.3)
 ]
 
-first-key : (es : List Drawn) → HaveKeysOrNone es → is_key_or_none (first_key es) ≡ true
+first-key : (es : List ElementValue) → HaveKeysOrNone es → is_key_or_none (first_key es) ≡ true
 first-key [] h = refl
 first-key (e ∷ es) h = (and_parts (is_key_or_none e.index) (list_all is_key_or_none (map index_of es)) h).0
 
-last-key : (key : Option (List ℕ)) (es : List Drawn) → is_key_or_none key ≡ true → HaveKeysOrNone es → is_key_or_none (last_key_or key es) ≡ true
+last-key : (key : Option (List ℕ)) (es : List ElementValue) → is_key_or_none key ≡ true → HaveKeysOrNone es → is_key_or_none (last_key_or key es) ≡ true
 last-key key [] k h = k
 last-key key (e ∷ es) k h =
     let parts = and_parts (is_key_or_none e.index) (list_all is_key_or_none (map index_of es)) h in
     last-key e.index es parts.0 parts.1
 
-first-rises : (low : Option (List ℕ)) (es : List Drawn) → Rises low es → ends_rise low (first_key es) ≡ true
+first-rises : (low : Option (List ℕ)) (es : List ElementValue) → Rises low es → ends_rise low (first_key es) ≡ true
 first-rises low [] h = ends_rise-none low
 first-rises low (e ∷ es) h = ap (ends_rise low) h.1 ∙ h.2
 
-above-open : (below : List ℕ) (low : Option (List ℕ)) (es : List Drawn) → Rises low es → HaveKeysOrNone es → IsOpen (gap_above below es)
+above-open : (below : List ℕ) (low : Option (List ℕ)) (es : List ElementValue) → Rises low es → HaveKeysOrNone es → IsOpen (gap_above below es)
 above-open below low [] r h = record { low = refl; high = refl; rises = refl }
 above-open below low (e ∷ es) r h =
     let parts = and_parts (is_key_or_none e.index) (list_all is_key_or_none (map index_of es)) h in
@@ -288,7 +288,7 @@ above-open below low (e ∷ es) r h =
       | inr later ↦ rw later (above-open below (Some r.0) es r.3 parts.1)
     ]
 
-gap-open : (spot : Spot) (es : List Drawn) → Rises None es → HaveKeysOrNone es → IsOpen (gap_at spot es)
+gap-open : (spot : Spot) (es : List ElementValue) → Rises None es → HaveKeysOrNone es → IsOpen (gap_at spot es)
 gap-open Bottom es r h = record { low = refl; high = first-key es h; rises = refl }
 gap-open Top es r h = record { low = last-key None es refl h; high = refl; rises = ends_rise-none (last_key_or None es) }
 gap-open (After id) es r h = above-open id None es r h
@@ -303,27 +303,27 @@ within-open gap old is = elim (cases_Bool (lies_within gap old)) [
 ]
 
 -- a key at a spot lies strictly between the keys beside it
-pub key-within : (shown : List Drawn) (spot : Spot) (id : List ℕ) (old : Option (List ℕ)) → HaveRisingKeys shown → HaveKeysOrNone shown → lies_within (gap_of shown spot id) (key_at shown spot id old) ≡ true
+pub key-within : (shown : List ElementValue) (spot : Spot) (id : List ℕ) (old : Option (List ℕ)) → HaveRisingKeys shown → HaveKeysOrNone shown → lies_within (gap_of shown spot id) (key_at shown spot id old) ≡ true
 key-within shown spot id old rising keys =
     within-open (gap_of shown spot id) old (gap-open spot (others id shown) (others-rise id None shown (Rises-shown shown rising)) (others-keys id shown keys))
 
-module _ (stored shown : List Drawn) (time nonce : ℕ) (given : List Drawn) (ordered : are_rising (ids_of stored) ≡ true) (rising : HaveRisingKeys shown) (keys : HaveKeysOrNone shown) where
+module _ (stored shown : List ElementValue) (time nonce : ℕ) (given : List ElementValue) (ordered : are_rising (ids_of stored) ≡ true) (rising : HaveRisingKeys shown) (keys : HaveKeysOrNone shown) where
   -- so a new element has a key there
-  pub created-within : (element : Drawn) (spot : Spot) → outcome stored shown (commands.Create element spot) time nonce ≡ Ok given
-      → IsSomeAnd (element_of given element.id) (λ (e : Drawn). lies_within (gap_of shown spot element.id) e.index ≡ true)
+  pub created-within : (element : ElementValue) (spot : Spot) → outcome stored shown (commands.Create element spot) time nonce ≡ Ok given
+      → IsSomeAnd (element_of given element.id) (λ (e : ElementValue). lies_within (gap_of shown spot element.id) e.index ≡ true)
   created-within element spot told =
-      at-some (λ (e : Drawn). lies_within (gap_of shown spot element.id) e.index ≡ true) (element_of given element.id) (created_at shown element spot time nonce)
+      at-some (λ (e : ElementValue). lies_within (gap_of shown spot element.id) e.index ≡ true) (element_of given element.id) (created_at shown element spot time nonce)
       (created-given stored shown (commands.Create element spot) time nonce given told ordered (created_at shown element spot time nonce) refl)
       (key-within shown spot element.id None rising keys)
 
   -- and one that is placed
   pub placed-within : (id : List ℕ) (spot : Spot) → outcome stored shown (commands.Place id spot) time nonce ≡ Ok given
-      → IsSomeAnd (stored_after stored given id) (λ (e : Drawn). lies_within (gap_of shown spot id) e.index ≡ true)
+      → IsSomeAnd (stored_after stored given id) (λ (e : ElementValue). lies_within (gap_of shown spot id) e.index ≡ true)
   placed-within id spot told =
-      named-after stored shown (commands.Place id spot) time nonce given told ordered (λ (e : Drawn). lies_within (gap_of shown spot id) e.index ≡ true) id (Contains-head id (spot_ids spot))
+      named-after stored shown (commands.Place id spot) time nonce given told ordered (λ (e : ElementValue). lies_within (gap_of shown spot id) e.index ≡ true) id (Contains-head id (spot_ids spot))
       (λ old found live e same.
-      let own = same_id id old (find-Some (is_of id) stored old found).1 in
+      let own = same_id id old (find-Some (has_id id) stored old found).1 in
       let key = key_at shown spot id (key_in shown id) in
-      ap (λ (d : Drawn). lies_within (gap_of shown spot id) d.index) same
-      ∙ ap (λ (d : Drawn). lies_within (gap_of shown spot id) d.index) (cond-true (bytes_eq id old.id) (record (settled shown old) { index = key }) (settled shown old) (subst (λ i. bytes_eq id i ≡ true) own (bytes_eq-same id)))
+      ap (λ (d : ElementValue). lies_within (gap_of shown spot id) d.index) same
+      ∙ ap (λ (d : ElementValue). lies_within (gap_of shown spot id) d.index) (cond-true (bytes_eq id old.id) (record (with_view_key shown old) { index = key }) (with_view_key shown old) (subst (λ i. bytes_eq id i ≡ true) own (bytes_eq-same id)))
       ∙ key-within shown spot id (key_in shown id) rising keys)

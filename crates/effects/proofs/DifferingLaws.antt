@@ -8,9 +8,9 @@ use Rattle.elem.specs.declared.kind.Role.{Role}
 use Rattle.elem.specs.declared.kind.Role.TheVariants.{Arrow, Text}
 use Rattle.elem.specs.declared.parts.BoundRef.{BoundRef}
 use Rattle.elem.specs.declared.parts.Binding.{Binding}
-use Rattle.elem.specs.Drawn.{Drawn}
+use Rattle.elem.specs.ElementValue.{ElementValue}
 use Rattle.elem.specs.Order.{unstamped}
-use Rattle.links.specs.Entries.{same_entry, same_role}
+use Rattle.links.specs.Entries.{same_listing_entry, same_role}
 use Rattle.effects.specs.Differing.{differs, same_truth, same_member, same_binding}
 
 -- the test tells whether two are the same
@@ -63,10 +63,10 @@ role x y = (same x y, λ e. subst (λ z. same_role x z ≡ true) e (own x))
     same Text Arrow h = absurd (false≢true h)
     same Text Text h = refl
 
-entry : Decided same_entry
-entry x y = (same, λ e. subst (λ (z : BoundRef). same_entry x z ≡ true) e (joined _ _ ((role x.role x.role).1 refl) ((bytes_decides x.id x.id).1 refl)))
+entry : Decided same_listing_entry
+entry x y = (same, λ e. subst (λ (z : BoundRef). same_listing_entry x z ≡ true) e (joined _ _ ((role x.role x.role).1 refl) ((bytes_decides x.id x.id).1 refl)))
   where
-    same : same_entry x y ≡ true → x ≡ y
+    same : same_listing_entry x y ≡ true → x ≡ y
     same h =
         let parts = both (same_role x.role y.role) (bytes_eq x.id y.id) h in
         let r = (role x.role y.role).0 parts.0 in
@@ -98,13 +98,13 @@ not-true true h = refl
 not-true false h = absurd (false≢true (sym h))
 
 -- where nothing differs the two are the same but for the stamp
-pub same-where-not : (a b : Drawn) → a.id ≡ b.id → a.kind ≡ b.kind → a.file ≡ b.file → differs a b ≡ false → unstamped a ≡ unstamped b
+pub same-where-not : (a b : ElementValue) → a.id ≡ b.id → a.kind ≡ b.kind → a.file ≡ b.file → differs a b ≡ false → unstamped a ≡ unstamped b
 same-where-not a b id kind file h =
     let deleted = both (same_truth a.deleted b.deleted) _ (not-true _ h) in
     let index = both (option_eq bytes_eq a.index b.index) _ deleted.1 in
     let groups = both (pointwise bytes_eq a.groups b.groups) _ index.1 in
     let frame = both (option_eq bytes_eq a.frame b.frame) _ groups.1 in
-    let bound = both (pointwise same_entry a.bound b.bound) _ frame.1 in
+    let bound = both (pointwise same_listing_entry a.bound b.bound) _ frame.1 in
     let container = both (option_eq bytes_eq a.container b.container) _ bound.1 in
     let start = both (option_eq same_binding a.start_binding b.start_binding) _ container.1 in
     let end' = both (option_eq same_binding a.end_binding b.end_binding) (pointwise same_member a.rest b.rest) start.1 in
@@ -135,7 +135,7 @@ same-where-not a b id kind file h =
       rest = r i;
     }
 
-differs-itself : (a : Drawn) → differs a a ≡ false
+differs-itself : (a : ElementValue) → differs a a ≡ false
 differs-itself a =
     rw (
       (truth a.deleted a.deleted).1 refl,
@@ -150,5 +150,5 @@ differs-itself a =
     ) refl
 
 -- where the two are the same but for the stamp nothing differs
-pub differs-not : (a b : Drawn) → unstamped a ≡ unstamped b → differs a b ≡ false
+pub differs-not : (a b : ElementValue) → unstamped a ≡ unstamped b → differs a b ≡ false
 differs-not a b same = sym (ap (differs (unstamped a)) same) ∙ differs-itself a

@@ -6,10 +6,10 @@ use Rattle.std.proofs.lemmas.Bool.{cases_Bool, false≢true, both_ways, and_part
 use Rattle.std.proofs.lemmas.Option.{none-some, same_Some, cond_some}
 use Rattle.frac_keys.specs.Keys.{bytes_less}
 use Rattle.frac_keys.specs.Rising.{ends_rise, rise_between, are_rising}
-use Rattle.elem.specs.Drawn.{Drawn}
-use Rattle.elem.specs.Order.{beats, unstamped}
+use Rattle.elem.specs.ElementValue.{ElementValue}
+use Rattle.elem.specs.Order.{beats, unstamped, has_id}
 use Rattle.elem.proofs.Sorting.{bytes_less-turned}
-use Rattle.elem_store.specs.Updates.{is_of, element_of, ids_of, is_newer, is_taken}
+use Rattle.elem_store.specs.Updates.{element_of, ids_of, is_newer, is_taken}
 use Rattle.elem_store.proofs.Ids.{same_id}
 use Rattle.elem_store.proofs.Lists.{Contains-head, Contains-cons, Contains-cases, find-Some, find-None, is_some-find, list_any-false}
 use Rattle.elem_store.proofs.Rising.{member}
@@ -22,7 +22,7 @@ use Rattle.effects.specs.declared.command.Refusal.TheVariants.{Exists}
 use Rattle.effects.specs.Changed.{stamped, is_changed, is_full, change_of, changes_of, created, created_at, with_created, outcome, outcome_from, outcome_unless, refusal_at}
 use Rattle.effects.specs.Differing.{differs}
 use Rattle.effects.specs.Effects.{effect}
-use Rattle.effects.specs.Given.{stored_after, IsChange, IsNew}
+use Rattle.effects.specs.Given.{stored_after, ChangesStored, IsNew}
 use Rattle.effects.specs.Refusals.{refusal_of, refusal_if, existing, missing, misfit, guarded}
 use Rattle.effects.proofs.DifferingLaws.{same-where-not, differs-not}
 use Rattle.effects.proofs.KeepingLaws.{Self, effect-keeps}
@@ -39,21 +39,21 @@ or-none (Some x) p h = absurd (none-some x (sym h))
 
 -- ---- the elements of an id
 -- an id without an element is the id of none
-pub absent : (id : List ℕ) (elements : List Drawn) (e : Drawn) → element_of elements id ≡ None → Contains elements e → is_of id e ≡ false
-absent id elements e none c = list_any-false (is_of id) elements e (sym (is_some-find (is_of id) elements) ∙ ap is_some none) c
+pub absent : (id : List ℕ) (elements : List ElementValue) (e : ElementValue) → element_of elements id ≡ None → Contains elements e → has_id id e ≡ false
+absent id elements e none c = list_any-false (has_id id) elements e (sym (is_some-find (has_id id) elements) ∙ ap is_some none) c
 
 -- a given element, and else the stored one
-pub stored_after-given : (stored given : List Drawn) (id : List ℕ) (e : Drawn) → element_of given id ≡ Some e → stored_after stored given id ≡ Some e
+pub stored_after-given : (stored given : List ElementValue) (id : List ℕ) (e : ElementValue) → element_of given id ≡ Some e → stored_after stored given id ≡ Some e
 stored_after-given stored given id e is = ap (λ o. option_or o (element_of stored id)) is
 
-pub stored_after-kept : (stored given : List Drawn) (id : List ℕ) → element_of given id ≡ None → stored_after stored given id ≡ element_of stored id
+pub stored_after-kept : (stored given : List ElementValue) (id : List ℕ) → element_of given id ≡ None → stored_after stored given id ≡ element_of stored id
 stored_after-kept stored given id none = ap (λ o. option_or o (element_of stored id)) none
 
 -- ---- one more at the place of its id
-abbrev put : Drawn → List Drawn → List Drawn
+abbrev put : ElementValue → List ElementValue → List ElementValue
 put e elements = with_created (Some e) elements
 
-put-cases : (x : Drawn) (es : List Drawn) (e : Drawn) → Contains (put x es) e → (x ≡ e) ⊎ Contains es e
+put-cases : (x : ElementValue) (es : List ElementValue) (e : ElementValue) → Contains (put x es) e → (x ≡ e) ⊎ Contains es e
 put-cases x [] e c = Contains-cases x [] e c
 put-cases x (f ∷ fs) e c =
     elim (cases_Bool (bytes_less f.id x.id)) [
@@ -64,14 +64,14 @@ put-cases x (f ∷ fs) e c =
       | inr more ↦ Contains-cases x (f ∷ fs) e (rw more at c)
     ]
 
-put-there : (x : Drawn) (es : List Drawn) → Contains (put x es) x
+put-there : (x : ElementValue) (es : List ElementValue) → Contains (put x es) x
 put-there x [] = Contains-head x []
 put-there x (f ∷ fs) = elim (cases_Bool (bytes_less f.id x.id)) [
   | inl less ↦ rw less (Contains-cons f (put x fs) x (put-there x fs))
   | inr more ↦ rw more (Contains-head x (f ∷ fs))
 ]
 
-put-kept : (x : Drawn) (es : List Drawn) (e : Drawn) → Contains es e → Contains (put x es) e
+put-kept : (x : ElementValue) (es : List ElementValue) (e : ElementValue) → Contains es e → Contains (put x es) e
 put-kept x [] e c = absurd (omega (arith, c.1))
 put-kept x (f ∷ fs) e c = elim (cases_Bool (bytes_less f.id x.id)) [
   | inl less ↦ rw less (elim (Contains-cases f fs e c) [
@@ -81,13 +81,13 @@ put-kept x (f ∷ fs) e c = elim (cases_Bool (bytes_less f.id x.id)) [
   | inr more ↦ rw more (Contains-cons x (f ∷ fs) e c)
 ]
 
-absent-parts : (id : List ℕ) (f : Drawn) (fs : List Drawn) → element_of (f ∷ fs) id ≡ None → (bytes_eq id f.id ≡ false) × (element_of fs id ≡ None)
+absent-parts : (id : List ℕ) (f : ElementValue) (fs : List ElementValue) → element_of (f ∷ fs) id ≡ None → (bytes_eq id f.id ≡ false) × (element_of fs id ≡ None)
 absent-parts id f fs h = elim (cases_Bool (bytes_eq id f.id)) [
   | inl own ↦ absurd (none-some f (sym (rw own at h)))
   | inr other ↦ (other, rw other at h)
 ]
 
-put-rises : (a : Option (List ℕ)) (x : Drawn) (es : List Drawn) → ends_rise a (Some x.id) ≡ true → element_of es x.id ≡ None → rise_between a None (ids_of es) ≡ true → rise_between a None (ids_of (put x es)) ≡ true
+put-rises : (a : Option (List ℕ)) (x : ElementValue) (es : List ElementValue) → ends_rise a (Some x.id) ≡ true → element_of es x.id ≡ None → rise_between a None (ids_of es) ≡ true → rise_between a None (ids_of (put x es)) ≡ true
 put-rises a x [] first none h = and_from (ends_rise a (Some x.id)) true first refl
 put-rises a x (f ∷ fs) first none h =
     let parts = and_parts (ends_rise a (Some f.id)) (rise_between (Some f.id) None (ids_of fs)) h in
@@ -99,62 +99,62 @@ put-rises a x (f ∷ fs) first none h =
           (and_from (bytes_less x.id f.id) (rise_between (Some f.id) None (ids_of fs)) (bytes_less-turned x.id f.id others.0 more) parts.1))
     ]
 
-created-cases : (new : Option Drawn) (es : List Drawn) (e : Drawn) → Contains (with_created new es) e → (new ≡ Some e) ⊎ Contains es e
+created-cases : (new : Option ElementValue) (es : List ElementValue) (e : ElementValue) → Contains (with_created new es) e → (new ≡ Some e) ⊎ Contains es e
 created-cases None es e c = inr c
 created-cases (Some x) es e c = elim (put-cases x es e c) [ inl same ↦ inl (ap Some same) | inr there ↦ inr there ]
 
-created-there : (new : Option Drawn) (es : List Drawn) (e : Drawn) → new ≡ Some e → Contains (with_created new es) e
-created-there new es e is = subst (λ (o : Option Drawn). Contains (with_created o es) e) (sym is) (put-there e es)
+created-there : (new : Option ElementValue) (es : List ElementValue) (e : ElementValue) → new ≡ Some e → Contains (with_created new es) e
+created-there new es e is = subst (λ (o : Option ElementValue). Contains (with_created o es) e) (sym is) (put-there e es)
 
-created-kept : (new : Option Drawn) (es : List Drawn) (e : Drawn) → Contains es e → Contains (with_created new es) e
+created-kept : (new : Option ElementValue) (es : List ElementValue) (e : ElementValue) → Contains es e → Contains (with_created new es) e
 created-kept None es e c = c
 created-kept (Some x) es e c = put-kept x es e c
 
-created-rises : (new : Option Drawn) (es : List Drawn) → ((x : Drawn) → new ≡ Some x → element_of es x.id ≡ None) → are_rising (ids_of es) ≡ true → are_rising (ids_of (with_created new es)) ≡ true
+created-rises : (new : Option ElementValue) (es : List ElementValue) → ((x : ElementValue) → new ≡ Some x → element_of es x.id ≡ None) → are_rising (ids_of es) ≡ true → are_rising (ids_of (with_created new es)) ≡ true
 created-rises None es none h = h
 created-rises (Some x) es none h = put-rises None x es refl (none x refl) h
 
 -- ---- what a function of elements gives of them
-rises-from : (a : Option (List ℕ)) (k : List ℕ) (es : List Drawn) → ends_rise a (Some k) ≡ true → rise_between (Some k) None (ids_of es) ≡ true → rise_between a None (ids_of es) ≡ true
+rises-from : (a : Option (List ℕ)) (k : List ℕ) (es : List ElementValue) → ends_rise a (Some k) ≡ true → rise_between (Some k) None (ids_of es) ≡ true → rise_between a None (ids_of es) ≡ true
 rises-from a k [] less h = ends_rise-none a
 rises-from a k (e ∷ es) less h =
     let parts = and_parts (bytes_less k e.id) (rise_between (Some e.id) None (ids_of es)) h in
     and_from (ends_rise a (Some e.id)) (rise_between (Some e.id) None (ids_of es)) (ends_rise-trans a k (Some e.id) less parts.0) parts.1
 
-module _ (f : Drawn → Option Drawn) where
-  mapped-cases : (es : List Drawn) (e : Drawn) → Contains (filter_map f es) e → (old : Drawn) × Contains es old × (f old ≡ Some e)
+module _ (f : ElementValue → Option ElementValue) where
+  mapped-cases : (es : List ElementValue) (e : ElementValue) → Contains (filter_map f es) e → (old : ElementValue) × Contains es old × (f old ≡ Some e)
   mapped-cases [] e c = absurd (omega (arith, c.1))
   mapped-cases (x ∷ xs) e c =
       elim (some-or-none (f x)) [
         | inl none ↦
-            let there = mapped-cases xs e (subst (λ (o : Option Drawn). Contains (cons_option o (filter_map f xs)) e) none c) in
+            let there = mapped-cases xs e (subst (λ (o : Option ElementValue). Contains (cons_option o (filter_map f xs)) e) none c) in
             (there.0, Contains-cons x xs there.0 there.1, there.2)
         | inr some ↦
-            elim (Contains-cases some.0 (filter_map f xs) e (subst (λ (o : Option Drawn). Contains (cons_option o (filter_map f xs)) e) some.1 c)) [
+            elim (Contains-cases some.0 (filter_map f xs) e (subst (λ (o : Option ElementValue). Contains (cons_option o (filter_map f xs)) e) some.1 c)) [
               | inl same ↦ (x, Contains-head x xs, some.1 ∙ ap Some same)
               | inr later ↦ let there = mapped-cases xs e later in (there.0, Contains-cons x xs there.0 there.1, there.2)
             ]
       ]
 
-  mapped-there : (es : List Drawn) (old e : Drawn) → Contains es old → f old ≡ Some e → Contains (filter_map f es) e
+  mapped-there : (es : List ElementValue) (old e : ElementValue) → Contains es old → f old ≡ Some e → Contains (filter_map f es) e
   mapped-there [] old e c is = absurd (omega (arith, c.1))
   mapped-there (x ∷ xs) old e c is =
       elim (Contains-cases x xs old c) [
-        | inl same ↦ subst (λ (o : Option Drawn). Contains (cons_option o (filter_map f xs)) e) (sym (ap f same ∙ is)) (Contains-head e (filter_map f xs))
+        | inl same ↦ subst (λ (o : Option ElementValue). Contains (cons_option o (filter_map f xs)) e) (sym (ap f same ∙ is)) (Contains-head e (filter_map f xs))
         | inr later ↦ elim (some-or-none (f x)) [
-          | inl none ↦ subst (λ (o : Option Drawn). Contains (cons_option o (filter_map f xs)) e) (sym none) (mapped-there xs old e later is)
-          | inr some ↦ subst (λ (o : Option Drawn). Contains (cons_option o (filter_map f xs)) e) (sym some.1) (Contains-cons some.0 (filter_map f xs) e (mapped-there xs old e later is))
+          | inl none ↦ subst (λ (o : Option ElementValue). Contains (cons_option o (filter_map f xs)) e) (sym none) (mapped-there xs old e later is)
+          | inr some ↦ subst (λ (o : Option ElementValue). Contains (cons_option o (filter_map f xs)) e) (sym some.1) (Contains-cons some.0 (filter_map f xs) e (mapped-there xs old e later is))
         ]
       ]
 
-  mapped-rises : ((old e : Drawn) → f old ≡ Some e → e.id ≡ old.id) → (a : Option (List ℕ)) (es : List Drawn) → rise_between a None (ids_of es) ≡ true → rise_between a None (ids_of (filter_map f es)) ≡ true
+  mapped-rises : ((old e : ElementValue) → f old ≡ Some e → e.id ≡ old.id) → (a : Option (List ℕ)) (es : List ElementValue) → rise_between a None (ids_of es) ≡ true → rise_between a None (ids_of (filter_map f es)) ≡ true
   mapped-rises keeps a [] h = h
   mapped-rises keeps a (e ∷ es) h =
       let parts = and_parts (ends_rise a (Some e.id)) (rise_between (Some e.id) None (ids_of es)) h in
       let later = mapped-rises keeps (Some e.id) es parts.1 in
       elim (some-or-none (f e)) [
-        | inl none ↦ subst (λ (o : Option Drawn). rise_between a None (ids_of (cons_option o (filter_map f es))) ≡ true) (sym none) (rises-from a e.id (filter_map f es) parts.0 later)
-        | inr some ↦ subst (λ (o : Option Drawn). rise_between a None (ids_of (cons_option o (filter_map f es))) ≡ true) (sym some.1)
+        | inl none ↦ subst (λ (o : Option ElementValue). rise_between a None (ids_of (cons_option o (filter_map f es))) ≡ true) (sym none) (rises-from a e.id (filter_map f es) parts.0 later)
+        | inr some ↦ subst (λ (o : Option ElementValue). rise_between a None (ids_of (cons_option o (filter_map f es))) ≡ true) (sym some.1)
             (subst (λ (k : List ℕ). (ends_rise a (Some k) && rise_between (Some k) None (ids_of (filter_map f es))) ≡ true) (sym (keeps e some.0 some.1))
             (and_from (ends_rise a (Some e.id)) (rise_between (Some e.id) None (ids_of (filter_map f es))) parts.0 later))
       ]
@@ -164,57 +164,57 @@ unless : (b : Bool) (refusal : Refusal) → refusal_if b refusal ≡ None → b 
 unless true refusal h = absurd (none-some refusal (sym h))
 unless false refusal h = refl
 
-no-some : (o : Option Drawn) → is_some o ≡ false → o ≡ None
+no-some : (o : Option ElementValue) → is_some o ≡ false → o ≡ None
 no-some None h = refl
 no-some (Some x) h = absurd (false≢true (sym h))
 
-module _ (stored shown : List Drawn) (time nonce : ℕ) where
-  created-unknown : (command : Command) (e : Drawn) → existing stored command ≡ None → created shown command time nonce ≡ Some e → element_of stored e.id ≡ None
+module _ (stored shown : List ElementValue) (time nonce : ℕ) where
+  created-unknown : (command : Command) (e : ElementValue) → existing stored command ≡ None → created shown command time nonce ≡ Some e → element_of stored e.id ≡ None
   created-unknown (commands.Create element spot) e free is =
-      ap (λ (d : Drawn). element_of stored d.id) (sym (same_Some (created_at shown element spot time nonce) e is))
+      ap (λ (d : ElementValue). element_of stored d.id) (sym (same_Some (created_at shown element spot time nonce) e is))
       ∙ no-some (element_of stored element.id) (unless (is_some (element_of stored element.id)) (Exists element.id) free)
   created-unknown command e free is = absurd (none-some e is)
 
-  created-fresh : (command : Command) (e : Drawn) → created shown command time nonce ≡ Some e → (is_live e ≡ true) × (e.version ≡ 1)
+  created-fresh : (command : Command) (e : ElementValue) → created shown command time nonce ≡ Some e → (is_live e ≡ true) × (e.version ≡ 1)
   created-fresh (commands.Create element spot) e is =
       let same = sym (same_Some (created_at shown element spot time nonce) e is) in
-      (ap is_live same, ap (λ (d : Drawn). d.version) same)
+      (ap is_live same, ap (λ (d : ElementValue). d.version) same)
   created-fresh command e is = absurd (none-some e is)
 
 -- ---- what is given
 -- what the command makes of the live stored element of its id, from which it differs, stamped
-pub record IsChangeOf (stored shown : List Drawn) (command : Command) (time nonce : ℕ) (e : Drawn) : Type 0 where
-  pub old : Drawn
+pub record IsChangeOf (stored shown : List ElementValue) (command : Command) (time nonce : ℕ) (e : ElementValue) : Type 0 where
+  pub old : ElementValue
   pub found : element_of stored e.id ≡ Some old
   pub live : is_live old ≡ true
   pub differ : differs old (effect stored shown command old) ≡ true
   pub is : e ≡ stamped time nonce (effect stored shown command old)
 
 -- the new element of the command
-pub record IsCreated (stored shown : List Drawn) (command : Command) (time nonce : ℕ) (e : Drawn) : Type 0 where
+pub record IsCreated (stored shown : List ElementValue) (command : Command) (time nonce : ℕ) (e : ElementValue) : Type 0 where
   pub unknown : element_of stored e.id ≡ None
   pub is : created shown command time nonce ≡ Some e
 
-err-ok : (refusal : Refusal) (given : List Drawn) → ◌≡◌ {A = Result (List Drawn) Refusal} (Err refusal) (Ok given) → ⊥
+err-ok : (refusal : Refusal) (given : List ElementValue) → ◌≡◌ {A = Result (List ElementValue) Refusal} (Err refusal) (Ok given) → ⊥
 err-ok refusal given h = cc
 
-ok-same : (es given : List Drawn) → ◌≡◌ {A = Result (List Drawn) Refusal} (Ok es) (Ok given) → es ≡ given
+ok-same : (es given : List ElementValue) → ◌≡◌ {A = Result (List ElementValue) Refusal} (Ok es) (Ok given) → es ≡ given
 ok-same es given h = cc
 
-from-ok : (full new : Option Drawn) (changes given : List Drawn) → outcome_from full new changes ≡ Ok given → (full ≡ None) × (given ≡ with_created new changes)
+from-ok : (full new : Option ElementValue) (changes given : List ElementValue) → outcome_from full new changes ≡ Ok given → (full ≡ None) × (given ≡ with_created new changes)
 from-ok None new changes given h = (refl, sym (ok-same (with_created new changes) given h))
 from-ok (Some full) new changes given h = absurd (err-ok (refusal_at full) given h)
 
-newer : (e old : Drawn) → e.version ≡ old.version + 1 → beats e old ≡ true
+newer : (e old : ElementValue) → e.version ≡ old.version + 1 → beats e old ≡ true
 newer e old more =
     let less : old.version < e.version = omega (arith, more) in
     rw (lt-ltb old.version e.version less) refl
 
-module _ (stored shown : List Drawn) (command : Command) (time nonce : ℕ) (given : List Drawn) (told : outcome stored shown command time nonce ≡ Ok given) where
-  abbrev makes : Drawn → Drawn
+module _ (stored shown : List ElementValue) (command : Command) (time nonce : ℕ) (given : List ElementValue) (told : outcome stored shown command time nonce ≡ Ok given) where
+  abbrev makes : ElementValue → ElementValue
   makes = effect stored shown command
 
-  abbrev changes : List Drawn
+  abbrev changes : List ElementValue
   changes = changes_of makes time nonce stored
 
   reached : (r : Option Refusal) → outcome_unless r stored shown command time nonce ≡ Ok given → (r ≡ None) × (outcome_unless None stored shown command time nonce ≡ Ok given)
@@ -246,32 +246,32 @@ module _ (stored shown : List Drawn) (command : Command) (time nonce : ℕ) (giv
   pub given-is : given ≡ with_created (created shown command time nonce) changes
   given-is = parts.1
 
-  change-parts : (old e : Drawn) → change_of makes time nonce old ≡ Some e → (is_live old ≡ true) × (differs old (makes old) ≡ true) × (e ≡ stamped time nonce (makes old))
+  change-parts : (old e : ElementValue) → change_of makes time nonce old ≡ Some e → (is_live old ≡ true) × (differs old (makes old) ≡ true) × (e ≡ stamped time nonce (makes old))
   change-parts old e h =
       let one = cond_some (is_changed makes old) (stamped time nonce (makes old)) e h in
       let both = and_parts (is_live old) (differs old (makes old)) one.0 in
       (both.0, both.1, sym one.1)
 
-  change-id : (old e : Drawn) → change_of makes time nonce old ≡ Some e → e.id ≡ old.id
-  change-id old e h = ap (λ (d : Drawn). d.id) (change-parts old e h).2 ∙ ap (λ (s : Self). s.id) (effect-keeps stored shown command old)
+  change-id : (old e : ElementValue) → change_of makes time nonce old ≡ Some e → e.id ≡ old.id
+  change-id old e h = ap (λ (d : ElementValue). d.id) (change-parts old e h).2 ∙ ap (λ (s : Self). s.id) (effect-keeps stored shown command old)
 
   -- its version is one more, and its kind stays
-  pub change-version : (e : Drawn) (change : IsChangeOf stored shown command time nonce e) → e.version ≡ change.old.version + 1
+  pub change-version : (e : ElementValue) (change : IsChangeOf stored shown command time nonce e) → e.version ≡ change.old.version + 1
   change-version e change =
-      ap (λ (d : Drawn). d.version) change.is ∙ ap (λ (s : Self). s.version + 1) (effect-keeps stored shown command change.old)
+      ap (λ (d : ElementValue). d.version) change.is ∙ ap (λ (s : Self). s.version + 1) (effect-keeps stored shown command change.old)
 
-  pub change-kind : (e : Drawn) (change : IsChangeOf stored shown command time nonce e) → change.old.kind ≡ e.kind
+  pub change-kind : (e : ElementValue) (change : IsChangeOf stored shown command time nonce e) → change.old.kind ≡ e.kind
   change-kind e change =
-      sym (ap (λ (d : Drawn). d.kind) change.is ∙ ap (λ (s : Self). s.kind) (effect-keeps stored shown command change.old))
+      sym (ap (λ (d : ElementValue). d.kind) change.is ∙ ap (λ (s : Self). s.kind) (effect-keeps stored shown command change.old))
 
-  pub change-seen : (e : Drawn) (change : IsChangeOf stored shown command time nonce e) → unstamped change.old ≡ unstamped e → ⊥
+  pub change-seen : (e : ElementValue) (change : IsChangeOf stored shown command time nonce e) → unstamped change.old ≡ unstamped e → ⊥
   change-seen e change same =
       both_ways (differs change.old (makes change.old)) (differs-not change.old (makes change.old) (same ∙ ap unstamped change.is)) change.differ
 
   module _ (ordered : are_rising (ids_of stored) ≡ true) where
-    pub given-cases : (e : Drawn) → Contains given e → IsChangeOf stored shown command time nonce e ⊎ IsCreated stored shown command time nonce e
+    pub given-cases : (e : ElementValue) → Contains given e → IsChangeOf stored shown command time nonce e ⊎ IsCreated stored shown command time nonce e
     given-cases e c =
-        elim (created-cases (created shown command time nonce) changes e (subst (λ (es : List Drawn). Contains es e) given-is c)) [
+        elim (created-cases (created shown command time nonce) changes e (subst (λ (es : List ElementValue). Contains es e) given-is c)) [
           | inl new ↦ inr (record { unknown = created-unknown stored shown time nonce command e none-existing new; is = new })
           | inr change ↦
               let from = mapped-cases (change_of makes time nonce) stored e change in
@@ -287,7 +287,7 @@ module _ (stored shown : List Drawn) (command : Command) (time nonce : ℕ) (giv
 
     changes-absent : (id : List ℕ) → element_of stored id ≡ None → element_of changes id ≡ None
     changes-absent id none =
-        find-None (is_of id) changes (λ e c.
+        find-None (has_id id) changes (λ e c.
         let from = mapped-cases (change_of makes time nonce) stored e c in
         ap (bytes_eq id) (change-id from.0 e from.2) ∙ absent id stored from.0 none from.1)
 
@@ -295,81 +295,81 @@ module _ (stored shown : List Drawn) (command : Command) (time nonce : ℕ) (giv
     -- the ids of the given elements rise
     pub given-rise : are_rising (ids_of given) ≡ true
     given-rise =
-        subst (λ (es : List Drawn). are_rising (ids_of es) ≡ true) (sym given-is)
+        subst (λ (es : List ElementValue). are_rising (ids_of es) ≡ true) (sym given-is)
         (created-rises (created shown command time nonce) changes
         (λ x is. changes-absent x.id (created-unknown stored shown time nonce command x none-existing is))
         (mapped-rises (change_of makes time nonce) change-id None stored ordered))
 
     -- each is the one of its id
-    pub given-found : (e : Drawn) → Contains given e → element_of given e.id ≡ Some e
+    pub given-found : (e : ElementValue) → Contains given e → element_of given e.id ≡ Some e
     given-found e c = member None None given e given-rise c
 
     -- a store takes each
-    pub given-taken : (e : Drawn) → Contains given e → is_taken stored e ≡ true
+    pub given-taken : (e : ElementValue) → Contains given e → is_taken stored e ≡ true
     given-taken e c = elim (given-cases e c) [
       | inl change ↦ ap (is_newer e) change.found ∙ newer e change.old (change-version e change)
       | inr new ↦ ap (is_newer e) new.unknown
     ]
 
     -- each is of the stored element's kind, and one version on
-    pub given-kind : (e old : Drawn) → Contains given e → element_of stored e.id ≡ Some old → (old.kind ≡ e.kind) × (e.version ≡ old.version + 1)
+    pub given-kind : (e old : ElementValue) → Contains given e → element_of stored e.id ≡ Some old → (old.kind ≡ e.kind) × (e.version ≡ old.version + 1)
     given-kind e old c found = elim (given-cases e c) [
       | inl change ↦
           let same = same_Some change.old old (sym change.found ∙ found) in
-          (ap (λ (d : Drawn). d.kind) (sym same) ∙ change-kind e change, change-version e change ∙ ap (λ (d : Drawn). d.version + 1) same)
+          (ap (λ (d : ElementValue). d.kind) (sym same) ∙ change-kind e change, change-version e change ∙ ap (λ (d : ElementValue). d.version + 1) same)
       | inr new ↦ absurd (none-some old (sym new.unknown ∙ found))
     ]
 
     -- each differs outside the stamp from the live stored one, or is new
-    pub given-seen : (e : Drawn) → Contains given e → IsChange stored e ⊎ IsNew stored e
+    pub given-seen : (e : ElementValue) → Contains given e → ChangesStored stored e ⊎ IsNew stored e
     given-seen e c = elim (given-cases e c) [
-      | inl change ↦ inl (subst (λ (o : Option Drawn). IsSomeAnd o (λ (old : Drawn). (is_live old ≡ true) × (unstamped old ≡ unstamped e → ⊥))) (sym change.found) (change.live, change-seen e change))
+      | inl change ↦ inl (subst (λ (o : Option ElementValue). IsSomeAnd o (λ (old : ElementValue). (is_live old ≡ true) × (unstamped old ≡ unstamped e → ⊥))) (sym change.found) (change.live, change-seen e change))
       | inr new ↦
           let fresh = created-fresh stored shown time nonce command e new.is in
           inr (record { unknown = new.unknown; live = fresh.0; version = fresh.1 })
     ]
 
     -- so with the stored element, or with itself as a deleted one, it is a pair that is changed
-    pub given-changed : (e : Drawn) → Contains given e → IsChanged (pair_with (element_of stored e.id) e)
+    pub given-changed : (e : ElementValue) → Contains given e → IsChanged (pair_with (element_of stored e.id) e)
     given-changed e c = elim (given-cases e c) [
-      | inl change ↦ subst (λ (o : Option Drawn). IsChanged (pair_with o e)) (sym change.found) (record {
-        id = sym (ap (λ (d : Drawn). d.id) change.is ∙ ap (λ (s : Self). s.id) (effect-keeps stored shown command change.old));
+      | inl change ↦ subst (λ (o : Option ElementValue). IsChanged (pair_with o e)) (sym change.found) (record {
+        id = sym (ap (λ (d : ElementValue). d.id) change.is ∙ ap (λ (s : Self). s.id) (effect-keeps stored shown command change.old));
         kind = change-kind e change;
         differ = change-seen e change;
       })
-      | inr new ↦ subst (λ (o : Option Drawn). IsChanged (pair_with o e)) (sym new.unknown) (record {
+      | inr new ↦ subst (λ (o : Option ElementValue). IsChanged (pair_with o e)) (sym new.unknown) (record {
         id = refl;
         kind = refl;
-        differ = λ same. false≢true (ap (λ (d : Drawn). not d.deleted) same ∙ (created-fresh stored shown time nonce command e new.is).0);
+        differ = λ same. false≢true (ap (λ (d : ElementValue). not d.deleted) same ∙ (created-fresh stored shown time nonce command e new.is).0);
       })
     ]
 
     -- a live element that the command makes another one of is given so
-    pub change-given : (old : Drawn) → Contains stored old → is_live old ≡ true → differs old (makes old) ≡ true → Contains given (stamped time nonce (makes old))
+    pub change-given : (old : ElementValue) → Contains stored old → is_live old ≡ true → differs old (makes old) ≡ true → Contains given (stamped time nonce (makes old))
     change-given old c live differ =
         let new = stamped time nonce (makes old) in
-        subst (λ (es : List Drawn). Contains es new) (sym given-is)
+        subst (λ (es : List ElementValue). Contains es new) (sym given-is)
         (created-kept (created shown command time nonce) changes new
         (mapped-there (change_of makes time nonce) stored old new c
         (cond-true (is_changed makes old) (Some new) None (and_from (is_live old) (differs old (makes old)) live differ))))
 
     -- and a new element is given
-    pub created-given : (e : Drawn) → created shown command time nonce ≡ Some e → element_of given e.id ≡ Some e
+    pub created-given : (e : ElementValue) → created shown command time nonce ≡ Some e → element_of given e.id ≡ Some e
     created-given e is =
-        given-found e (subst (λ (es : List Drawn). Contains es e) (sym given-is) (created-there (created shown command time nonce) changes e is))
+        given-found e (subst (λ (es : List ElementValue). Contains es e) (sym given-is) (created-there (created shown command time nonce) changes e is))
 
     -- an element that is deleted, or that the command leaves as it is, isn't given
-    pub not-given : (id : List ℕ) (old : Drawn) → element_of stored id ≡ Some old → (is_live old ≡ true → differs old (makes old) ≡ true → ⊥) → element_of given id ≡ None
+    pub not-given : (id : List ℕ) (old : ElementValue) → element_of stored id ≡ Some old → (is_live old ≡ true → differs old (makes old) ≡ true → ⊥) → element_of given id ≡ None
     not-given id old found same =
         elim (some-or-none (element_of given id)) [
           | inl none ↦ none
           | inr some ↦
-              let at = find-Some (is_of id) given some.0 some.1 in
+              let at = find-Some (has_id id) given some.0 some.1 in
               let own = ap (element_of stored) (sym (same_id id some.0 at.1)) ∙ found in
               elim (given-cases some.0 at.0) [
                 | inl change ↦ absurd
                     (let is = same_Some change.old old (sym change.found ∙ own) in
-                    same (ap is_live (sym is) ∙ change.live) (ap (λ (d : Drawn). differs d (makes d)) (sym is) ∙ change.differ))
+                    same (ap is_live (sym is) ∙ change.live) (ap (λ (d : ElementValue). differs d (makes d)) (sym is) ∙ change.differ))
                 | inr new ↦ absurd (none-some old (sym new.unknown ∙ own))
               ]
         ]
@@ -380,7 +380,7 @@ module _ (stored shown : List Drawn) (command : Command) (time nonce : ℕ) (giv
         elim (some-or-none (element_of given id)) [
           | inl free ↦ free
           | inr some ↦
-              let at = find-Some (is_of id) given some.0 some.1 in
+              let at = find-Some (has_id id) given some.0 some.1 in
               elim (given-cases some.0 at.0) [
                 | inl change ↦ absurd (none-some change.old (sym none ∙ ap (element_of stored) (same_id id some.0 at.1) ∙ change.found))
                 | inr new ↦ absurd (none-some some.0 (sym nothing ∙ new.is))
@@ -389,9 +389,9 @@ module _ (stored shown : List Drawn) (command : Command) (time nonce : ℕ) (giv
 
     -- What is stored once the given elements are: of a live element what the command makes of it, but for the stamp, and a
     -- deleted one stays.
-    pub after-live : (id : List ℕ) (old : Drawn) → element_of stored id ≡ Some old → is_live old ≡ true → (e : Drawn) × (stored_after stored given id ≡ Some e) × (unstamped e ≡ unstamped (makes old))
+    pub after-live : (id : List ℕ) (old : ElementValue) → element_of stored id ≡ Some old → is_live old ≡ true → (e : ElementValue) × (stored_after stored given id ≡ Some e) × (unstamped e ≡ unstamped (makes old))
     after-live id old found live =
-        let at = find-Some (is_of id) stored old found in
+        let at = find-Some (has_id id) stored old found in
         let keeps = effect-keeps stored shown command old in
         elim (cases_Bool (differs old (makes old))) [
           | inl differ ↦
@@ -405,6 +405,6 @@ module _ (stored shown : List Drawn) (command : Command) (time nonce : ℕ) (giv
           )
         ]
 
-    pub after-dead : (id : List ℕ) (old : Drawn) → element_of stored id ≡ Some old → is_live old ≡ false → stored_after stored given id ≡ Some old
+    pub after-dead : (id : List ℕ) (old : ElementValue) → element_of stored id ≡ Some old → is_live old ≡ false → stored_after stored given id ≡ Some old
     after-dead id old found dead =
         stored_after-kept stored given id (not-given id old found (λ live _. both_ways (is_live old) dead live)) ∙ found

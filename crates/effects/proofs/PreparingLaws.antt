@@ -5,12 +5,12 @@ use Rattle.std.specs.BTreeSet.{BTreeSet, contains, Updates}
 use Rattle.std.specs.Cmp.Lexicographic.{slice_cmp, nat_list_eq_equiv, texts_ties}
 use Rattle.std.specs.Option.{option_map, option_map_or, option_and_then, option_flatten, unwrap_or}
 use Rattle.std.proofs.lemmas.List.Folds.{list_any-append}
-use Rattle.elem.specs.Drawn.{Drawn}
+use Rattle.elem.specs.ElementValue.{ElementValue}
 use Rattle.elem_store.specs.Updates.{element_of}
 use Rattle.view.specs.Shown.{index_of}
 use Rattle.effects.specs.Deleting.{deleted_from}
 use Rattle.effects.specs.Naming.{is_among}
-use Rattle.effects.specs.Placing.{settled, key_in}
+use Rattle.effects.specs.Placing.{with_view_key, key_in}
 use Rattle.effects.specs.Prepared.{HasKeys, HasIds, settled_in, Prepares}
 use Rattle.effects.specs.declared.command.Command.{Command}
 use Rattle.effects.specs.declared.effect.Effect.{Effect}
@@ -34,45 +34,45 @@ or-default : {X Y : Type 0} (f : X → Y) (o : Option X) (d : Y) → unwrap_or (
 or-default f None d = refl
 or-default f (Some x) d = refl
 
-pub settled-in : (keys : BTreeMap (List ℕ) (Option (List ℕ))) (shown : List Drawn) (e : Drawn) → HasKeys keys shown → settled_in keys e ≡ settled shown e
-settled-in keys shown e has =
+pub with_view_key-in : (keys : BTreeMap (List ℕ) (Option (List ℕ))) (shown : List ElementValue) (e : ElementValue) → HasKeys keys shown → settled_in keys e ≡ with_view_key shown e
+with_view_key-in keys shown e has =
     ap (λ index. record e { index = index }) (ap (λ o. unwrap_or o e.index) (has e.id) ∙ or-default index_of (element_of shown e.id) e.index)
 
-pub key-in : (keys : BTreeMap (List ℕ) (Option (List ℕ))) (shown : List Drawn) (id : List ℕ) → HasKeys keys shown → option_flatten (get (slice_cmp nat_cmp) keys id) ≡ key_in shown id
+pub key-in : (keys : BTreeMap (List ℕ) (Option (List ℕ))) (shown : List ElementValue) (id : List ℕ) → HasKeys keys shown → option_flatten (get (slice_cmp nat_cmp) keys id) ≡ key_in shown id
 key-in keys shown id has = ap option_flatten (has id) ∙ flat (element_of shown id)
   where
-    flat : (o : Option Drawn) → option_flatten (option_map index_of o) ≡ option_and_then (λ (e : Drawn). e.index) o
+    flat : (o : Option ElementValue) → option_flatten (option_map index_of o) ≡ option_and_then (λ (e : ElementValue). e.index) o
     flat None = refl
     flat (Some e) = refl
 
-pub deleted-among : (set : BTreeSet (List ℕ)) (ids : List (List ℕ)) (e : Drawn) → HasIds set ids → deleted_from (contains (slice_cmp nat_cmp) set) e ≡ deleted_from (is_among ids) e
+pub deleted-among : (set : BTreeSet (List ℕ)) (ids : List (List ℕ)) (e : ElementValue) → HasIds set ids → deleted_from (contains (slice_cmp nat_cmp) set) e ≡ deleted_from (is_among ids) e
 deleted-among set ids e has = ap (λ is_gone. deleted_from is_gone e) (λ i id. has id i)
 
-pub changed-among : (set : BTreeSet (List ℕ)) (ids : List (List ℕ)) (e new : Drawn) → HasIds set ids → (if contains (slice_cmp nat_cmp) set e.id then new else e) ≡ (if is_among ids e.id then new else e)
+pub changed-among : (set : BTreeSet (List ℕ)) (ids : List (List ℕ)) (e new : ElementValue) → HasIds set ids → (if contains (slice_cmp nat_cmp) set e.id then new else e) ≡ (if is_among ids e.id then new else e)
 changed-among set ids e new has = ap (λ b. if b then new else e) (has e.id)
 
 -- ---- the command that was given is the one that was prepared for
-module _ {E : Type 0} (r : Result Effect E) (stored view : List Drawn) (command given : Command) (is : given ≡ command) where
+module _ {E : Type 0} (r : Result Effect E) (stored view : List ElementValue) (command given : Command) (is : given ≡ command) where
   as-given : IfOk r (Prepares stored view command) → IfOk r (Prepares stored view given)
   as-given h = subst (λ c. IfOk r (Prepares stored view c)) (sym is) h
 
-  pub for-stored : IfOk r (λ made. (view : List Drawn) → Prepares stored view command made) → IfOk r (Prepares stored view given)
+  pub for-stored : IfOk r (λ made. (view : List ElementValue) → Prepares stored view command made) → IfOk r (Prepares stored view given)
   for-stored h = as-given (at r h)
     where
-      at : (r : Result Effect E) → IfOk r (λ made. (view : List Drawn) → Prepares stored view command made) → IfOk r (Prepares stored view command)
+      at : (r : Result Effect E) → IfOk r (λ made. (view : List ElementValue) → Prepares stored view command made) → IfOk r (Prepares stored view command)
       at (Ok made) h = h view
       at (Err e) h = tt
 
-  pub for-view : IfOk r (λ made. (stored : List Drawn) → Prepares stored view command made) → IfOk r (Prepares stored view given)
+  pub for-view : IfOk r (λ made. (stored : List ElementValue) → Prepares stored view command made) → IfOk r (Prepares stored view given)
   for-view h = as-given (at r h)
     where
-      at : (r : Result Effect E) → IfOk r (λ made. (stored : List Drawn) → Prepares stored view command made) → IfOk r (Prepares stored view command)
+      at : (r : Result Effect E) → IfOk r (λ made. (stored : List ElementValue) → Prepares stored view command made) → IfOk r (Prepares stored view command)
       at (Ok made) h = h stored
       at (Err e) h = tt
 
-  pub for-all : IfOk r (λ made. (stored view : List Drawn) → Prepares stored view command made) → IfOk r (Prepares stored view given)
+  pub for-all : IfOk r (λ made. (stored view : List ElementValue) → Prepares stored view command made) → IfOk r (Prepares stored view given)
   for-all h = as-given (at r h)
     where
-      at : (r : Result Effect E) → IfOk r (λ made. (stored view : List Drawn) → Prepares stored view command made) → IfOk r (Prepares stored view command)
+      at : (r : Result Effect E) → IfOk r (λ made. (stored view : List ElementValue) → Prepares stored view command made) → IfOk r (Prepares stored view command)
       at (Ok made) h = h stored view
       at (Err e) h = tt

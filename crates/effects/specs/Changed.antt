@@ -3,7 +3,7 @@ use Rattle.std.specs.Prelude.{ℕ, ◌+◌, ◌==◌, List, Bool, false, ◌&&�
 use Rattle.board_io.specs.declared.stop.Stop.{Stop}
 use Rattle.board_io.specs.declared.stop.Stop.TheVariants.{Fault, Memory}
 use Rattle.frac_keys.specs.Keys.{bytes_less}
-use Rattle.elem.specs.Drawn.{Drawn}
+use Rattle.elem.specs.ElementValue.{ElementValue}
 use Rattle.elem.specs.Facts.{greatest_whole}
 use Rattle.view.specs.Shown.{is_live, with_element}
 use Rattle.effects.specs.declared.command.Command.{Command}
@@ -17,30 +17,30 @@ use Rattle.effects.specs.Placing.{key_at}
 use Rattle.effects.specs.Refusals.{refusal_of}
 
 -- the element with the stamp of a change: the next version, the nonce and the time
-abbrev pub stamped : ℕ → ℕ → Drawn → Drawn
+abbrev pub stamped : ℕ → ℕ → ElementValue → ElementValue
 stamped time nonce e = record e { version = e.version + 1; nonce = nonce; updated = time }
 
 -- whether a function changes a live element outside the stamp
-abbrev pub is_changed : (Drawn → Drawn) → Drawn → Bool
+abbrev pub is_changed : (ElementValue → ElementValue) → ElementValue → Bool
 is_changed makes e = is_live e && differs e (makes e)
 
 -- the refusal to change an element at the greatest version
-abbrev pub refusal_at : Drawn → Refusal
+abbrev pub refusal_at : ElementValue → Refusal
 refusal_at e = VersionFull e.id
 
 -- whether it would change one that stands at the greatest version
-abbrev pub is_full : (Drawn → Drawn) → Drawn → Bool
+abbrev pub is_full : (ElementValue → ElementValue) → ElementValue → Bool
 is_full makes e = is_changed makes e && e.version == greatest_whole
 
 -- what it makes of an element, stamped, if that changes
-abbrev pub change_of : (Drawn → Drawn) → ℕ → ℕ → Drawn → Option Drawn
+abbrev pub change_of : (ElementValue → ElementValue) → ℕ → ℕ → ElementValue → Option ElementValue
 change_of makes time nonce e = if is_changed makes e then Some (stamped time nonce (makes e)) else None
 
-abbrev pub changes_of : (Drawn → Drawn) → ℕ → ℕ → List Drawn → List Drawn
+abbrev pub changes_of : (ElementValue → ElementValue) → ℕ → ℕ → List ElementValue → List ElementValue
 changes_of makes time nonce stored = filter_map (change_of makes time nonce) stored
 
 -- the element as a new one: with version 1, not deleted, and with the key at the spot
-abbrev pub created_at : List Drawn → Drawn → Spot → ℕ → ℕ → Drawn
+abbrev pub created_at : List ElementValue → ElementValue → Spot → ℕ → ℕ → ElementValue
 created_at shown element spot time nonce = record element {
   version = 1;
   nonce = nonce;
@@ -50,29 +50,29 @@ created_at shown element spot time nonce = record element {
 }
 
 -- the new element of a command, if it creates one
-abbrev pub created : List Drawn → Command → ℕ → ℕ → Option Drawn
+abbrev pub created : List ElementValue → Command → ℕ → ℕ → Option ElementValue
 created shown (commands.Create element spot) time nonce = Some (created_at shown element spot time nonce)
 created shown _ time nonce = None
 
 -- elements in the order of their ids, and a new one at its place
-abbrev pub with_created : Option Drawn → List Drawn → List Drawn
+abbrev pub with_created : Option ElementValue → List ElementValue → List ElementValue
 with_created None elements = elements
 with_created (Some e) elements = with_element (λ other new. bytes_less other.id new.id) e elements
 
 -- what comes of a function of elements and a new one: the least id whose element can't change, or the changed elements
-abbrev pub outcome_from : Option Drawn → Option Drawn → List Drawn → Result (List Drawn) Refusal
+abbrev pub outcome_from : Option ElementValue → Option ElementValue → List ElementValue → Result (List ElementValue) Refusal
 outcome_from (Some full) new changes = Err (refusal_at full)
 outcome_from None new changes = Ok (with_created new changes)
 
 -- The changed elements of a command in the order of their ids, or its refusal: of the stored elements in the order of their
 -- ids, of the shown ones in theirs, and for this time and nonce.
-abbrev pub outcome_unless : Option Refusal → List Drawn → List Drawn → Command → ℕ → ℕ → Result (List Drawn) Refusal
+abbrev pub outcome_unless : Option Refusal → List ElementValue → List ElementValue → Command → ℕ → ℕ → Result (List ElementValue) Refusal
 outcome_unless (Some refusal) stored shown command time nonce = Err refusal
 outcome_unless None stored shown command time nonce =
     outcome_from (find (is_full (effect stored shown command)) stored) (created shown command time nonce)
     (changes_of (effect stored shown command) time nonce stored)
 
-abbrev pub outcome : List Drawn → List Drawn → Command → ℕ → ℕ → Result (List Drawn) Refusal
+abbrev pub outcome : List ElementValue → List ElementValue → Command → ℕ → ℕ → Result (List ElementValue) Refusal
 outcome stored shown command time nonce =
     outcome_unless (refusal_of stored shown command) stored shown command time nonce
 

@@ -1,16 +1,16 @@
 -- What each command makes of a live stored element. This project's own.
 use Rattle.std.specs.Prelude.{ℕ, List, [], ◌∷◌, ◌++◌, not, Option, Some, None, filter, bytes_eq, if◌then◌else◌}
-use Rattle.elem.specs.Drawn.{Drawn}
+use Rattle.elem.specs.ElementValue.{ElementValue}
 use Rattle.effects.specs.declared.command.Command.{Command}
 use Rattle.effects.specs.declared.command.Command.TheVariants as commands
 use Rattle.effects.specs.Deleting.{deleted_from}
 use Rattle.effects.specs.Linking.{bound_to, old_target, labelled, unlabelled, old_container}
 use Rattle.effects.specs.Naming.{is_among}
-use Rattle.effects.specs.Placing.{settled, key_at, key_in, with_key_of}
-use Rattle.effects.specs.Settings.{with_member}
+use Rattle.effects.specs.Placing.{with_view_key, key_at, key_in, with_key_of}
+use Rattle.effects.specs.Settings.{with_set_member}
 
 -- the element in a frame, or in none, if it is of these ids
-abbrev pub framed : List (List ℕ) → Option (List ℕ) → Drawn → Drawn
+abbrev pub framed : List (List ℕ) → Option (List ℕ) → ElementValue → ElementValue
 framed ids frame e = if is_among ids e.id then record e { frame = frame } else e
 
 -- groups with one, which is added where it is missing, and without it
@@ -21,20 +21,20 @@ abbrev pub without_group : List ℕ → List (List ℕ) → List (List ℕ)
 without_group group groups = filter (λ other. not (bytes_eq group other)) groups
 
 -- the element in a group, or not in it, if it is of these ids
-abbrev pub grouped : List (List ℕ) → List ℕ → Drawn → Drawn
+abbrev pub grouped : List (List ℕ) → List ℕ → ElementValue → ElementValue
 grouped ids group e = if is_among ids e.id then record e { groups = with_group group e.groups } else e
 
-abbrev pub ungrouped : List (List ℕ) → List ℕ → Drawn → Drawn
+abbrev pub ungrouped : List (List ℕ) → List ℕ → ElementValue → ElementValue
 ungrouped ids group e = if is_among ids e.id then record e { groups = without_group group e.groups } else e
 
 -- What the command makes of a live element, as stored: itself where it isn't concerned. What the element of an id names is
 -- looked up among the stored elements, and keys among the shown ones.
-abbrev pub effect : List Drawn → List Drawn → Command → Drawn → Drawn
-effect stored shown (commands.Create element spot) e = settled shown e
-effect stored shown (commands.Set id member value) e = if bytes_eq id e.id then with_member member value e else e
+abbrev pub effect : List ElementValue → List ElementValue → Command → ElementValue → ElementValue
+effect stored shown (commands.Create element spot) e = with_view_key shown e
+effect stored shown (commands.Set id member value) e = if bytes_eq id e.id then with_set_member member value e else e
 effect stored shown (commands.Delete ids) e = deleted_from (is_among ids) e
 effect stored shown (commands.Place id spot) e =
-    with_key_of id (key_at shown spot id (key_in shown id)) (settled shown e)
+    with_key_of id (key_at shown spot id (key_in shown id)) (with_view_key shown e)
 effect stored shown (commands.Bind arrow side target rest) e =
     bound_to arrow side (Some (record { target = target; rest = rest })) (old_target stored arrow side) e
 effect stored shown (commands.Unbind arrow side) e = bound_to arrow side None (old_target stored arrow side) e

@@ -3,33 +3,33 @@ use Rattle.std.specs.Prelude.{ℕ, List, [], ◌∷◌, Bool, false, not, Option
 use Rattle.std.specs.Option.{option_map_or, option_and_then}
 use Rattle.frac_keys.specs.Between.{key_between}
 use Rattle.frac_keys.specs.Rising.{lies_between}
-use Rattle.elem.specs.Drawn.{Drawn}
+use Rattle.elem.specs.ElementValue.{ElementValue}
 use Rattle.elem_store.specs.Updates.{element_of}
 use Rattle.effects.specs.declared.command.Spot.{Spot}
 use Rattle.effects.specs.declared.command.Spot.TheVariants.{Bottom, Top, After}
 
 -- the key that an element has in the view, or its own where it isn't shown
-abbrev pub settled_key : List Drawn → Drawn → Option (List ℕ)
-settled_key shown e = option_map_or (λ (s : Drawn). s.index) (element_of shown e.id) e.index
+abbrev pub settled_key : List ElementValue → ElementValue → Option (List ℕ)
+settled_key shown e = option_map_or (λ (s : ElementValue). s.index) (element_of shown e.id) e.index
 
 -- the element with the key that it has in the view
-abbrev pub settled : List Drawn → Drawn → Drawn
-settled shown e = record e { index = settled_key shown e }
+abbrev pub with_view_key : List ElementValue → ElementValue → ElementValue
+with_view_key shown e = record e { index = settled_key shown e }
 
 -- the elements but the one of this id
-abbrev pub others : List ℕ → List Drawn → List Drawn
-others id elements = filter (λ (e : Drawn). not (bytes_eq id e.id)) elements
+abbrev pub others : List ℕ → List ElementValue → List ElementValue
+others id elements = filter (λ (e : ElementValue). not (bytes_eq id e.id)) elements
 
 -- the key of the first of elements, and of the last, if there is one
-abbrev pub first_key : List Drawn → Option (List ℕ)
+abbrev pub first_key : List ElementValue → Option (List ℕ)
 first_key [] = None
 first_key (e ∷ elements) = e.index
 
-abbrev pub last_key_or : Option (List ℕ) → List Drawn → Option (List ℕ)
+abbrev pub last_key_or : Option (List ℕ) → List ElementValue → Option (List ℕ)
 last_key_or key [] = key
 last_key_or key (e ∷ elements) = last_key_or e.index elements
 
-abbrev pub last_key : List Drawn → Option (List ℕ)
+abbrev pub last_key : List ElementValue → Option (List ℕ)
 last_key elements = last_key_or None elements
 
 -- the keys beside a spot of elements in their order: of the element below it and of the one above it
@@ -37,12 +37,12 @@ pub record Gap : Type 0 where
   pub low : Option (List ℕ)
   pub high : Option (List ℕ)
 
-abbrev pub gap_above : List ℕ → List Drawn → Gap
+abbrev pub gap_above : List ℕ → List ElementValue → Gap
 gap_above id [] = record { low = None; high = None }
 gap_above id (e ∷ elements) =
     if bytes_eq id e.id then record { low = e.index; high = first_key elements } else gap_above id elements
 
-abbrev pub gap_at : Spot → List Drawn → Gap
+abbrev pub gap_at : Spot → List ElementValue → Gap
 gap_at Bottom elements = record { low = None; high = first_key elements }
 gap_at Top elements = record { low = last_key elements; high = None }
 gap_at (After id) elements = gap_above id elements
@@ -57,17 +57,17 @@ abbrev pub key_within : Gap → Option (List ℕ) → Option (List ℕ)
 key_within gap old = if lies_within gap old then old else Some (key_between gap.low gap.high)
 
 -- the gap at a spot among the elements but the one of this id
-abbrev pub gap_of : List Drawn → Spot → List ℕ → Gap
+abbrev pub gap_of : List ElementValue → Spot → List ℕ → Gap
 gap_of shown spot id = gap_at spot (others id shown)
 
 -- The key of an element of this id at a spot among the others: its old one where it stands there.
-abbrev pub key_at : List Drawn → Spot → List ℕ → Option (List ℕ) → Option (List ℕ)
+abbrev pub key_at : List ElementValue → Spot → List ℕ → Option (List ℕ) → Option (List ℕ)
 key_at shown spot id old = key_within (gap_of shown spot id) old
 
 -- the key of the shown element of an id
-abbrev pub key_in : List Drawn → List ℕ → Option (List ℕ)
-key_in shown id = option_and_then (λ (e : Drawn). e.index) (element_of shown id)
+abbrev pub key_in : List ElementValue → List ℕ → Option (List ℕ)
+key_in shown id = option_and_then (λ (e : ElementValue). e.index) (element_of shown id)
 
 -- the element, which has the key if it is of this id
-abbrev pub with_key_of : List ℕ → Option (List ℕ) → Drawn → Drawn
+abbrev pub with_key_of : List ℕ → Option (List ℕ) → ElementValue → ElementValue
 with_key_of id key e = if bytes_eq id e.id then record e { index = key } else e

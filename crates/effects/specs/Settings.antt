@@ -5,7 +5,7 @@ use Rattle.scene_json.specs.Named.{value_at}
 use Rattle.scene_json.specs.Tree.{null_word}
 use Rattle.delta.specs.Rest.{with_value}
 use Rattle.restore_table.specs.Table.{defaults}
-use Rattle.elem.specs.Drawn.{Drawn}
+use Rattle.elem.specs.ElementValue.{ElementValue}
 use Rattle.effects.specs.Naming.{is_among}
 
 -- the names of the members that no value can be given: what an element is, its stamp, and what other commands change
@@ -23,5 +23,5 @@ abbrev pub given_value : List ℕ → List ℕ → List ℕ
 given_value name value = if bytes_eq value null_word then unwrap_or (value_at name defaults) value else value
 
 -- The element whose member of this name got a value: the names of its further members rise.
-abbrev pub with_member : List ℕ → List ℕ → Drawn → Drawn
-with_member name value e = record e { rest = with_value name (Some (given_value name value)) e.rest }
+abbrev pub with_set_member : List ℕ → List ℕ → ElementValue → ElementValue
+with_set_member name value e = record e { rest = with_value name (Some (given_value name value)) e.rest }

@@ -7,7 +7,7 @@ ghost use Rattle.std.specs.Option.{unwrap_or};
 ghost use Rattle.std.specs.Ordering.{nat_cmp};
 ghost use Rattle.scene_json.specs.Value.{IsCompact};
 ghost use Rattle.effects.specs.Effects as effects;
-ghost use Rattle.effects.specs.Prepared.{made_by, IsSound};
+ghost use Rattle.effects.specs.Prepared.{made_by, IsSoundEffect};
 ghost use Rattle.effects.specs.Settings as settings;
 
 use crate::deleting::deleted_from;
@@ -78,7 +78,7 @@ pub(crate) enum Effect {
 impl Effect {
     /// What is made of an element, or None where it stays as it is.
     pub(crate) fn apply(&self, alloc: Global, e: &Element) -> Result<Option<Element>, AllocError>
-        requires { IsSound self.now }
+        requires { IsSoundEffect self.now }
         ensures { IfOk result (λ new. unwrap_or new e.now ≡ made_by self.now e.now) }
     {
         match self {
@@ -106,7 +106,7 @@ fn set(
 ) -> Result<Option<Element>, AllocError>
     requires free { settings.is_protected member.now ≡ false }
     requires nests { IsCompact 100 value.now }
-    ensures { IfOk result (λ new. unwrap_or new e.now ≡ (if bytes_eq id.now e.now.id then settings.with_member member.now value.now e.now else e.now)) }
+    ensures { IfOk result (λ new. unwrap_or new e.now ≡ (if bytes_eq id.now e.now.id then settings.with_set_member member.now value.now e.now else e.now)) }
 {
     if *id == e.id {
         return Ok(Some(with_member(alloc, e, member, value)?));

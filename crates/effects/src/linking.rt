@@ -8,7 +8,7 @@ ghost use Rattle.links.specs.Entries as entries;
 ghost use Rattle.links.specs.Names.{is_id, target_of};
 ghost use Rattle.links.specs.Texts.{is_for_text};
 ghost use Rattle.effects.specs.Linking as linking;
-ghost use Rattle.effects.specs.Linking.{with_end, with_entry, without_entry};
+ghost use Rattle.effects.specs.Linking.{with_end, with_listing_entry, without_listing_entry};
 ghost use Rattle.effects.specs.Prepared.{linked, put_in, taken_out};
 
 use crate::command::Side;
@@ -106,7 +106,7 @@ fn listed(binding: &Option<Binding>, entry: &BoundRef, e: Element) -> Result<Ele
     if !is_target_of(binding, &e.id) {
         return Ok(e);
     }
-    let bound = with_entry(&e.bound, entry)?;
+    let bound = with_listing_entry(&e.bound, entry)?;
     Ok(with_bound(e, bound))
 }
 
@@ -117,7 +117,7 @@ fn unlisted(id: &Option<Text>, entry: &BoundRef, e: Element) -> Result<Element, 
     if !is_id(&e.id, id) {
         return Ok(e);
     }
-    let bound = without_entry(&e.bound, entry)?;
+    let bound = without_listing_entry(&e.bound, entry)?;
     Ok(with_bound(e, bound))
 }
 
@@ -130,8 +130,8 @@ fn with_bound(mut e: Element, bound: List<BoundRef>) -> Element
 }
 
 /// Whether two entries of listings are the same.
-fn same_entry(entry: &BoundRef, other: &BoundRef) -> bool
-    ensures { result ≡ entries.same_entry entry.now other.now }
+fn same_listing_entry(entry: &BoundRef, other: &BoundRef) -> bool
+    ensures { result ≡ entries.same_listing_entry entry.now other.now }
 {
     same_role(entry.role, other.role) && entry.id == other.id
 }
@@ -153,12 +153,15 @@ fn lists(bound: &List<BoundRef>, entry: &BoundRef) -> bool
     bound
         .as_slice()
         .iter()
-        .any(|other| same_entry(entry, other))
+        .any(|other| same_listing_entry(entry, other))
 }
 
 /// A listing with an entry, which is added where it is missing.
-fn with_entry(bound: &List<BoundRef>, entry: &BoundRef) -> Result<List<BoundRef>, AllocError>
-    ensures { IfOk result (λ new. new ≡ with_entry entry.now bound.now) }
+fn with_listing_entry(
+    bound: &List<BoundRef>,
+    entry: &BoundRef,
+) -> Result<List<BoundRef>, AllocError>
+    ensures { IfOk result (λ new. new ≡ with_listing_entry entry.now bound.now) }
 {
     let mut new = bound.try_clone_with(BoundRef::try_clone)?;
     if !lists(bound, entry) {
@@ -168,11 +171,14 @@ fn with_entry(bound: &List<BoundRef>, entry: &BoundRef) -> Result<List<BoundRef>
 }
 
 /// A listing without an entry.
-fn without_entry(bound: &List<BoundRef>, entry: &BoundRef) -> Result<List<BoundRef>, AllocError>
-    ensures { IfOk result (λ new. new ≡ without_entry entry.now bound.now) }
+fn without_listing_entry(
+    bound: &List<BoundRef>,
+    entry: &BoundRef,
+) -> Result<List<BoundRef>, AllocError>
+    ensures { IfOk result (λ new. new ≡ without_listing_entry entry.now bound.now) }
 {
     let mut new = bound.try_clone_with(BoundRef::try_clone)?.into_vec();
-    new.retain(|other| !same_entry(entry, other));
+    new.retain(|other| !same_listing_entry(entry, other));
     Ok(List::from_vec(new))
 }
 
@@ -230,7 +236,7 @@ fn with_text_of(
         return Ok(e);
     }
     let alone = without_other_texts(text, &e.bound)?;
-    let bound = with_entry(&alone, entry)?;
+    let bound = with_listing_entry(&alone, entry)?;
     Ok(with_bound(e, bound))
 }
 

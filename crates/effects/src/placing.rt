@@ -5,7 +5,7 @@ ghost use Rattle.std.specs.Cmp.Lexicographic.{slice_cmp};
 ghost use Rattle.std.specs.Option.{unwrap_or};
 ghost use Rattle.std.specs.Ordering.{nat_cmp};
 ghost use Rattle.frac_keys.specs.Rising.{ends_rise, lies_between};
-ghost use Rattle.elem.specs.Drawn.{Drawn};
+ghost use Rattle.elem.specs.ElementValue.{ElementValue};
 ghost use Rattle.view.specs.Shown.{HaveRisingKeys};
 ghost use Rattle.effects.specs.Placing as placing;
 ghost use Rattle.effects.specs.Placing.{others, key_within, key_at, gap_of, with_key_of};
@@ -41,7 +41,7 @@ pub(crate) fn keys_of(alloc: Global, elements: &[Element]) -> Result<Keys, Alloc
 
 /// Adds the key of one more element.
 fn note_key(keys: &mut Keys, e: &Element) -> Result<(), AllocError>
-    ensures { OnOk result ((elements : Items Drawn) → HasKeys keys.old elements → HasKeys keys.new (elements ++ e.now ∷ [])) }
+    ensures { OnOk result ((elements : Items ElementValue) → HasKeys keys.old elements → HasKeys keys.new (elements ++ e.now ∷ [])) }
 {
     if keys.get(&e.id).is_some() {
         return Ok(());

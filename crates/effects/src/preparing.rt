@@ -6,14 +6,14 @@ ghost use Rattle.std.specs.Cmp.Lexicographic.{slice_cmp};
 ghost use Rattle.std.specs.Option.{option_flatten};
 ghost use Rattle.std.specs.Ordering.{nat_cmp};
 ghost use Rattle.scene_json.specs.Value.{IsCompact};
-ghost use Rattle.elem.specs.Drawn.{Drawn};
+ghost use Rattle.elem.specs.ElementValue.{ElementValue};
 ghost use Rattle.elem.specs.Facts.{IsBinding};
 ghost use Rattle.links.specs.Names.{is_id, target_of};
 ghost use Rattle.view.specs.Shown.{HaveRisingKeys};
 ghost use Rattle.effects.specs.Limits.{IsWithinLimits, IsRest};
 ghost use Rattle.effects.specs.Linking as linking;
 ghost use Rattle.effects.specs.Naming.{apart_from};
-ghost use Rattle.effects.specs.Prepared.{made_by, HasIds, IsSound, Prepares};
+ghost use Rattle.effects.specs.Prepared.{made_by, HasIds, IsSoundEffect, Prepares};
 ghost use Rattle.effects.specs.Refusals.{guarded};
 ghost use Rattle.effects.specs.Settings.{is_protected};
 ghost use Rattle.effects.specs.declared.command.Command.TheVariants as commands;
@@ -70,7 +70,7 @@ fn settle(
     element: &Element,
     spot: &Spot,
 ) -> Result<Effect, AllocError>
-    ensures { IfOk result (λ made. (stored : Items Drawn) → Prepares stored shown.now (commands.Create element.now spot.now) made) }
+    ensures { IfOk result (λ made. (stored : Items ElementValue) → Prepares stored shown.now (commands.Create element.now spot.now) made) }
 {
     let keys = keys_of(alloc, shown)?;
     Ok(Effect::Settle { keys })
@@ -80,7 +80,7 @@ fn settle(
 fn set(id: &Text, member: &Text, value: &Raw) -> Result<Effect, AllocError>
     requires open { is_protected member.now ≡ false }
     requires nests { IsCompact 100 value.now }
-    ensures { IfOk result (λ made. (stored view : Items Drawn) → Prepares stored view (commands.Set id.now member.now value.now) made) }
+    ensures { IfOk result (λ made. (stored view : Items ElementValue) → Prepares stored view (commands.Set id.now member.now value.now) made) }
 {
     let id = id.try_clone()?;
     let member = member.try_clone()?;
@@ -90,7 +90,7 @@ fn set(id: &Text, member: &Text, value: &Raw) -> Result<Effect, AllocError>
 
 /// The effect of deleting elements.
 fn delete(alloc: Global, ids: &List<Text>) -> Result<Effect, AllocError>
-    ensures { IfOk result (λ made. (stored view : Items Drawn) → Prepares stored view (commands.Delete ids.now) made) }
+    ensures { IfOk result (λ made. (stored view : Items ElementValue) → Prepares stored view (commands.Delete ids.now) made) }
 {
     let ids = set_of(alloc, ids)?;
     Ok(Effect::Delete { ids })
@@ -98,7 +98,7 @@ fn delete(alloc: Global, ids: &List<Text>) -> Result<Effect, AllocError>
 
 /// The effect of putting elements in a frame.
 fn frame_in(alloc: Global, ids: &List<Text>, frame: &Text) -> Result<Effect, AllocError>
-    ensures { IfOk result (λ made. (stored view : Items Drawn) → Prepares stored view (commands.Frame ids.now frame.now) made) }
+    ensures { IfOk result (λ made. (stored view : Items ElementValue) → Prepares stored view (commands.Frame ids.now frame.now) made) }
 {
     let ids = set_of(alloc, ids)?;
     let frame = Some(frame.try_clone()?);
@@ -107,7 +107,7 @@ fn frame_in(alloc: Global, ids: &List<Text>, frame: &Text) -> Result<Effect, All
 
 /// The effect of taking elements out of their frames.
 fn unframe(alloc: Global, ids: &List<Text>) -> Result<Effect, AllocError>
-    ensures { IfOk result (λ made. (stored view : Items Drawn) → Prepares stored view (commands.Unframe ids.now) made) }
+    ensures { IfOk result (λ made. (stored view : Items ElementValue) → Prepares stored view (commands.Unframe ids.now) made) }
 {
     let ids = set_of(alloc, ids)?;
     Ok(Effect::Frame { ids, frame: None })
@@ -115,7 +115,7 @@ fn unframe(alloc: Global, ids: &List<Text>) -> Result<Effect, AllocError>
 
 /// The effect of putting elements in a group.
 fn group_in(alloc: Global, ids: &List<Text>, group: &Text) -> Result<Effect, AllocError>
-    ensures { IfOk result (λ made. (stored view : Items Drawn) → Prepares stored view (commands.Group ids.now group.now) made) }
+    ensures { IfOk result (λ made. (stored view : Items ElementValue) → Prepares stored view (commands.Group ids.now group.now) made) }
 {
     let ids = set_of(alloc, ids)?;
     let group = group.try_clone()?;
@@ -124,7 +124,7 @@ fn group_in(alloc: Global, ids: &List<Text>, group: &Text) -> Result<Effect, All
 
 /// The effect of taking elements out of a group.
 fn ungroup(alloc: Global, ids: &List<Text>, group: &Text) -> Result<Effect, AllocError>
-    ensures { IfOk result (λ made. (stored view : Items Drawn) → Prepares stored view (commands.Ungroup ids.now group.now) made) }
+    ensures { IfOk result (λ made. (stored view : Items ElementValue) → Prepares stored view (commands.Ungroup ids.now group.now) made) }
 {
     let ids = set_of(alloc, ids)?;
     let group = group.try_clone()?;
@@ -145,7 +145,7 @@ fn set_of(alloc: Global, ids: &List<Text>) -> Result<BTreeSet<Text>, AllocError>
 /// The effect of placing an element.
 fn place(alloc: Global, shown: &[Element], id: &Text, spot: &Spot) -> Result<Effect, AllocError>
     requires { HaveRisingKeys shown.now }
-    ensures { IfOk result (λ made. (stored : Items Drawn) → Prepares stored shown.now (commands.Place id.now spot.now) made) }
+    ensures { IfOk result (λ made. (stored : Items ElementValue) → Prepares stored shown.now (commands.Place id.now spot.now) made) }
 {
     let keys = keys_of(alloc, shown)?;
     let old = key_in(&keys, id)?;
@@ -173,7 +173,7 @@ fn bind(
     rest: &List<Member>,
 ) -> Result<Effect, AllocError>
     requires { IsRest rest.now }
-    ensures { IfOk result (λ made. (view : Items Drawn) → Prepares store.now.elements view (commands.Bind arrow.now side target.now rest.now) made) }
+    ensures { IfOk result (λ made. (view : Items ElementValue) → Prepares store.now.elements view (commands.Bind arrow.now side target.now rest.now) made) }
 {
     let binding = Binding {
         target: target.try_clone()?,
@@ -184,7 +184,7 @@ fn bind(
 
 /// The effect of unbinding an end of an arrow.
 fn unbind(store: &Store, arrow: &Text, side: Side) -> Result<Effect, AllocError>
-    ensures { IfOk result (λ made. (view : Items Drawn) → Prepares store.now.elements view (commands.Unbind arrow.now side) made) }
+    ensures { IfOk result (λ made. (view : Items ElementValue) → Prepares store.now.elements view (commands.Unbind arrow.now side) made) }
 {
     link(store, arrow, side, None)
 }
@@ -197,8 +197,8 @@ fn link(
     binding: Option<Binding>,
 ) -> Result<Effect, AllocError>
     requires { IfSome binding IsBinding }
-    ensures exact { IfOk result (λ prepared. (e : Drawn) → made_by prepared e ≡ linking.bound_to arrow.now side binding (linking.old_target store.now.elements arrow.now side) e) }
-    ensures sound { IfOk result IsSound }
+    ensures exact { IfOk result (λ prepared. (e : ElementValue) → made_by prepared e ≡ linking.bound_to arrow.now side binding (linking.old_target store.now.elements arrow.now side) e) }
+    ensures sound { IfOk result IsSoundEffect }
 {
     let old = old_target(store, arrow, side)?;
     let old = apart_from_target(&binding, old);
@@ -277,7 +277,7 @@ fn apart_from_target(binding: &Option<Binding>, id: Option<Text>) -> Option<Text
 
 /// The effect of a text's new container.
 fn label(store: &Store, container: &Text, text: &Text) -> Result<Effect, AllocError>
-    ensures { IfOk result (λ made. (view : Items Drawn) → Prepares store.now.elements view (commands.Label container.now text.now) made) }
+    ensures { IfOk result (λ made. (view : Items ElementValue) → Prepares store.now.elements view (commands.Label container.now text.now) made) }
 {
     let old = old_container(store, text)?;
     let old = apart_from_id(container, old);
@@ -305,7 +305,7 @@ fn apart_from_id(other: &Text, id: Option<Text>) -> Option<Text>
 
 /// The effect of taking a text out of its container.
 fn unlabel(store: &Store, text: &Text) -> Result<Effect, AllocError>
-    ensures { IfOk result (λ made. (view : Items Drawn) → Prepares store.now.elements view (commands.Unlabel text.now) made) }
+    ensures { IfOk result (λ made. (view : Items ElementValue) → Prepares store.now.elements view (commands.Unlabel text.now) made) }
 {
     let old = old_container(store, text)?;
     let entry = entry_of(text, Role::Text)?;

@@ -6,7 +6,7 @@ ghost use Rattle.std.specs.Option.{option_map_or};
 ghost use Rattle.scene_json.specs.Value.{IsCompact};
 ghost use Rattle.frac_keys.specs.Keys.{bytes_less};
 ghost use Rattle.delta.specs.Rest.{with_value};
-ghost use Rattle.effects.specs.Settings.{given_value, with_member, is_protected};
+ghost use Rattle.effects.specs.Settings.{given_value, with_set_member, is_protected};
 
 use board_io::List;
 use elem::Element;
@@ -49,7 +49,7 @@ pub(crate) fn with_member(
 ) -> Result<Element, AllocError>
     requires free { is_protected name.now ≡ false }
     requires nests { IsCompact 100 value.now }
-    ensures { IfOk result (λ new. new ≡ with_member name.now value.now e.now) }
+    ensures { IfOk result (λ new. new ≡ with_set_member name.now value.now e.now) }
 {
     let value = given_value(alloc, name, value)?;
     let mut members = e.rest.try_clone_with(Member::try_clone)?.into_vec();

@@ -7,7 +7,7 @@ ghost use Rattle.elem.specs.Facts.{greatest_whole};
 ghost use Rattle.effects.specs.Changed as changes;
 ghost use Rattle.effects.specs.Changed.{OnFault, is_full, refusal_at};
 ghost use Rattle.effects.specs.Differing.{differs};
-ghost use Rattle.effects.specs.Prepared.{made_by, IsSound};
+ghost use Rattle.effects.specs.Prepared.{made_by, IsSoundEffect};
 
 use crate::command::Refusal;
 use crate::effect::Effect;
@@ -28,7 +28,7 @@ pub(crate) fn changes_of(
 ) -> Result<Vec<Element>, Stop<Refusal>>
     requires time { time ≤ greatest_whole }
     requires nonce { nonce ≤ greatest_whole }
-    requires sound { IsSound effect.now }
+    requires sound { IsSoundEffect effect.now }
     ensures changed { IfOk result (λ changed. changed.items ≡ changes.changes_of (made_by effect.now) time nonce store.now.elements) }
     ensures none_full { IfOk result (λ _. find (is_full (made_by effect.now)) store.now.elements ≡ None) }
     ensures full { IfErr result (λ stop. OnFault stop (λ refusal. option_map refusal_at (find (is_full (made_by effect.now)) store.now.elements) ≡ Some refusal)) }
@@ -72,7 +72,7 @@ fn change_of(
 ) -> Result<Option<Element>, Stop<Refusal>>
     requires time { time ≤ greatest_whole }
     requires nonce { nonce ≤ greatest_whole }
-    requires sound { IsSound effect.now }
+    requires sound { IsSoundEffect effect.now }
     ensures changed { IfOk result (λ new. new ≡ changes.change_of (made_by effect.now) time nonce e.now) }
     ensures free { IfOk result (λ _. is_full (made_by effect.now) e.now ≡ false) }
     ensures full { IfErr result (λ stop. OnFault stop (λ refusal. (is_full (made_by effect.now) e.now ≡ true) × (refusal ≡ refusal_at e.now))) }
@@ -88,7 +88,7 @@ fn change_of(
 
 /// What an effect makes of an element, if that changes.
 fn changed(alloc: Global, effect: &Effect, e: &Element) -> Result<Option<Element>, AllocError>
-    requires sound { IsSound effect.now }
+    requires sound { IsSoundEffect effect.now }
     ensures { IfOk result (λ new. new ≡ (if differs e.now (made_by effect.now e.now) then Some (made_by effect.now e.now) else None)) }
 {
     let Some(new) = effect.apply(alloc, e)? else {

@@ -17,7 +17,7 @@ use Rattle.frac_keys.specs.Rising.{are_rising}
 use Rattle.elem.specs.declared.kind.Kind.{Kind}
 use Rattle.elem.specs.declared.kind.Kind.TheVariants.{Rectangle, Diamond, Ellipse, Arrow, Line, Freedraw, Text, Image, Frame, Magicframe, Iframe, Embeddable, Other}
 use Rattle.elem.specs.declared.parts.Binding.{Binding}
-use Rattle.elem.specs.Drawn.{Drawn}
+use Rattle.elem.specs.ElementValue.{ElementValue}
 use Rattle.elem.specs.Facts.{IsElement, IsBinding, header_names, own_names, is_header, names}
 use Rattle.elem.specs.Texts.{header_members, own_members}
 use Rattle.elem.proofs.Sorting.{IsRising, IsRising-from, less_is}
@@ -76,7 +76,7 @@ IsDistinct-header Iframe = IsDistinct-from_count nat_list_eq_equiv _ refl
 IsDistinct-header Embeddable = IsDistinct-from_count nat_list_eq_equiv _ refl
 IsDistinct-header (Other name) = IsDistinct-from_count nat_list_eq_equiv _ refl
 
-names_of-own : (e : Drawn) (kind : Kind) → names_of (own_members e kind) ≡ own_names kind
+names_of-own : (e : ElementValue) (kind : Kind) → names_of (own_members e kind) ≡ own_names kind
 names_of-own e Rectangle = refl
 names_of-own e Diamond = refl
 names_of-own e Ellipse = refl
@@ -91,7 +91,7 @@ names_of-own e Iframe = refl
 names_of-own e Embeddable = refl
 names_of-own e (Other name) = refl
 
-pub names_of-header : (e : Drawn) → names_of (header_members e) ≡ header_names ++ own_names e.kind
+pub names_of-header : (e : ElementValue) → names_of (header_members e) ≡ header_names ++ own_names e.kind
 names_of-header e = ap (λ own. header_names ++ own) (names_of-own e e.kind)
 
 not_header : (kind : Kind) (ys : List (List ℕ)) → AllByRecursion (λ y. is_header kind y ≡ false) ys → AllByRecursion (λ y. list_any (bytes_eq y) (header_names ++ own_names kind) ≡ false) ys
@@ -99,7 +99,7 @@ not_header kind [] h = tt
 not_header kind (y ∷ ys) h = (list_any-append (bytes_eq y) header_names (own_names kind) ∙ h.0, not_header kind ys h.1)
 
 -- ---- the names of an element's members, and of a binding's
-pub IsDistinct-element : (e : Drawn) → IsElement e → IsDistinct bytes_eq (names_of (header_members e ++ pairs e.rest))
+pub IsDistinct-element : (e : ElementValue) → IsElement e → IsDistinct bytes_eq (names_of (header_members e ++ pairs e.rest))
 IsDistinct-element e is =
     let named : names_of (header_members e ++ pairs e.rest) ≡ (header_names ++ own_names e.kind) ++ names e.rest =
     map-append name_of (header_members e) (pairs e.rest) ∙ ap (λ own. own ++ names_of (pairs e.rest)) (names_of-header e)

@@ -27,7 +27,7 @@ use Rattle.elem.specs.declared.kind.Role.TheVariants as roles
 use Rattle.elem.specs.declared.parts.BoundRef.{BoundRef}
 use Rattle.elem.specs.declared.parts.Binding.{Binding}
 use Rattle.elem.specs.Facts.{IsKind, names}
-use Rattle.elem.specs.Forms.{Find, IsText, IsKindName, IsWhole, IsTruth, IsNull, IsTextOrNull, IsKeyOrNull, AreTexts, IsObject, IsEntry, AreEntries, IsListing, AreOthers, IsBindingObject, IsBindingOrNull}
+use Rattle.elem.specs.Forms.{Find, IsText, IsKindName, IsWholeNumber, IsTruth, IsNull, IsTextOrNull, IsKeyOrNull, AreTexts, IsObject, IsListingEntry, AreListingEntries, IsListing, AreOthers, IsBindingObject, IsBindingOrNull}
 use Rattle.elem.specs.Texts.{kind_name, role_name}
 use Rattle.elem.proofs.Once.{quote-once, quotes-once, array-once, object-once}
 use Rattle.elem.proofs.Sorting.{IsRising, IsRising-from, less_is}
@@ -36,7 +36,7 @@ use Rattle.elem.proofs.Sorting.{IsRising, IsRising-from, less_is}
 pub text-once : (found : Option (List ℕ)) (a b : List ℕ) → IsText found a → IsText found b → a ≡ b
 text-once found a b one two = let same : quote a ≡ quote b = let e = one.1 in let f = two.1 in cc in quote-once a b one.0 two.0 same
 
-pub whole-once : (found : Option (List ℕ)) (a b : ℕ) → IsWhole found a → IsWhole found b → a ≡ b
+pub whole-once : (found : Option (List ℕ)) (a b : ℕ) → IsWholeNumber found a → IsWholeNumber found b → a ≡ b
 whole-once found a b one two =
     let e = one.1 in
     let f = two.1 in
@@ -141,7 +141,7 @@ role_of_name-once roles.Text roles.Arrow e = absurd (heads-differ 116 97 _ _ ref
 pub members-once : (value : List ℕ) (ms ns : List Pair) → IsObject value ms → IsObject value ns → ms ≡ ns
 members-once value ms ns one two = object-once ms ns one.are_members two.are_members (sym one.spelled ∙ two.spelled)
 
-entry-once : (item : List ℕ) (a b : BoundRef) → IsEntry item a → IsEntry item b → a ≡ b
+entry-once : (item : List ℕ) (a b : BoundRef) → IsListingEntry item a → IsListingEntry item b → a ≡ b
 entry-once item a b one two =
     let same = members-once item one.members two.members one.object two.object in
     let id : IsText (value_at (codes "id") one.members) b.id = subst (λ ms. IsText (value_at (codes "id") ms) b.id) (sym same) two.id in
@@ -150,7 +150,7 @@ entry-once item a b one two =
     let roles = role_of_name-once a.role b.role (text-once _ _ _ one.role role) in
     λ i. record { id = ids i; role = roles i }
 
-entries-once : (items : List (List ℕ)) (xs ys : List BoundRef) → AreEntries items xs → AreEntries items ys → xs ≡ ys
+entries-once : (items : List (List ℕ)) (xs ys : List BoundRef) → AreListingEntries items xs → AreListingEntries items ys → xs ≡ ys
 entries-once [] xs ys one two = one ∙ sym two
 entries-once (item ∷ items) xs ys (inl (x, more, is, entry, others)) (inl (y, rest, are, other, next)) =
     is ∙ (ap₂ (λ z zs. z ∷ zs) (entry-once item x y entry other) (entries-once items more rest others next) ∙ sym are)
@@ -162,7 +162,7 @@ pub listing-once : (found : Option (List ℕ)) (xs ys : List BoundRef) → IsLis
 listing-once found xs ys (vs, first, is, entries) (ws, second, are, others) =
     let text : array_text vs ≡ array_text ws = cc in
     let same = array-once vs ws first second text in
-    entries-once vs xs ys entries (subst (λ items. AreEntries items ys) (sym same) others)
+    entries-once vs xs ys entries (subst (λ items. AreListingEntries items ys) (sym same) others)
 
 -- ---- further members
 pub rising-names : (ms : List Pair) → IsRising ms → HaveRisingNames ms

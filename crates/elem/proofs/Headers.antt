@@ -14,7 +14,7 @@ use Rattle.frac_keys.specs.Rising.{are_rising}
 use Rattle.elem.specs.declared.kind.Kind.{Kind}
 use Rattle.elem.specs.declared.kind.Kind.TheVariants.{Rectangle, Diamond, Ellipse, Arrow, Line, Freedraw, Text, Image, Frame, Magicframe, Iframe, Embeddable, Other}
 use Rattle.elem.specs.declared.parts.Binding.{Binding}
-use Rattle.elem.specs.Drawn.{Drawn}
+use Rattle.elem.specs.ElementValue.{ElementValue}
 use Rattle.elem.specs.Facts.{IsElement, IsBinding}
 use Rattle.elem.specs.Printing.{header_pair, headers_of, AreSound}
 use Rattle.elem.specs.Texts.{kind_name, truth_text, text_or_null, bound_text, own_members, header_members, sorted_members, element_members}
@@ -23,11 +23,11 @@ use Rattle.elem.proofs.Merging.{merged-sorted, length-merged, sound-compact}
 use Rattle.elem.specs.Printing.{merged}
 use Rattle.elem.proofs.Sorting.{IsRising, IsRising-from, IsRising-sorted, IsPermutation-sorted}
 
-abbrev pub header_pairs : Drawn → Kind → List Pair
+abbrev pub header_pairs : ElementValue → Kind → List Pair
 header_pairs e kind = map (header_pair e) (headers_of kind)
 
 -- the header members of all kinds and those of this one
-abbrev with_own : Drawn → Kind → List Pair
+abbrev with_own : ElementValue → Kind → List Pair
 with_own e kind =
     (codes "id", quote e.id) ∷ (codes "type", quote (kind_name e.kind))
     ∷ (codes "version", decimal e.version) ∷ (codes "versionNonce", decimal e.nonce) ∷ (codes "updated", decimal e.updated)
@@ -35,7 +35,7 @@ with_own e kind =
     ∷ (codes "groupIds", array_text (map quote e.groups)) ∷ (codes "frameId", text_or_null e.frame)
     ∷ (codes "boundElements", array_text (map bound_text e.bound)) ∷ own_members e kind
 
-sorted-headers : (e : Drawn) (kind : Kind) → sorted_members (with_own e kind) ≡ header_pairs e kind
+sorted-headers : (e : ElementValue) (kind : Kind) → sorted_members (with_own e kind) ≡ header_pairs e kind
 sorted-headers e Rectangle = refl
 sorted-headers e Diamond = refl
 sorted-headers e Ellipse = refl
@@ -50,24 +50,24 @@ sorted-headers e Iframe = refl
 sorted-headers e Embeddable = refl
 sorted-headers e (Other name) = refl
 
-headers-rise : (e : Drawn) → IsRising (header_pairs e e.kind)
+headers-rise : (e : ElementValue) → IsRising (header_pairs e e.kind)
 headers-rise e =
     subst IsRising (sorted-headers e e.kind)
     (IsRising-sorted (header_members e) (subst (IsDistinct bytes_eq) (sym (names_of-header e)) (IsDistinct-header e.kind)))
 
-headers-moved : (e : Drawn) → IsPermutation (header_members e) (header_pairs e e.kind)
+headers-moved : (e : ElementValue) → IsPermutation (header_members e) (header_pairs e e.kind)
 headers-moved e = subst (IsPermutation (header_members e)) (sorted-headers e e.kind) (IsPermutation-sorted (header_members e))
 
 -- the members of an element
-rest-rises : (e : Drawn) → IsElement e → IsRising (pairs e.rest)
+rest-rises : (e : ElementValue) → IsElement e → IsRising (pairs e.rest)
 rest-rises e is = IsRising-from (pairs e.rest) (ap are_rising (names-pairs e.rest) ∙ is.rise)
 
-pub merged-element : (e : Drawn) → IsElement e → merged (header_pairs e e.kind) e.rest ≡ element_members e
+pub merged-element : (e : ElementValue) → IsElement e → merged (header_pairs e e.kind) e.rest ≡ element_members e
 unfolding element_members
 merged-element e is =
     merged-sorted (header_members e) (header_pairs e e.kind) e.rest (headers-moved e) (headers-rise e) (rest-rises e is) (IsDistinct-element e is)
 
-pub element-rises : (e : Drawn) → IsElement e → IsRising (element_members e)
+pub element-rises : (e : ElementValue) → IsElement e → IsRising (element_members e)
 unfolding element_members
 element-rises e is = IsRising-sorted (header_members e ++ pairs e.rest) (IsDistinct-element e is)
 
@@ -88,7 +88,7 @@ pub binding-rises : (binding : Binding) → IsBinding binding → IsRising (sort
 binding-rises binding is = IsRising-sorted (target_pair binding ∷ pairs binding.rest) (distinct binding is)
 
 -- the object of an element's members
-pub element-compact : (e : Drawn) → IsElement e → AreSound 119 (element_members e) → IsCompact 120 (object_text (element_members e))
+pub element-compact : (e : ElementValue) → IsElement e → AreSound 119 (element_members e) → IsCompact 120 (object_text (element_members e))
 element-compact e is sound = sound-compact 119 (element_members e) sound (element-rises e is)
 
 -- there is a header member
@@ -96,11 +96,11 @@ some : (hs : List Pair) (rest : List Member) → 0 < length hs → 0 < length (m
 some [] rest h = absurd (omega arith)
 some (p ∷ ps) rest h = length-merged p ps rest
 
-headers : (e : Drawn) (kind : Kind) → 0 < length (header_pairs e kind)
+headers : (e : ElementValue) (kind : Kind) → 0 < length (header_pairs e kind)
 headers e Text = omega arith
 headers e Arrow = omega arith
 headers e Image = omega arith
 headers e _ = omega arith
 
-pub length-members : (e : Drawn) → 0 < length (merged (header_pairs e e.kind) e.rest)
+pub length-members : (e : ElementValue) → 0 < length (merged (header_pairs e e.kind) e.rest)
 length-members e = some (header_pairs e e.kind) e.rest (headers e e.kind)

@@ -6,21 +6,21 @@ use Rattle.std.specs.Str.{IsAscii}
 use Rattle.std.proofs.lemmas.Bool.{and_parts}
 use Rattle.std.proofs.lemmas.Bool.Decides.{nat_tests}
 use Rattle.std.proofs.lemmas.Str.{IsUtf8-from_ascii}
-use Rattle.frac_keys.specs.Digits.{is_digit}
+use Rattle.frac_keys.specs.Digits.{is_key_digit}
 use Rattle.frac_keys.specs.Keys.{is_key}
 
 letter_small : (b : ℕ) → is_ascii_alphabetic b ≡ true → b < 128
 letter_small b h = grind (arith, nat_tests)
 
-digit_small : (b : ℕ) → is_digit b ≡ true → b < 128
+digit_small : (b : ℕ) → is_key_digit b ≡ true → b < 128
 digit_small b h = grind (arith, nat_tests)
 
-digits_ascii : (bs : List ℕ) → list_all is_digit bs ≡ true → IsAscii bs
+digits_ascii : (bs : List ℕ) → list_all is_key_digit bs ≡ true → IsAscii bs
 digits_ascii [] h i = omega arith
 digits_ascii (b ∷ bs) h zero = digit_small b (and_parts _ _ h).0
 digits_ascii (b ∷ bs) h (suc i) = digits_ascii bs (and_parts _ _ h).1 i
 
-key_ascii : (b : ℕ) (bs : List ℕ) → is_ascii_alphabetic b ≡ true → list_all is_digit bs ≡ true → IsAscii (b ∷ bs)
+key_ascii : (b : ℕ) (bs : List ℕ) → is_ascii_alphabetic b ≡ true → list_all is_key_digit bs ≡ true → IsAscii (b ∷ bs)
 key_ascii b bs letter digits zero = letter_small b letter
 key_ascii b bs letter digits (suc i) = digits_ascii bs digits i
 

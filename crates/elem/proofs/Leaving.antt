@@ -8,10 +8,10 @@ use Rattle.scene_json.specs.Members.{pair_of}
 use Rattle.scene_json.specs.declared.text.Member.{Member}
 use Rattle.frac_keys.specs.Keys.{bytes_less}
 use Rattle.elem.specs.declared.parts.Binding.{Binding}
-use Rattle.elem.specs.Drawn.{Drawn}
+use Rattle.elem.specs.ElementValue.{ElementValue}
 use Rattle.elem.specs.Facts.{IsElement, IsBinding}
 use Rattle.elem.specs.Left.{list_left, object_left, Splits}
-use Rattle.elem.specs.Printing.{front, back, merged, header_pair, headers_of}
+use Rattle.elem.specs.Printing.{members_below, members_not_below, merged, header_pair, headers_of}
 use Rattle.elem.specs.Texts.{binding_text, element_text}
 use Rattle.elem.proofs.Headers.{merged-element, merged-binding}
 
@@ -39,21 +39,21 @@ pub merged-below : (h : Pair) (hs : List Pair) (m : Member) (ms : List Member) �
 merged-below h hs m ms below = rw below refl
 
 -- no other comes before a header member
-back_all : (name : List ℕ) (ms : List Member) → front name ms ≡ [] → back name ms ≡ ms
+back_all : (name : List ℕ) (ms : List Member) → members_below name ms ≡ [] → members_not_below name ms ≡ ms
 back_all name [] none = refl
 back_all name (m ∷ ms) none = elim (cases_Bool (bytes_less m.name name)) [
-  | inl e ↦ absurd (let some : m ∷ front name ms ≡ [] = rw e at none in cc)
+  | inl e ↦ absurd (let some : m ∷ members_below name ms ≡ [] = rw e at none in cc)
   | inr e ↦ rw e refl
 ]
 
-pub merged-header : (h : Pair) (hs : List Pair) (ms : List Member) → front h.0 ms ≡ [] → merged (h ∷ hs) ms ≡ h ∷ merged hs ms
+pub merged-header : (h : Pair) (hs : List Pair) (ms : List Member) → members_below h.0 ms ≡ [] → merged (h ∷ hs) ms ≡ h ∷ merged hs ms
 merged-header h hs ms none = rw (none, back_all h.0 ms none) refl
 
 -- ---- the whole texts
 pub binding_left : (binding : Binding) → IsBinding binding → object_left true ((codes "elementId", quote binding.target) ∷ []) binding.rest ≡ binding_text (Some binding)
 binding_left binding is = ap (λ ms. list_left 123 125 true (map member_text ms)) (merged-binding binding is) ∙ object_left_whole _
 
-pub element_left : (e : Drawn) → IsElement e → object_left true (map (header_pair e) (headers_of e.kind)) e.rest ≡ element_text e
+pub element_left : (e : ElementValue) → IsElement e → object_left true (map (header_pair e) (headers_of e.kind)) e.rest ≡ element_text e
 element_left e is = ap (λ ms. list_left 123 125 true (map member_text ms)) (merged-element e is) ∙ object_left_whole _
 
 pub entry_left : (id role : List ℕ) → 123 ∷ (quote (codes "id") ++ 58 ∷ (quote id ++ 44 ∷ (member_text (codes "type", role) ++ 125 ∷ []))) ≡ object_text ((codes "id", quote id) ∷ (codes "type", role) ∷ [])
@@ -66,7 +66,7 @@ entry_left id role =
     ∙ ap (λ t. t ++ 125 ∷ []) (sym (append_assoc (quote (codes "id")) (58 ∷ quote id) (44 ∷ kind))))
 
 -- ---- a header member
-pub header-splits : (first : Bool) (h : Pair) (hs : List Pair) (ms : List Member) (piece more : List ℕ) → front h.0 ms ≡ []
+pub header-splits : (first : Bool) (h : Pair) (hs : List Pair) (ms : List Member) (piece more : List ℕ) → members_below h.0 ms ≡ []
     → Splits ((if first then 123 else 44) ∷ member_text h) piece more → Splits (object_left first (h ∷ hs) ms) piece (more ++ object_left false hs ms)
 header-splits first h hs ms piece more none is =
     let left = object_left false hs ms in

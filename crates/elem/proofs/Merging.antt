@@ -18,7 +18,7 @@ use Rattle.scene_json.proofs.Collapsed.{names_of}
 use Rattle.scene_json.proofs.CompactLaws.{object-compact}
 use Rattle.scene_json.proofs.Quoting.{join-push}
 use Rattle.frac_keys.specs.Keys.{bytes_less}
-use Rattle.elem.specs.Printing.{opened, IsBegun, mark, front, back, merged, AreSound}
+use Rattle.elem.specs.Printing.{opened, IsBegun, mark, members_below, members_not_below, merged, AreSound}
 use Rattle.elem.specs.Texts.{sorted_members}
 use Rattle.elem.proofs.Distinct.{IsDistinct-rising, AllByRecursion-append}
 use Rattle.elem.proofs.Sorting.{IsRising, IsRising-sorted, IsPermutation-sorted, AllByRecursion-weaker, bytes_less-trans, bytes_less-turned, same_rising}
@@ -66,66 +66,66 @@ closed before [] out done some is last = absurd (omega arith)
 closed before (m ∷ ms) out done some is last = last ∙ ap (λ o. o ++ 125 ∷ []) is ∙ append_assoc before (opened (m ∷ ms)) (125 ∷ [])
 
 -- ---- the members below a name, and the others
-pub front-take : (name : List ℕ) (ms : List Member) → take (prefix_len (λ (m : Member). bytes_less m.name name) ms) ms ≡ front name ms
-front-take name [] = refl
-front-take name (m ∷ ms) = elim (cases_Bool (bytes_less m.name name)) [
-  | inl e ↦ rw (e, one-add) (ap (λ others. m ∷ others) (front-take name ms))
+pub members_below-take : (name : List ℕ) (ms : List Member) → take (prefix_len (λ (m : Member). bytes_less m.name name) ms) ms ≡ members_below name ms
+members_below-take name [] = refl
+members_below-take name (m ∷ ms) = elim (cases_Bool (bytes_less m.name name)) [
+  | inl e ↦ rw (e, one-add) (ap (λ others. m ∷ others) (members_below-take name ms))
   | inr e ↦ rw e refl
 ]
 
-pub back-drop : (name : List ℕ) (ms : List Member) → drop (prefix_len (λ (m : Member). bytes_less m.name name) ms) ms ≡ back name ms
-back-drop name [] = refl
-back-drop name (m ∷ ms) = elim (cases_Bool (bytes_less m.name name)) [
-  | inl e ↦ rw (e, one-add) (back-drop name ms)
+pub members_not_below-drop : (name : List ℕ) (ms : List Member) → drop (prefix_len (λ (m : Member). bytes_less m.name name) ms) ms ≡ members_not_below name ms
+members_not_below-drop name [] = refl
+members_not_below-drop name (m ∷ ms) = elim (cases_Bool (bytes_less m.name name)) [
+  | inl e ↦ rw (e, one-add) (members_not_below-drop name ms)
   | inr e ↦ rw e refl
 ]
 
-front-back : (name : List ℕ) (ms : List Member) → pairs (front name ms) ++ pairs (back name ms) ≡ pairs ms
-front-back name [] = refl
-front-back name (m ∷ ms) = elim (cases_Bool (bytes_less m.name name)) [
-  | inl e ↦ rw e (ap (λ others. pair_of m ∷ others) (front-back name ms))
+members_below-members_not_below : (name : List ℕ) (ms : List Member) → pairs (members_below name ms) ++ pairs (members_not_below name ms) ≡ pairs ms
+members_below-members_not_below name [] = refl
+members_below-members_not_below name (m ∷ ms) = elim (cases_Bool (bytes_less m.name name)) [
+  | inl e ↦ rw e (ap (λ others. pair_of m ∷ others) (members_below-members_not_below name ms))
   | inr e ↦ rw e refl
 ]
 
-front-less : (name : List ℕ) (ms : List Member) → AllByRecursion (λ (m : Pair). bytes_less m.0 name ≡ true) (pairs (front name ms))
-front-less name [] = tt
-front-less name (m ∷ ms) = elim (cases_Bool (bytes_less m.name name)) [
-  | inl e ↦ rw e (e, front-less name ms)
+members_below-less : (name : List ℕ) (ms : List Member) → AllByRecursion (λ (m : Pair). bytes_less m.0 name ≡ true) (pairs (members_below name ms))
+members_below-less name [] = tt
+members_below-less name (m ∷ ms) = elim (cases_Bool (bytes_less m.name name)) [
+  | inl e ↦ rw e (e, members_below-less name ms)
   | inr e ↦ rw e tt
 ]
 
-pub front-all : (P : Pair → Type 0) (name : List ℕ) (ms : List Member) → AllByRecursion P (pairs ms) → AllByRecursion P (pairs (front name ms))
-front-all P name [] h = tt
-front-all P name (m ∷ ms) h = elim (cases_Bool (bytes_less m.name name)) [
-  | inl e ↦ rw e (h.0, front-all P name ms h.1)
+pub members_below-all : (P : Pair → Type 0) (name : List ℕ) (ms : List Member) → AllByRecursion P (pairs ms) → AllByRecursion P (pairs (members_below name ms))
+members_below-all P name [] h = tt
+members_below-all P name (m ∷ ms) h = elim (cases_Bool (bytes_less m.name name)) [
+  | inl e ↦ rw e (h.0, members_below-all P name ms h.1)
   | inr e ↦ rw e tt
 ]
 
-pub back-all : (P : Pair → Type 0) (name : List ℕ) (ms : List Member) → AllByRecursion P (pairs ms) → AllByRecursion P (pairs (back name ms))
-back-all P name [] h = tt
-back-all P name (m ∷ ms) h = elim (cases_Bool (bytes_less m.name name)) [
-  | inl e ↦ rw e (back-all P name ms h.1)
+pub members_not_below-all : (P : Pair → Type 0) (name : List ℕ) (ms : List Member) → AllByRecursion P (pairs ms) → AllByRecursion P (pairs (members_not_below name ms))
+members_not_below-all P name [] h = tt
+members_not_below-all P name (m ∷ ms) h = elim (cases_Bool (bytes_less m.name name)) [
+  | inl e ↦ rw e (members_not_below-all P name ms h.1)
   | inr e ↦ rw e h
 ]
 
-IsRising-front : (name : List ℕ) (ms : List Member) → IsRising (pairs ms) → IsRising (pairs (front name ms))
-IsRising-front name [] rise = tt
-IsRising-front name (m ∷ ms) rise = elim (cases_Bool (bytes_less m.name name)) [
-  | inl e ↦ rw e (front-all (λ n. bytes_less m.name n.0 ≡ true) name ms rise.0, IsRising-front name ms rise.1)
+IsRising-members_below : (name : List ℕ) (ms : List Member) → IsRising (pairs ms) → IsRising (pairs (members_below name ms))
+IsRising-members_below name [] rise = tt
+IsRising-members_below name (m ∷ ms) rise = elim (cases_Bool (bytes_less m.name name)) [
+  | inl e ↦ rw e (members_below-all (λ n. bytes_less m.name n.0 ≡ true) name ms rise.0, IsRising-members_below name ms rise.1)
   | inr e ↦ rw e tt
 ]
 
-IsRising-back : (name : List ℕ) (ms : List Member) → IsRising (pairs ms) → IsRising (pairs (back name ms))
-IsRising-back name [] rise = tt
-IsRising-back name (m ∷ ms) rise = elim (cases_Bool (bytes_less m.name name)) [
-  | inl e ↦ rw e (IsRising-back name ms rise.1)
+IsRising-members_not_below : (name : List ℕ) (ms : List Member) → IsRising (pairs ms) → IsRising (pairs (members_not_below name ms))
+IsRising-members_not_below name [] rise = tt
+IsRising-members_not_below name (m ∷ ms) rise = elim (cases_Bool (bytes_less m.name name)) [
+  | inl e ↦ rw e (IsRising-members_not_below name ms rise.1)
   | inr e ↦ rw e rise
 ]
 
-back-greater : (name : List ℕ) (ms : List Member) → IsRising (pairs ms) → AllByRecursion (λ (m : Pair). bytes_eq name m.0 ≡ false) (pairs ms) → AllByRecursion (λ (m : Pair). bytes_less name m.0 ≡ true) (pairs (back name ms))
-back-greater name [] rise apart = tt
-back-greater name (m ∷ ms) rise apart = elim (cases_Bool (bytes_less m.name name)) [
-  | inl e ↦ rw e (back-greater name ms rise.1 apart.1)
+members_not_below-greater : (name : List ℕ) (ms : List Member) → IsRising (pairs ms) → AllByRecursion (λ (m : Pair). bytes_eq name m.0 ≡ false) (pairs ms) → AllByRecursion (λ (m : Pair). bytes_less name m.0 ≡ true) (pairs (members_not_below name ms))
+members_not_below-greater name [] rise apart = tt
+members_not_below-greater name (m ∷ ms) rise apart = elim (cases_Bool (bytes_less m.name name)) [
+  | inl e ↦ rw e (members_not_below-greater name ms rise.1 apart.1)
   | inr e ↦
       let first = bytes_less-turned name m.name apart.0 e in
       rw e (first, AllByRecursion-weaker _ _ (pairs ms) (λ o above. bytes_less-trans name m.name o.0 first above) rise.0)
@@ -138,19 +138,19 @@ exchanged xs ys zs =
     (subst (IsPermutation ((xs ++ ys) ++ zs)) (append_assoc ys xs zs) (IsPermutation-append_left zs (xs ++ ys) (ys ++ xs) (IsPermutation-append_comm xs ys)))
 
 -- the others move behind what is merged
-moved_front : (name : List ℕ) (hs : List Pair) (rest : List Member) → IsPermutation (hs ++ pairs rest) (pairs (front name rest) ++ (hs ++ pairs (back name rest)))
+moved_front : (name : List ℕ) (hs : List Pair) (rest : List Member) → IsPermutation (hs ++ pairs rest) (pairs (members_below name rest) ++ (hs ++ pairs (members_not_below name rest)))
 moved_front name hs rest =
-    subst (λ l. IsPermutation (hs ++ l) (pairs (front name rest) ++ (hs ++ pairs (back name rest)))) (front-back name rest)
-    (exchanged hs (pairs (front name rest)) (pairs (back name rest)))
+    subst (λ l. IsPermutation (hs ++ l) (pairs (members_below name rest) ++ (hs ++ pairs (members_not_below name rest)))) (members_below-members_not_below name rest)
+    (exchanged hs (pairs (members_below name rest)) (pairs (members_not_below name rest)))
 
 pub IsPermutation-merged : (hs : List Pair) (rest : List Member) → IsPermutation (hs ++ pairs rest) (merged hs rest)
 IsPermutation-merged [] rest = IsPermutation-refl (pairs rest)
 IsPermutation-merged (h ∷ hs) rest =
-    let below = pairs (front h.0 rest) in
-    let others = hs ++ pairs (back h.0 rest) in
-    let all = merged hs (back h.0 rest) in
+    let below = pairs (members_below h.0 rest) in
+    let others = hs ++ pairs (members_not_below h.0 rest) in
+    let all = merged hs (members_not_below h.0 rest) in
     IsPermutation-trans _ (h ∷ (below ++ others)) _ (IsPermutation-cons h _ _ (moved_front h.0 hs rest))
-    (IsPermutation-trans _ (h ∷ (below ++ all)) _ (IsPermutation-cons h _ _ (IsPermutation-append_right below others all (IsPermutation-merged hs (back h.0 rest))))
+    (IsPermutation-trans _ (h ∷ (below ++ all)) _ (IsPermutation-cons h _ _ (IsPermutation-append_right below others all (IsPermutation-merged hs (members_not_below h.0 rest))))
     (IsPermutation-sym _ _ (IsPermutation-middle below h all)))
 
 -- a rising list below the first of another one
@@ -181,12 +181,12 @@ pub IsRising-merged : (hs : List Pair) (rest : List Member) → IsRising hs → 
 unfolding IsDistinct
 IsRising-merged [] rest up rise apart = rise
 IsRising-merged (h ∷ hs) rest up rise apart =
-    let others = back h.0 rest in
-    let distinct = distinct_right (pairs (front h.0 rest)) (hs ++ pairs others) (distinct_moved _ _ (moved_front h.0 hs rest) apart.1) in
-    let greater = back-greater h.0 rest rise (apart_right (λ y. bytes_eq h.0 y ≡ false) hs (pairs rest) apart.0) in
+    let others = members_not_below h.0 rest in
+    let distinct = distinct_right (pairs (members_below h.0 rest)) (hs ++ pairs others) (distinct_moved _ _ (moved_front h.0 hs rest) apart.1) in
+    let greater = members_not_below-greater h.0 rest rise (apart_right (λ y. bytes_eq h.0 y ≡ false) hs (pairs rest) apart.0) in
     let above = moved_all _ _ _ (IsPermutation-merged hs others) (AllByRecursion-append _ hs (pairs others) up.0 greater) in
-    rising_before (pairs (front h.0 rest)) h (merged hs others) (IsRising-front h.0 rest rise) (front-less h.0 rest)
-    (above, IsRising-merged hs others up.1 (IsRising-back h.0 rest rise) distinct)
+    rising_before (pairs (members_below h.0 rest)) h (merged hs others) (IsRising-members_below h.0 rest rise) (members_below-less h.0 rest)
+    (above, IsRising-merged hs others up.1 (IsRising-members_not_below h.0 rest rise) distinct)
 
 -- what is merged is sorted
 pub merged-sorted : (headers hs : List Pair) (rest : List Member) → IsPermutation headers hs → IsRising hs → IsRising (pairs rest) → IsDistinct bytes_eq (names_of (headers ++ pairs rest)) → merged hs rest ≡ sorted_members (headers ++ pairs rest)
@@ -229,21 +229,21 @@ both limit (m ∷ ms) named nest = ((named.0, nest.0), both limit ms named.1 nes
 -- the others below a header member, and that member
 pub merging-step : (limit : ℕ) (before out low done : List ℕ) (h : Pair) (hs : List Pair) (rest left : List Member) (headers : List Pair) (others : List Member)
     → Merging limit before out (h ∷ hs) rest headers others
-    → ((first : List Pair) → IsBegun before first out → IsBegun before (first ++ pairs (front h.0 rest)) low)
-    → left ≡ back h.0 rest → AllByRecursion (λ (m : Member). IsUtf8 m.name) (front h.0 rest)
+    → ((first : List Pair) → IsBegun before first out → IsBegun before (first ++ pairs (members_below h.0 rest)) low)
+    → left ≡ members_not_below h.0 rest → AllByRecursion (λ (m : Member). IsUtf8 m.name) (members_below h.0 rest)
     → ((first : List Pair) → IsBegun before first low → IsBegun before (first ++ h ∷ []) done)
     → IsUtf8 h.0 → IsCompact limit h.1 → Merging limit before done hs left headers others
 merging-step limit before out low done h hs rest left headers others so_far below behind named header text compact =
-    let lower = pairs (front h.0 rest) in
+    let lower = pairs (members_below h.0 rest) in
     record {
       written = (so_far.written ++ lower) ++ h ∷ [];
       begun = header (so_far.written ++ lower) (below so_far.written so_far.begun);
       left = ap (λ l. ((so_far.written ++ lower) ++ h ∷ []) ++ merged hs l) behind
-          ∙ append_assoc (so_far.written ++ lower) (h ∷ []) (merged hs (back h.0 rest))
-          ∙ append_assoc so_far.written lower (h ∷ merged hs (back h.0 rest)) ∙ so_far.left;
+          ∙ append_assoc (so_far.written ++ lower) (h ∷ []) (merged hs (members_not_below h.0 rest))
+          ∙ append_assoc so_far.written lower (h ∷ merged hs (members_not_below h.0 rest)) ∙ so_far.left;
       sound = AllByRecursion-append _ (so_far.written ++ lower) (h ∷ [])
-          (AllByRecursion-append _ so_far.written lower so_far.sound (both limit (front h.0 rest) named (front-all _ h.0 rest so_far.nest))) ((text, compact), tt);
-      nest = subst (λ l. AllByRecursion (λ (m : Pair). IsCompact limit m.1) (pairs l)) (sym behind) (back-all _ h.0 rest so_far.nest);
+          (AllByRecursion-append _ so_far.written lower so_far.sound (both limit (members_below h.0 rest) named (members_below-all _ h.0 rest so_far.nest))) ((text, compact), tt);
+      nest = subst (λ l. AllByRecursion (λ (m : Pair). IsCompact limit m.1) (pairs l)) (sym behind) (members_not_below-all _ h.0 rest so_far.nest);
     }
 
 -- All members, once the others are written.
@@ -263,4 +263,4 @@ merging-closed limit before out last done rest headers others so_far others_too 
     }
 
 pub length-merged : (h : Pair) (hs : List Pair) (rest : List Member) → 0 < length (merged (h ∷ hs) rest)
-length-merged h hs rest = omega (arith, length-append (pairs (front h.0 rest)) (h ∷ merged hs (back h.0 rest)))
+length-merged h hs rest = omega (arith, length-append (pairs (members_below h.0 rest)) (h ∷ merged hs (members_not_below h.0 rest)))

@@ -4,10 +4,10 @@ use Rattle.std.specs.Fmt.{digits}
 use Rattle.scene_json.specs.Characters.{quote}
 use Rattle.scene_json.specs.Compact.{array_text, object_text}
 use Rattle.elem.specs.declared.kind.Kind.TheVariants.{Rectangle}
-use Rattle.elem.specs.Drawn.{Drawn}
+use Rattle.elem.specs.ElementValue.{ElementValue}
 use Rattle.elem.specs.Texts.{element_members, element_text}
 
-r1 : Drawn
+r1 : ElementValue
 r1 = record {
   id = codes "r1";
   kind = Rectangle;

@@ -33,10 +33,10 @@ use Rattle.elem.specs.declared.kind.Role.{Role}
 use Rattle.elem.specs.declared.kind.Role.TheVariants as roles
 use Rattle.elem.specs.declared.parts.BoundRef.{BoundRef}
 use Rattle.elem.specs.declared.parts.Binding.{Binding}
-use Rattle.elem.specs.Drawn.{Drawn}
+use Rattle.elem.specs.ElementValue.{ElementValue}
 use Rattle.elem.specs.Facts.{greatest_whole, header_names, own_names, is_header, IsKind, IsBinding, IsElement, AllNest, names}
-use Rattle.elem.specs.Forms.{Find, find_in, IsTextOrNull, IsKeyOrNull, AreEntries, AreOthers, IsBindingOrNull}
-use Rattle.elem.specs.Said.{is_named, IsOwn, Says, IsBindingText, IsWritten}
+use Rattle.elem.specs.Forms.{Find, find_in, IsTextOrNull, IsKeyOrNull, AreListingEntries, AreOthers, IsBindingOrNull}
+use Rattle.elem.specs.Said.{is_named, IsOwn, Says, IsBindingText, HasValidTexts}
 use Rattle.elem.specs.Texts.{kind_name, role_name, truth_text, text_or_null, bound_text, binding_text, own_members, header_members, sorted_members, element_members, element_text}
 use Rattle.elem.proofs.Distinct.{IsDistinct-element, IsDistinct-binding, names_of-header}
 use Rattle.elem.proofs.FormsOnce.{text-once, whole-once, truth-once, text_or_null-once, key_or_null-once, quotes-compact, texts-once, kind_of_name-once, kind-once, listing-once, others-once, binding-once}
@@ -50,7 +50,7 @@ own-once : {A : Type 0} (own : Bool) (IsForm : Option (List ℕ) → Option A �
 own-once true IsForm found a b once one two = once one two
 own-once false IsForm found a b once one two = one ∙ sym two
 
-drawn-same : (a b : Drawn) → a.id ≡ b.id → a.kind ≡ b.kind → a.version ≡ b.version → a.nonce ≡ b.nonce → a.updated ≡ b.updated → a.deleted ≡ b.deleted → a.index ≡ b.index
+drawn-same : (a b : ElementValue) → a.id ≡ b.id → a.kind ≡ b.kind → a.version ≡ b.version → a.nonce ≡ b.nonce → a.updated ≡ b.updated → a.deleted ≡ b.deleted → a.index ≡ b.index
     → a.groups ≡ b.groups → a.frame ≡ b.frame → a.bound ≡ b.bound → a.container ≡ b.container → a.start_binding ≡ b.start_binding → a.end_binding ≡ b.end_binding → a.file ≡ b.file → a.rest ≡ b.rest → a ≡ b
 drawn-same a b id kind version nonce updated deleted index groups frame bound container start end file rest = λ i. record {
   id = id i;
@@ -70,7 +70,7 @@ drawn-same a b id kind version nonce updated deleted index groups frame bound co
   rest = rest i;
 }
 
-pub Says-once : (find : Find) (a b : Drawn) → Says find a → Says find b → a ≡ b
+pub Says-once : (find : Find) (a b : ElementValue) → Says find a → Says find b → a ≡ b
 Says-once find a b one two =
     let kind = kind-once _ a.kind b.kind one.kind two.kind in
     let container : IsOwn (is_named (codes "text") a.kind) IsTextOrNull (find (codes "containerId")) b.container =
@@ -198,7 +198,7 @@ binding-compact : (kind : Kind) (binding : Option Binding) → IfSome binding (�
 binding-compact kind None is text = null-compact 119
 binding-compact kind (Some binding) is text = object-compact 118 _ (sorted-AreMembers 118 _ (binding-are binding is.1 text))
 
-own-valued : (e : Drawn) (kind : Kind) → IsElement e → IsWritten e → AllByRecursion (λ (m : Pair). IsCompact 119 m.1) (own_members e kind)
+own-valued : (e : ElementValue) (kind : Kind) → IsElement e → HasValidTexts e → AllByRecursion (λ (m : Pair). IsCompact 119 m.1) (own_members e kind)
 own-valued e Text is w = (text-compact 119 e.container w.container, tt)
 own-valued e Arrow is w = (binding-compact e.kind e.start_binding is.start_binding w.start_binding, (binding-compact e.kind e.end_binding is.end_binding w.end_binding, tt))
 own-valued e Image is w = (text-compact 119 e.file w.file, tt)
@@ -213,7 +213,7 @@ own-valued e Iframe is w = tt
 own-valued e Embeddable is w = tt
 own-valued e (Other name) is w = tt
 
-own-named : (e : Drawn) (kind : Kind) → AllByRecursion (λ (m : Pair). IsUtf8 m.0) (own_members e kind)
+own-named : (e : ElementValue) (kind : Kind) → AllByRecursion (λ (m : Pair). IsUtf8 m.0) (own_members e kind)
 own-named e Text = (literal (codes "containerId") refl, tt)
 own-named e Arrow = (literal (codes "startBinding") refl, (literal (codes "endBinding") refl, tt))
 own-named e Image = (literal (codes "fileId") refl, tt)
@@ -232,7 +232,7 @@ append-all : {X : Type 0} (P : X → Type 0) (xs ys : List X) → AllByRecursion
 append-all P [] ys left right = right
 append-all P (x ∷ xs) ys left right = (left.0, append-all P xs ys left.1 right)
 
-header-valued : (e : Drawn) → IsElement e → IsWritten e → AllByRecursion (λ (m : Pair). IsCompact 119 m.1) (header_members e)
+header-valued : (e : ElementValue) → IsElement e → HasValidTexts e → AllByRecursion (λ (m : Pair). IsCompact 119 m.1) (header_members e)
 header-valued e is w = (
   quote-compact 119 e.id w.id,
   (
@@ -265,7 +265,7 @@ header-valued e is w = (
   ),
 )
 
-header-named : (e : Drawn) → AllByRecursion (λ (m : Pair). IsUtf8 m.0) (header_members e)
+header-named : (e : ElementValue) → AllByRecursion (λ (m : Pair). IsUtf8 m.0) (header_members e)
 header-named e = (
   literal (codes "id") refl,
   (
@@ -298,14 +298,14 @@ header-named e = (
   ),
 )
 
-all-are : (e : Drawn) → IsElement e → IsWritten e → AreMembers 119 (header_members e ++ pairs e.rest)
+all-are : (e : ElementValue) → IsElement e → HasValidTexts e → AreMembers 119 (header_members e ++ pairs e.rest)
 all-are e is w = record {
   named = append-all (λ (m : Pair). IsUtf8 m.0) (header_members e) (pairs e.rest) (header-named e) (names-named e.rest w.rest);
   valued = append-all (λ (m : Pair). IsCompact 119 m.1) (header_members e) (pairs e.rest) (header-valued e is w) (values-valued 119 e.rest is.nest);
   distinct = IsDistinct-element e is;
 }
 
-pub element-are : (e : Drawn) → IsElement e → IsWritten e → AreMembers 119 (element_members e)
+pub element-are : (e : ElementValue) → IsElement e → HasValidTexts e → AreMembers 119 (element_members e)
 unfolding element_members
 element-are e is w = sorted-AreMembers 119 (header_members e ++ pairs e.rest) (all-are e is w)
 
@@ -318,7 +318,7 @@ key-said : (key : Option (List ℕ)) (found : Option (List ℕ)) → IfSome key 
 key-said None found is e = inl (inr e)
 key-said (Some key) found is e = ((IsUtf8-key key is, e), is)
 
-entries-said : (entries : List BoundRef) → AllByRecursion (λ (entry : BoundRef). IsUtf8 entry.id) entries → AreEntries (map bound_text entries) entries
+entries-said : (entries : List BoundRef) → AllByRecursion (λ (entry : BoundRef). IsUtf8 entry.id) entries → AreListingEntries (map bound_text entries) entries
 entries-said [] is = refl
 entries-said (entry ∷ entries) is = inl (
   entry,
@@ -364,11 +364,11 @@ named-is name kind known is are e h = kind_of_name-once kind known is are (sym (
 unnamed-not : (name : List ℕ) (kind known : Kind) → is_named name known ≡ true → is_named name kind ≡ false → kind ≡ known → ⊥
 unnamed-not name kind known held apart e = both_ways (is_named name kind) apart (ap (is_named name) e ∙ held)
 
-pub element-found : (e : Drawn) → IsElement e → (name value : List ℕ) → value_at name (header_members e ++ pairs e.rest) ≡ Some value → value_at name (element_members e) ≡ Some value
+pub element-found : (e : ElementValue) → IsElement e → (name value : List ℕ) → value_at name (header_members e ++ pairs e.rest) ≡ Some value → value_at name (element_members e) ≡ Some value
 unfolding element_members
 element-found e is = found-sorted (header_members e ++ pairs e.rest) (IsDistinct-element e is)
 
-pub element-says : (e : Drawn) → IsElement e → IsWritten e → Says (find_in (element_members e)) e
+pub element-says : (e : ElementValue) → IsElement e → HasValidTexts e → Says (find_in (element_members e)) e
 unfolding element_members
 element-says e is w = record {
   id = ((w.id, at (codes "id") (quote e.id) refl), is.named);
@@ -405,8 +405,8 @@ element-says e is w = record {
     at = found-sorted (header_members e ++ pairs e.rest) (IsDistinct-element e is)
 
 -- two elements with one text are the same
-pub text-of-one : (a b : Drawn) → IsElement a → IsWritten a → IsElement b → IsWritten b → element_text a ≡ element_text b → a ≡ b
+pub text-of-one : (a b : ElementValue) → IsElement a → HasValidTexts a → IsElement b → HasValidTexts b → element_text a ≡ element_text b → a ≡ b
 text-of-one a b one first two second e =
-    let deeper = λ (x : Drawn) (is : IsElement x) (w : IsWritten x). AreMembers-deeper 119 127 (element_members x) (lit≤ tt) (element-are x is w) in
+    let deeper = λ (x : ElementValue) (is : IsElement x) (w : HasValidTexts x). AreMembers-deeper 119 127 (element_members x) (lit≤ tt) (element-are x is w) in
     let same = object-once (element_members a) (element_members b) (deeper a one first) (deeper b two second) e in
     Says-once (find_in (element_members a)) a b (element-says a one first) (subst (λ ms. Says (find_in ms) b) (sym same) (element-says b two second))

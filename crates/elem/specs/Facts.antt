@@ -7,7 +7,7 @@ use Rattle.frac_keys.specs.Rising.{are_rising}
 use Rattle.elem.specs.declared.kind.Kind.{Kind}
 use Rattle.elem.specs.declared.kind.Kind.TheVariants.{Rectangle, Diamond, Ellipse, Arrow, Line, Freedraw, Text, Image, Frame, Magicframe, Iframe, Embeddable, Other}
 use Rattle.elem.specs.declared.parts.Binding.{Binding}
-use Rattle.elem.specs.Drawn.{Drawn}
+use Rattle.elem.specs.ElementValue.{ElementValue}
 
 -- the greatest version, nonce or time: the greatest whole number that JavaScript counts exactly
 abbrev pub greatest_whole : ℕ
@@ -75,7 +75,7 @@ pub record IsBinding (binding : Binding) : Type 0 where
 
 -- The id isn't empty; the numbers are within their limit; a container is there for a text alone, bindings for an arrow, a
 -- file for an image; the other names rise, and none is a header name of the kind; the element nests at most 120.
-pub record IsElement (e : Drawn) : Type 0 where
+pub record IsElement (e : ElementValue) : Type 0 where
   pub named : e.id ≢ []
   pub version : e.version ≤ greatest_whole
   pub nonce : e.nonce ≤ greatest_whole

@@ -40,8 +40,8 @@ abbrev pub IsKindName : Option (List ℕ) → Kind → Type 0
 IsKindName found kind = IsText found (kind_name kind) × IsKind kind
 
 -- a whole number in plain decimal within the limit
-abbrev pub IsWhole : Option (List ℕ) → ℕ → Type 0
-IsWhole found number = (number ≤ greatest_whole) × (found ≡ Some (decimal number))
+abbrev pub IsWholeNumber : Option (List ℕ) → ℕ → Type 0
+IsWholeNumber found number = (number ≤ greatest_whole) × (found ≡ Some (decimal number))
 
 -- true or false
 abbrev pub IsTruth : Option (List ℕ) → Bool → Type 0
@@ -71,23 +71,23 @@ pub record IsObject (value : List ℕ) (members : List Pair) : Type 0 where
   pub spelled : value ≡ object_text members
 
 -- An object with a text `id` and a `type` of `arrow` or `text`; its further members play no part.
-pub record IsEntry (item : List ℕ) (entry : BoundRef) : Type 0 where
+pub record IsListingEntry (item : List ℕ) (entry : BoundRef) : Type 0 where
   pub members : List Pair
   pub object : IsObject item members
   pub id : IsText (value_at (codes "id") members) entry.id
   pub role : IsText (value_at (codes "type") members) (role_name entry.role)
 
 -- the entries among the items, in their order; an item of another form is dropped
-abbrev pub AreEntries : List (List ℕ) → List BoundRef → Type 0
-AreEntries [] entries = entries ≡ []
-AreEntries (item ∷ items) entries =
-    ((entry : BoundRef) × (others : List BoundRef) × (entries ≡ entry ∷ others) × IsEntry item entry × AreEntries items others)
-    ⊎ (((entry : BoundRef) → IsEntry item entry → ⊥) × AreEntries items entries)
+abbrev pub AreListingEntries : List (List ℕ) → List BoundRef → Type 0
+AreListingEntries [] entries = entries ≡ []
+AreListingEntries (item ∷ items) entries =
+    ((entry : BoundRef) × (others : List BoundRef) × (entries ≡ entry ∷ others) × IsListingEntry item entry × AreListingEntries items others)
+    ⊎ (((entry : BoundRef) → IsListingEntry item entry → ⊥) × AreListingEntries items entries)
 
 -- an array
 abbrev pub IsListing : Option (List ℕ) → List BoundRef → Type 0
 IsListing found entries =
-    (items : List (List ℕ)) × AllByRecursion (IsCompact 127) items × (found ≡ Some (array_text items)) × AreEntries items entries
+    (items : List (List ℕ)) × AllByRecursion (IsCompact 127) items × (found ≡ Some (array_text items)) × AreListingEntries items entries
 
 -- All that is found but under the names of a header, with rising names.
 pub record AreOthers (is_header : List ℕ → Bool) (find : Find) (others : List Member) : Type 0 where

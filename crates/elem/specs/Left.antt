@@ -43,7 +43,7 @@ members_left source (Open first headers rest) = open_left source first headers.n
 members_left source Closed = []
 
 -- The numbers of the element are written in digits.
-pub record IsSource (source : Source) : Type 0 where
+pub record IsElementSource (source : Source) : Type 0 where
   pub version : source.version.now ≡ decimal source.e.now.version
   pub nonce : source.nonce.now ≡ decimal source.e.now.nonce
   pub updated : source.updated.now ≡ decimal source.e.now.updated

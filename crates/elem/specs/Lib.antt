@@ -1,4 +1,4 @@
-pub mod Drawn
+pub mod ElementValue
 pub mod Facts
 pub mod Forms
 pub mod Left

@@ -12,7 +12,7 @@ use Rattle.elem.specs.declared.kind.Kind.{Kind}
 use Rattle.elem.specs.declared.kind.Kind.TheVariants as kinds
 use Rattle.elem.specs.declared.header.Header.{Header}
 use Rattle.elem.specs.declared.header.Header.TheVariants.{BoundElements, ContainerId, EndBinding, FileId, FrameId, GroupIds, Id, Index, IsDeleted, StartBinding, KindName, Updated, Version, VersionNonce}
-use Rattle.elem.specs.Drawn.{Drawn}
+use Rattle.elem.specs.ElementValue.{ElementValue}
 use Rattle.elem.specs.Texts.{kind_name, truth_text, text_or_null, bound_text, binding_text}
 
 -- what stands of an object once these are its members so far: nothing where there is none yet
@@ -29,18 +29,18 @@ abbrev pub mark : ℕ → List ℕ → ℕ
 mark start out = if length out == start then 123 else 44
 
 -- the first members, whose names are less than this one, and the others
-abbrev pub front : List ℕ → List Member → List Member
-front name [] = []
-front name (member ∷ members) = if bytes_less member.name name then member ∷ front name members else []
+abbrev pub members_below : List ℕ → List Member → List Member
+members_below name [] = []
+members_below name (member ∷ members) = if bytes_less member.name name then member ∷ members_below name members else []
 
-abbrev pub back : List ℕ → List Member → List Member
-back name [] = []
-back name (member ∷ members) = if bytes_less member.name name then back name members else member ∷ members
+abbrev pub members_not_below : List ℕ → List Member → List Member
+members_not_below name [] = []
+members_not_below name (member ∷ members) = if bytes_less member.name name then members_not_below name members else member ∷ members
 
 -- the header members and the others in the order of their names
 abbrev pub merged : List Pair → List Member → List Pair
 merged [] rest = pairs rest
-merged (header ∷ headers) rest = pairs (front header.0 rest) ++ header ∷ merged headers (back header.0 rest)
+merged (header ∷ headers) rest = pairs (members_below header.0 rest) ++ header ∷ merged headers (members_not_below header.0 rest)
 
 -- Each name is a text, and each value is a compact text that nests at most so deep.
 abbrev pub AreSound : ℕ → List Pair → Type 0
@@ -63,24 +63,24 @@ header_name Version = codes "version"
 header_name VersionNonce = codes "versionNonce"
 
 -- the value of a header member
-abbrev pub header_text : Drawn → Header → List ℕ
-header_text e BoundElements = array_text (map bound_text e.bound)
-header_text e ContainerId = text_or_null e.container
-header_text e EndBinding = binding_text e.end_binding
-header_text e FileId = text_or_null e.file
-header_text e FrameId = text_or_null e.frame
-header_text e GroupIds = array_text (map quote e.groups)
-header_text e Id = quote e.id
-header_text e Index = text_or_null e.index
-header_text e IsDeleted = truth_text e.deleted
-header_text e StartBinding = binding_text e.start_binding
-header_text e KindName = quote (kind_name e.kind)
-header_text e Updated = decimal e.updated
-header_text e Version = decimal e.version
-header_text e VersionNonce = decimal e.nonce
+abbrev pub header_value : ElementValue → Header → List ℕ
+header_value e BoundElements = array_text (map bound_text e.bound)
+header_value e ContainerId = text_or_null e.container
+header_value e EndBinding = binding_text e.end_binding
+header_value e FileId = text_or_null e.file
+header_value e FrameId = text_or_null e.frame
+header_value e GroupIds = array_text (map quote e.groups)
+header_value e Id = quote e.id
+header_value e Index = text_or_null e.index
+header_value e IsDeleted = truth_text e.deleted
+header_value e StartBinding = binding_text e.start_binding
+header_value e KindName = quote (kind_name e.kind)
+header_value e Updated = decimal e.updated
+header_value e Version = decimal e.version
+header_value e VersionNonce = decimal e.nonce
 
-abbrev pub header_pair : Drawn → Header → Pair
-header_pair e header = (header_name header, header_text e header)
+abbrev pub header_pair : ElementValue → Header → Pair
+header_pair e header = (header_name header, header_value e header)
 
 -- the header members of a kind in the order of their names
 abbrev pub headers_of : Kind → List Header

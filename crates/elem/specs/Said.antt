@@ -6,9 +6,9 @@ use Rattle.frac_keys.specs.Keys.{is_key}
 use Rattle.elem.specs.declared.kind.Kind.{Kind}
 use Rattle.elem.specs.declared.parts.BoundRef.{BoundRef}
 use Rattle.elem.specs.declared.parts.Binding.{Binding}
-use Rattle.elem.specs.Drawn.{Drawn}
+use Rattle.elem.specs.ElementValue.{ElementValue}
 use Rattle.elem.specs.Facts.{is_header, names, IsElement}
-use Rattle.elem.specs.Forms.{Find, IsId, IsKindName, IsWhole, IsTruth, IsTextOrNull, IsKeyOrNull, AreTexts, IsListing, IsBindingOrNull, AreOthers}
+use Rattle.elem.specs.Forms.{Find, IsId, IsKindName, IsWholeNumber, IsTruth, IsTextOrNull, IsKeyOrNull, AreTexts, IsListing, IsBindingOrNull, AreOthers}
 use Rattle.elem.specs.Texts.{kind_name}
 
 -- whether this is the kind of this name
@@ -22,12 +22,12 @@ IsOwn false IsForm found part = part ≡ None
 
 -- What is found under these names says this element: each header member has its form, and all else is kept. A row a
 -- member. After Excalidraw's element types; the forms and that all else is kept are this project's own.
-pub record Says (find : Find) (e : Drawn) : Type 0 where
+pub record Says (find : Find) (e : ElementValue) : Type 0 where
   pub id : IsId (find (codes "id")) e.id
   pub kind : IsKindName (find (codes "type")) e.kind
-  pub version : IsWhole (find (codes "version")) e.version
-  pub nonce : IsWhole (find (codes "versionNonce")) e.nonce
-  pub updated : IsWhole (find (codes "updated")) e.updated
+  pub version : IsWholeNumber (find (codes "version")) e.version
+  pub nonce : IsWholeNumber (find (codes "versionNonce")) e.nonce
+  pub updated : IsWholeNumber (find (codes "updated")) e.updated
   pub index : IsKeyOrNull (find (codes "index")) e.index
   pub deleted : IsTruth (find (codes "isDeleted")) e.deleted
   pub groups : AreTexts (find (codes "groupIds")) e.groups
@@ -45,7 +45,7 @@ pub record IsBindingText (binding : Binding) : Type 0 where
   pub rest : AllByRecursion IsUtf8 (names binding.rest)
 
 -- The texts of an element are UTF-8 and its index is a key, as their types keep.
-pub record IsWritten (e : Drawn) : Type 0 where
+pub record HasValidTexts (e : ElementValue) : Type 0 where
   pub id : IsUtf8 e.id
   pub kind : IsUtf8 (kind_name e.kind)
   pub index : IfSome e.index (λ key. is_key key ≡ true)
@@ -59,5 +59,5 @@ pub record IsWritten (e : Drawn) : Type 0 where
   pub rest : AllByRecursion IsUtf8 (names e.rest)
 
 -- These are elements, as their types keep them.
-abbrev pub AreElements : List Drawn → Type 0
-AreElements elements = All (λ e. IsElement e × IsWritten e) elements
+abbrev pub AreElements : List ElementValue → Type 0
+AreElements elements = All (λ e. IsElement e × HasValidTexts e) elements

@@ -11,7 +11,7 @@ use Rattle.elem.specs.declared.kind.Role.{Role}
 use Rattle.elem.specs.declared.kind.Role.TheVariants as roles
 use Rattle.elem.specs.declared.parts.BoundRef.{BoundRef}
 use Rattle.elem.specs.declared.parts.Binding.{Binding}
-use Rattle.elem.specs.Drawn.{Drawn}
+use Rattle.elem.specs.ElementValue.{ElementValue}
 
 -- what stands for a kind in a member `type`
 abbrev pub kind_name : Kind → List ℕ
@@ -60,7 +60,7 @@ binding_text (Some binding) =
     object_text (sorted_members ((codes "elementId", quote binding.target) ∷ pairs binding.rest))
 
 -- the members that a kind has beside those of all kinds
-abbrev pub own_members : Drawn → Kind → List Pair
+abbrev pub own_members : ElementValue → Kind → List Pair
 own_members e Text = (codes "containerId", text_or_null e.container) ∷ []
 own_members e Arrow = (codes "startBinding", binding_text e.start_binding) ∷ (codes "endBinding", binding_text e.end_binding) ∷ []
 own_members e Image = (codes "fileId", text_or_null e.file) ∷ []
@@ -76,7 +76,7 @@ own_members e Embeddable = []
 own_members e (Other name) = []
 
 -- the header members of an element
-abbrev pub header_members : Drawn → List Pair
+abbrev pub header_members : ElementValue → List Pair
 header_members e =
     (codes "id", quote e.id) ∷ (codes "type", quote (kind_name e.kind))
     ∷ (codes "version", decimal e.version) ∷ (codes "versionNonce", decimal e.nonce) ∷ (codes "updated", decimal e.updated)
@@ -85,8 +85,8 @@ header_members e =
     ∷ (codes "boundElements", array_text (map bound_text e.bound)) ∷ own_members e e.kind
 
 -- the members of an element in the order of the bytes of their names, and its text
-unfoldable pub element_members : Drawn → List Pair
+unfoldable pub element_members : ElementValue → List Pair
 element_members e = sorted_members (header_members e ++ pairs e.rest)
 
-abbrev pub element_text : Drawn → List ℕ
+abbrev pub element_text : ElementValue → List ℕ
 element_text e = object_text (element_members e)

@@ -3,7 +3,7 @@
 ghost use Rattle.std.specs.Prelude.{◌≡◌, [], ◌∷◌, ◌++◌, MatchOption, if◌then◌else◌};
 ghost use Rattle.scene_json.specs.Compact.{member_text};
 ghost use Rattle.elem.specs.declared.source.Source.{Source};
-ghost use Rattle.elem.specs.Left.{value_left, open_left, members_left, IsSource, Splits};
+ghost use Rattle.elem.specs.Left.{value_left, open_left, members_left, IsElementSource, Splits};
 ghost use Rattle.elem.specs.Printing.{header_pair};
 ghost use Rattle.elem.specs.Texts.{element_text};
 
@@ -34,19 +34,19 @@ pub(crate) enum Members<'a> {
 
 impl<'a> Model for Cursor<'a> {
     ghost use Rattle.std.specs.Prelude.{List, ℕ, ◌++◌};
-    ghost use Rattle.elem.specs.Left.{value_left, members_left, IsSource};
+    ghost use Rattle.elem.specs.Left.{value_left, members_left, IsElementSource};
 
     ghost Value = { List ℕ };
 
     ghost view = { λ c. c.piece ++ (value_left c.value ++ members_left c.source c.members) };
 
-    ghost invariant = { λ c. IsSource c.source };
+    ghost invariant = { λ c. IsElementSource c.source };
 }
 
 impl<'a> Cursor<'a> {
     /// All of the text of an element.
     pub(crate) fn of(source: Source<'a>) -> Cursor<'a>
-        requires { IsSource source }
+        requires { IsElementSource source }
         ensures { result ≡ element_text source.entry.e.now }
     {
         Cursor {
@@ -87,7 +87,7 @@ fn members_of(e: &Element) -> Members<'_>
 impl<'a> Members<'a> {
     /// A piece of the next member, what is left of its value, and the further members.
     fn next(self, source: Source<'a>) -> Option<(Piece<'a>, Value<'a>, Members<'a>)>
-        requires { IsSource source }
+        requires { IsElementSource source }
         ensures { MatchOption result (members_left source.entry self.entry ≡ [])
             (λ next. Splits (members_left source.entry self.entry) next.0 (value_left next.1 ++ members_left source.entry next.2)) }
     {
@@ -105,7 +105,7 @@ fn next_of<'a>(
     headers: &'static [Header],
     rest: &'a [Member],
 ) -> (Piece<'a>, Value<'a>, Members<'a>)
-    requires { IsSource source }
+    requires { IsElementSource source }
     ensures { Splits (open_left source.entry first headers.now rest.now) result.0 (value_left result.1 ++ members_left source.entry result.2) }
 {
     match headers.split_first() {
@@ -143,7 +143,7 @@ fn next_kept<'a>(first: bool, rest: &'a [Member]) -> (Piece<'a>, Value<'a>, Memb
 
 /// A piece of a header member, and what is left of its value.
 fn header_piece<'a>(source: Source<'a>, first: bool, header: Header) -> (Piece<'a>, Value<'a>)
-    requires { IsSource source }
+    requires { IsElementSource source }
     ensures { Splits ((if first then 123 else 44) ∷ member_text (header_pair source.entry.e.now header)) result.0 (value_left result.1) }
 {
     let start = value_of(source, header);

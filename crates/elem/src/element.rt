@@ -31,10 +31,10 @@ pub struct Element {
 }
 
 impl Model for Element {
-    ghost use Rattle.elem.specs.Drawn.{Drawn};
+    ghost use Rattle.elem.specs.ElementValue.{ElementValue};
     ghost use Rattle.elem.specs.Facts.{IsElement};
 
-    ghost Value = { Drawn };
+    ghost Value = { ElementValue };
 
     ghost view = { λ e. record {
       id = e.id;

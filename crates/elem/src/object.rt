@@ -8,7 +8,7 @@ ghost use Rattle.scene_json.specs.Characters.{quote};
 ghost use Rattle.scene_json.specs.Compact.{Member as Pair};
 ghost use Rattle.scene_json.specs.Members.{pairs};
 ghost use Rattle.frac_keys.specs.Keys.{bytes_less};
-ghost use Rattle.elem.specs.Printing.{IsBegun, mark, front, back};
+ghost use Rattle.elem.specs.Printing.{IsBegun, mark, members_below, members_not_below};
 
 use scene_json::{Member, push_member, push_quoted};
 use std::alloc::AllocError;
@@ -22,9 +22,9 @@ pub(crate) fn push_below<'a>(
     name: &str,
 ) -> Result<&'a [Member], AllocError>
     ensures begun { OnOk result ((before : Items ℕ) (first : Items Pair) → start ≡ length before
-        → IsBegun before first out.old.items → IsBegun before (first ++ pairs (front name.now members.now)) out.new.items) }
-    ensures left { IfOk result (λ left. left.now ≡ back name.now members.now) }
-    ensures named { OnOk result (All (λ m. IsUtf8 m.name) (front name.now members.now)) }
+        → IsBegun before first out.old.items → IsBegun before (first ++ pairs (members_below name.now members.now)) out.new.items) }
+    ensures left { IfOk result (λ left. left.now ≡ members_not_below name.now members.now) }
+    ensures named { OnOk result (All (λ m. IsUtf8 m.name) (members_below name.now members.now)) }
     ensures kept { Extends out.old.items out.new.items }
 {
     let (below, left) = members.split_at(count_below(members, name));

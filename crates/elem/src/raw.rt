@@ -9,7 +9,7 @@ ghost use Rattle.scene_json.specs.Members.{pairs};
 ghost use Rattle.scene_json.specs.Value.{IsCompact};
 ghost use Rattle.frac_keys.specs.Rising.{are_rising};
 ghost use Rattle.elem.specs.Facts.{IsBinding};
-ghost use Rattle.elem.specs.Printing.{IsBegun, header_name, header_text, header_pair};
+ghost use Rattle.elem.specs.Printing.{IsBegun, header_name, header_value, header_pair};
 ghost use Rattle.elem.specs.Texts.{binding_text, header_members, element_members, element_text};
 
 use crate::element::Element;
@@ -101,7 +101,7 @@ fn push_header(
 ) -> Result<(), AllocError>
     ensures begun { OnOk result ((before : Items ℕ) (members : Items Pair) → start ≡ length before
         → IsBegun before members out.old.items → IsBegun before (members ++ header_pair e.now header ∷ []) out.new.items) }
-    ensures sound { OnOk result (IsUtf8 (header_name header) × IsCompact 119 (header_text e.now header)) }
+    ensures sound { OnOk result (IsUtf8 (header_name header) × IsCompact 119 (header_value e.now header)) }
     ensures kept { OnErr result (Extends out.old.items out.new.items) }
 {
     begin_member(out, start, header.name())?;
@@ -111,9 +111,9 @@ fn push_header(
 /// Appends the value of a header member.
 #[tactic(auto, using(crate::proofs::Appending::on_err_same))]
 fn push_value(out: &mut Vec<u8>, e: &Element, header: Header) -> Result<(), AllocError>
-    ensures text { OnOk result (out.new.items ≡ out.old.items ++ header_text e.now header) }
+    ensures text { OnOk result (out.new.items ≡ out.old.items ++ header_value e.now header) }
     ensures kept { OnErr result (Extends out.old.items out.new.items) }
-    ensures nests { OnOk result (IsCompact 119 (header_text e.now header)) }
+    ensures nests { OnOk result (IsCompact 119 (header_value e.now header)) }
 {
     match header {
         Header::BoundElements => push_listing(out, &e.bound),

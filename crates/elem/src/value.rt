@@ -6,8 +6,8 @@ ghost use Rattle.scene_json.specs.Members.{pair_of};
 ghost use Rattle.scene_json.specs.Compact.{array_text, member_text};
 ghost use Rattle.frac_keys.specs.Keys.{bytes_less};
 ghost use Rattle.elem.specs.Facts.{IsBinding};
-ghost use Rattle.elem.specs.Printing.{front, header_text};
-ghost use Rattle.elem.specs.Left.{list_left, object_left, value_left, start_left, Splits, IsSource};
+ghost use Rattle.elem.specs.Printing.{members_below, header_value};
+ghost use Rattle.elem.specs.Left.{list_left, object_left, value_left, start_left, Splits, IsElementSource};
 ghost use Rattle.elem.specs.Texts.{bound_text, binding_text, kind_name, role_name, truth_text, text_or_null};
 
 use crate::header::Header;
@@ -78,8 +78,8 @@ impl<'a> Start<'a> {
 
 /// The value of a header member.
 pub(crate) fn value_of<'a>(source: Source<'a>, header: Header) -> Start<'a>
-    requires { IsSource source }
-    ensures { start_left result ≡ header_text source.entry.e.now header }
+    requires { IsElementSource source }
+    ensures { start_left result ≡ header_value source.entry.e.now header }
 {
     let e = source.e;
     match header {
@@ -342,7 +342,7 @@ pub(crate) fn first_below<'a>(
     members: &'a [Member],
     name: &str,
 ) -> Option<(&'a Member, &'a [Member])>
-    ensures { MatchOption result (front name.now members.now ≡ [])
+    ensures { MatchOption result (members_below name.now members.now ≡ [])
         (λ found. (members.now ≡ found.0.now ∷ found.1.now) × (bytes_less found.0.now.name name.now ≡ true)) }
 {
     match members.split_first() {

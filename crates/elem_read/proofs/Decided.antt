@@ -22,7 +22,7 @@ use Rattle.elem.specs.declared.kind.Role.{Role}
 use Rattle.elem.specs.declared.kind.Role.TheVariants as roles
 use Rattle.elem.specs.declared.parts.BoundRef.{BoundRef}
 use Rattle.elem.specs.Facts.{greatest_whole, IsKind}
-use Rattle.elem.specs.Forms.{find_in, IsText, IsId, IsWhole, IsTruth, IsNull, IsTextOrNull, IsKeyOrNull, AreTexts, IsObject, IsEntry, AreEntries, IsListing, AreOthers, IsBindingOrNull}
+use Rattle.elem.specs.Forms.{find_in, IsText, IsId, IsWholeNumber, IsTruth, IsNull, IsTextOrNull, IsKeyOrNull, AreTexts, IsObject, IsListingEntry, AreListingEntries, IsListing, AreOthers, IsBindingOrNull}
 use Rattle.elem.specs.Said.{IsOwn}
 use Rattle.elem.specs.Texts.{kind_name, role_name}
 use Rattle.elem.proofs.FormsOnce.{text-once, quotes-compact, members-once}
@@ -187,7 +187,7 @@ number-within limit (Some v) = elim (number-below v (suc limit)) [
   | inr none ↦ inr (λ n within e. none n (omega arith) (same-some e))
 ]
 
-pub whole-or-not : (found : Option (List ℕ)) → Decided (IsWhole found)
+pub whole-or-not : (found : Option (List ℕ)) → Decided (IsWholeNumber found)
 whole-or-not found = elim (number-within greatest_whole found) [
   | inl (n, within, e) ↦ inl (n, (within, e))
   | inr none ↦ inr (λ n is. none n is.0 is.1)
@@ -224,10 +224,10 @@ role-or-not found fits = by (text-or-not found fits)
     by (inl (t, is)) = by_name t is (cases_Bool (bytes_eq t (codes "arrow"))) (cases_Bool (bytes_eq t (codes "text")))
     by (inr none) = inr (λ role is. none (role_name role) is)
 
-entry-or-not : (item : List ℕ) → IsCompact 127 item → Decided (IsEntry item)
+entry-or-not : (item : List ℕ) → IsCompact 127 item → Decided (IsListingEntry item)
 entry-or-not item is = by (object-or-not item (Value-deeper (lit≤ tt) is))
   where
-    by : ((ms : List Pair) × AreMembers 127 ms × (item ≡ object_text ms)) ⊎ ((ms : List Pair) → item ≢ object_text ms) → Decided (IsEntry item)
+    by : ((ms : List Pair) × AreMembers 127 ms × (item ≡ object_text ms)) ⊎ ((ms : List Pair) → item ≢ object_text ms) → Decided (IsListingEntry item)
     by (inr none) = inr (λ entry one. none one.members one.object.spelled)
     by (inl (ms, are, e)) =
         let object : IsObject item ms = record { are_members = are; spelled = e } in
@@ -239,7 +239,7 @@ entry-or-not item is = by (object-or-not item (Value-deeper (lit≤ tt) is))
           ]
         ]
 
-entries : (items : List (List ℕ)) → AllByRecursion (IsCompact 127) items → (es : List BoundRef) × AreEntries items es
+entries : (items : List (List ℕ)) → AllByRecursion (IsCompact 127) items → (es : List BoundRef) × AreListingEntries items es
 entries [] all = ([], refl)
 entries (item ∷ items) all =
     let others = entries items all.1 in

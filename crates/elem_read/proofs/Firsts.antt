@@ -7,8 +7,8 @@ use Rattle.board_io.specs.declared.stop.Stop.TheVariants.{Fault, Memory}
 use Rattle.elem.specs.declared.kind.Kind as kinds
 use Rattle.elem.specs.declared.parts.BoundRef.{BoundRef}
 use Rattle.elem.specs.declared.parts.Binding.{Binding as Bind}
-use Rattle.elem.specs.Drawn.{Drawn}
-use Rattle.elem.specs.Forms.{Find, IsText, IsId, IsKindName, IsWhole, IsTruth, IsTextOrNull, IsKeyOrNull, AreTexts, IsListing, IsBindingOrNull}
+use Rattle.elem.specs.ElementValue.{ElementValue}
+use Rattle.elem.specs.Forms.{Find, IsText, IsId, IsKindName, IsWholeNumber, IsTruth, IsTextOrNull, IsKeyOrNull, AreTexts, IsListing, IsBindingOrNull}
 use Rattle.elem.specs.Said.{is_named, IsOwn, Says}
 use Rattle.elem.specs.Texts.{kind_name}
 use Rattle.elem.proofs.FormsOnce.{text-once}
@@ -130,13 +130,13 @@ module _ (find : Find) where
   pub after-kind : (kind : kinds.Kind) → IsKindName (find (codes "type")) kind → Passes 3 find → Passes 4 find
   after-kind kind is before = passes-next find 3 Kind refl before (λ lacks. lacks (kind_name kind) is.0)
 
-  pub after-version : (n : ℕ) → IsWhole (find (codes "version")) n → Passes 4 find → Passes 5 find
+  pub after-version : (n : ℕ) → IsWholeNumber (find (codes "version")) n → Passes 4 find → Passes 5 find
   after-version n is before = passes-next find 4 Version refl before (λ lacks. lacks n is)
 
-  pub after-nonce : (n : ℕ) → IsWhole (find (codes "versionNonce")) n → Passes 5 find → Passes 6 find
+  pub after-nonce : (n : ℕ) → IsWholeNumber (find (codes "versionNonce")) n → Passes 5 find → Passes 6 find
   after-nonce n is before = passes-next find 5 Nonce refl before (λ lacks. lacks n is)
 
-  pub after-updated : (n : ℕ) → IsWhole (find (codes "updated")) n → Passes 6 find → Passes 7 find
+  pub after-updated : (n : ℕ) → IsWholeNumber (find (codes "updated")) n → Passes 6 find → Passes 7 find
   after-updated n is before = passes-next find 6 Updated refl before (λ lacks. lacks n is)
 
   pub after-index : (key : Option (List ℕ)) → IsKeyOrNull (find (codes "index")) key → Passes 7 find → Passes 8 find
@@ -190,7 +190,7 @@ within Binding = lit< tt
 within File = lit< tt
 
 -- where the members say an element, none of them is faulty
-pub faultless : (find : Find) (e : Drawn) → Says find e → (fault : ElemFault) → Fails fault find → ⊥
+pub faultless : (find : Find) (e : ElementValue) → Says find e → (fault : ElemFault) → Fails fault find → ⊥
 faultless find e is fault =
     after-file find e.kind e.file is.kind is.file
     (after-bindings find e.kind e.start_binding e.end_binding is.kind is.start_binding is.end_binding

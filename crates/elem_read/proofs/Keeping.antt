@@ -18,10 +18,10 @@ use Rattle.frac_keys.specs.Keys.{is_key}
 use Rattle.elem.specs.declared.kind.Kind.TheVariants.{Arrow, Text, Image}
 use Rattle.elem.specs.declared.parts.BoundRef.{BoundRef}
 use Rattle.elem.specs.declared.parts.Binding.{Binding}
-use Rattle.elem.specs.Drawn.{Drawn}
+use Rattle.elem.specs.ElementValue.{ElementValue}
 use Rattle.elem.specs.Facts.{IsBinding, IsElement, names, is_header}
-use Rattle.elem.specs.Forms.{Find, find_in, IsTextOrNull, IsKeyOrNull, IsObject, AreEntries, AreOthers, IsBindingObject, IsBindingOrNull}
-use Rattle.elem.specs.Said.{IsOwn, Says, IsBindingText, IsWritten}
+use Rattle.elem.specs.Forms.{Find, find_in, IsTextOrNull, IsKeyOrNull, IsObject, AreListingEntries, AreOthers, IsBindingObject, IsBindingOrNull}
+use Rattle.elem.specs.Said.{IsOwn, Says, IsBindingText, HasValidTexts}
 use Rattle.elem.proofs.FormsOnce.{names-rise, members-once}
 use Rattle.elem.proofs.Saying.{AreMembers-deeper, named-is}
 
@@ -114,14 +114,14 @@ text-holds : (found : Option (List ℕ)) (text : Option (List ℕ)) → IsTextOr
 text-holds found None is = tt
 text-holds found (Some text) is = is.0
 
-entries-written : (items : List (List ℕ)) (entries : List BoundRef) → AreEntries items entries → AllByRecursion (λ (entry : BoundRef). IsUtf8 entry.id) entries
+entries-written : (items : List (List ℕ)) (entries : List BoundRef) → AreListingEntries items entries → AllByRecursion (λ (entry : BoundRef). IsUtf8 entry.id) entries
 entries-written [] entries is = subst (AllByRecursion (λ (entry : BoundRef). IsUtf8 entry.id)) (sym is) tt
 entries-written (item ∷ items) entries (inl (entry, others, is, one, more)) =
     subst (AllByRecursion (λ (entry : BoundRef). IsUtf8 entry.id)) (sym is) (one.id.0, entries-written items others more)
 entries-written (item ∷ items) entries (inr (none, more)) = entries-written items entries more
 
 -- ---- the element
-pub says-element : (find : Find) (e : Drawn) → AllFound (λ name value. IsCompact 119 value) find → Says find e → IsElement e
+pub says-element : (find : Find) (e : ElementValue) → AllFound (λ name value. IsCompact 119 value) find → Says find e → IsElement e
 says-element find e nests is = record {
   named = is.id.1;
   version = is.version.0;
@@ -139,7 +139,7 @@ says-element find e nests is = record {
   nest = others-hold (IsCompactAt 119) (is_header e.kind) find e.rest nests is.rest;
 }
 
-pub says-written : (find : Find) (e : Drawn) → AllFound (λ name value. IsUtf8 name) find → Says find e → IsWritten e
+pub says-written : (find : Find) (e : ElementValue) → AllFound (λ name value. IsUtf8 name) find → Says find e → HasValidTexts e
 says-written find e named is = record {
   id = is.id.0.0;
   kind = is.kind.0.0;

@@ -1,7 +1,7 @@
 pub mod Decided
-pub mod Drawings
 pub mod Firsts
 pub mod Keeping
+pub mod NoSelections
 pub mod Others
 pub mod Parts
 pub mod Read

@@ -13,7 +13,7 @@ use Rattle.elem.specs.declared.kind.Role.{Role}
 use Rattle.elem.specs.declared.kind.Role.TheVariants as roles
 use Rattle.elem.specs.declared.parts.BoundRef.{BoundRef}
 use Rattle.elem.specs.Facts.{known_names}
-use Rattle.elem.specs.Forms.{Find, IsKindName, IsText, IsTextOrNull, IsKeyOrNull, IsEntry, AreEntries, IsBindingOrNull}
+use Rattle.elem.specs.Forms.{Find, IsKindName, IsText, IsTextOrNull, IsKeyOrNull, IsListingEntry, AreListingEntries, IsBindingOrNull}
 use Rattle.elem.specs.Said.{is_named, IsOwn}
 use Rattle.elem.specs.Texts.{role_name}
 use Rattle.elem_read.specs.Faults.{Lacks, LacksOwn, Fails, place_of, Passes, IsFirst}
@@ -37,13 +37,13 @@ index-fails found (Fault other) is = (is.0, no-key found is.1)
 index-fails found Memory is = tt
 
 -- one item more
-pub entries-push : (items : List (List ℕ)) (entries : List BoundRef) (item : List ℕ) (entry : BoundRef) → AreEntries items entries → IsEntry item entry → AreEntries (items ++ item ∷ []) (entries ++ entry ∷ [])
+pub entries-push : (items : List (List ℕ)) (entries : List BoundRef) (item : List ℕ) (entry : BoundRef) → AreListingEntries items entries → IsListingEntry item entry → AreListingEntries (items ++ item ∷ []) (entries ++ entry ∷ [])
 entries-push [] entries item entry are is = inl (entry, [], ap (λ es. es ++ entry ∷ []) are, is, refl)
 entries-push (i ∷ items) entries item entry (inl (e, others, same, one, more)) is =
     inl (e, others ++ entry ∷ [], ap (λ es. es ++ entry ∷ []) same, one, entries-push items others item entry more is)
 entries-push (i ∷ items) entries item entry (inr (none, more)) is = inr (none, entries-push items entries item entry more is)
 
-pub entries-drop : (items : List (List ℕ)) (entries : List BoundRef) (item : List ℕ) → AreEntries items entries → Lacks (IsEntry item) → AreEntries (items ++ item ∷ []) entries
+pub entries-drop : (items : List (List ℕ)) (entries : List BoundRef) (item : List ℕ) → AreListingEntries items entries → Lacks (IsListingEntry item) → AreListingEntries (items ++ item ∷ []) entries
 entries-drop [] entries item are lacks = inr (lacks, are)
 entries-drop (i ∷ items) entries item (inl (e, others, same, one, more)) lacks = inl (e, others, same, one, entries-drop items others item more lacks)
 entries-drop (i ∷ items) entries item (inr (none, more)) lacks = inr (none, entries-drop items entries item more lacks)
@@ -53,8 +53,8 @@ take-next [] i x h e = absurd (omega arith)
 take-next (y ∷ ys) zero x h e = ap (λ z. z ∷ []) (sym e)
 take-next (y ∷ ys) (suc i) x h e = ap (λ rest. y ∷ rest) (take-next ys i x (omega arith) e)
 
-pub entries-more : (items : List (List ℕ)) (i : ℕ) (item : List ℕ) (old new : List BoundRef) → i < length items → item ≡ get_or items i item → AreEntries (take i items) old
-    → TakesEntry item old new → AreEntries (take (suc i) items) new
+pub entries-more : (items : List (List ℕ)) (i : ℕ) (item : List ℕ) (old new : List BoundRef) → i < length items → item ≡ get_or items i item → AreListingEntries (take i items) old
+    → TakesEntry item old new → AreListingEntries (take (suc i) items) new
 entries-more items i item old new within here are (inl (entry, is, e)) =
     rw (take-next items i item within here, e) (entries-push (take i items) old item entry are is)
 entries-more items i item old new within here are (inr (lacks, e)) =

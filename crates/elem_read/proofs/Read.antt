@@ -16,16 +16,16 @@ use Rattle.scene_json.proofs.Decided.{object-or-not, nests-or-not}
 use Rattle.scene_json.proofs.Rising.{tabled}
 use Rattle.restore_table.specs.Restored.{AreRestored, HasOldListing, filled, filled_at, listing_at, listing_name, old_name}
 use Rattle.restore_table.specs.Table.{defaults}
-use Rattle.elem.specs.Drawn.{Drawn}
+use Rattle.elem.specs.ElementValue.{ElementValue}
 use Rattle.elem.specs.Facts.{is_header}
-use Rattle.elem.specs.Forms.{Find, find_in, IsText, IsId, IsKindName, IsWhole, IsTruth, IsTextOrNull, IsKeyOrNull, AreTexts, IsObject, IsListing, AreOthers, IsBindingOrNull}
+use Rattle.elem.specs.Forms.{Find, find_in, IsText, IsId, IsKindName, IsWholeNumber, IsTruth, IsTextOrNull, IsKeyOrNull, AreTexts, IsObject, IsListing, AreOthers, IsBindingOrNull}
 use Rattle.elem.specs.Said.{is_named, IsOwn, Says}
 use Rattle.elem.proofs.FormsOnce.{texts-once}
 use Rattle.elem_read.specs.Faults.{Lacks, Fails, place_of, Passes, IsFirst}
-use Rattle.elem_read.specs.Reading.{IsSelection, IsDrawing, IsElementIn, IsFaultIn, selection_text}
+use Rattle.elem_read.specs.Reading.{IsSelection, IsNoSelection, IsElementIn, IsFaultIn, selection_text}
 use Rattle.elem_read.specs.declared.fault.ElemFault.{ElemFault}
 use Rattle.elem_read.specs.declared.fault.ElemFault.TheVariants.{NotObject, Depth, Id, Kind, Version, Nonce, Updated, Index, Deleted, Groups, Frame, Bound, Container, Binding, File}
-use Rattle.elem_read.proofs.Drawings.{no-object, kind-stays, fault-in}
+use Rattle.elem_read.proofs.NoSelections.{no-object, kind-stays, fault-in}
 use Rattle.elem_read.proofs.Firsts.{passes-members, own-fails, after-id, after-kind, after-version, after-nonce, after-updated, after-index, after-deleted, after-groups, after-frame, after-bound, after-container, after-bindings}
 use Rattle.elem_read.proofs.Decided.{Decided, Fits, fits-from, fits-in, text-or-not, id-or-not, text_or_null-or-not, key_or_null-or-not, texts-or-not, kind-of, whole-or-not, truth-or-not, listing-or-not, not-named, others-exist, binding-or-not, own-or-not}
 use Rattle.elem_read.proofs.Keeping.{object-nests}
@@ -81,7 +81,7 @@ restored-exist ms are =
 -- ---- the element that members say, or their first fault
 module _ (find : Find) where
   abbrev Told : Type 0
-  Told = ((e : Drawn) × Says find e) ⊎ ((fault : ElemFault) × IsFirst find fault)
+  Told = ((e : ElementValue) × Says find e) ⊎ ((fault : ElemFault) × IsFirst find fault)
 
   -- a part that is read, or is the first fault
   part : {A : Type 0} (P : A → Type 0) (fault : ElemFault) → Passes (place_of fault) find → (Lacks P → Fails fault find) → Decided P → ((x : A) → P x → Told) → Told
@@ -96,11 +96,11 @@ module _ (find : Find) where
       let (kind, named, known) = kind-of name (λ e. other (is_name.1 ∙ ap (λ t. Some (quote t)) e)) in
       let is_kind : IsKindName (find (codes "type")) kind = (subst (IsText (find (codes "type"))) (sym named) is_name, known) in
       let fourth = after-kind find kind is_kind third in
-      part (IsWhole (find (codes "version"))) Version fourth (λ h. h) (whole-or-not (find (codes "version"))) (λ version is_version.
+      part (IsWholeNumber (find (codes "version"))) Version fourth (λ h. h) (whole-or-not (find (codes "version"))) (λ version is_version.
       let fifth = after-version find version is_version fourth in
-      part (IsWhole (find (codes "versionNonce"))) Nonce fifth (λ h. h) (whole-or-not (find (codes "versionNonce"))) (λ nonce is_nonce.
+      part (IsWholeNumber (find (codes "versionNonce"))) Nonce fifth (λ h. h) (whole-or-not (find (codes "versionNonce"))) (λ nonce is_nonce.
       let sixth = after-nonce find nonce is_nonce fifth in
-      part (IsWhole (find (codes "updated"))) Updated sixth (λ h. h) (whole-or-not (find (codes "updated"))) (λ updated is_updated.
+      part (IsWholeNumber (find (codes "updated"))) Updated sixth (λ h. h) (whole-or-not (find (codes "updated"))) (λ updated is_updated.
       let seventh = after-updated find updated is_updated sixth in
       part (IsKeyOrNull (find (codes "index"))) Index seventh (λ h. h) (key_or_null-or-not (find (codes "index")) (fits (codes "index"))) (λ index is_index.
       let eighth = after-index find index is_index seventh in
@@ -170,16 +170,16 @@ same-or-not (Some v) text = elim (cases_Bool (bytes_eq v text)) [
 
 -- What a compact value is read as.
 abbrev pub IsRead : List ℕ → Type 0
-IsRead value = IsSelection value ⊎ (((e : Drawn) × IsElementIn value e) ⊎ ((fault : ElemFault) × IsFaultIn value fault))
+IsRead value = IsSelection value ⊎ (((e : ElementValue) × IsElementIn value e) ⊎ ((fault : ElemFault) × IsFaultIn value fault))
 
-shallow-read : (value : List ℕ) (ms : List Pair) → IsDrawing value ms → IsCompact 120 value → IsRead value
-shallow-read value ms drawing shallow =
-    let inner : AreMembers 119 ms = object-nests 120 value ms (lit≤ tt) (lit≤ tt) shallow drawing.object in
-    let (rs, restores) = restored-exist ms drawing.object.are_members in
+shallow-read : (value : List ℕ) (ms : List Pair) → IsNoSelection value ms → IsCompact 120 value → IsRead value
+shallow-read value ms no_selection shallow =
+    let inner : AreMembers 119 ms = object-nests 120 value ms (lit≤ tt) (lit≤ tt) shallow no_selection.object in
+    let (rs, restores) = restored-exist ms no_selection.object.are_members in
     let fits : (name : List ℕ) → Fits (find_in rs name) = λ name. fits-found (find_in rs name) (λ v e. restored-nest ms rs inner restores name v e) in
-    elim (told (find_in rs) fits (kind-stays ms rs restores drawing.kind) (λ test. others-exist test rs)) [
-      | inl (e, says) ↦ inr (inl (e, record { members = ms; restored = rs; drawing = drawing; shallow = shallow; restores = restores; says = says }))
-      | inr (fault, first) ↦ inr (inr (fault, fault-in value ms rs fault drawing shallow restores first))
+    elim (told (find_in rs) fits (kind-stays ms rs restores no_selection.kind) (λ test. others-exist test rs)) [
+      | inl (e, says) ↦ inr (inl (e, record { members = ms; restored = rs; no_selection = no_selection; shallow = shallow; restores = restores; says = says }))
+      | inr (fault, first) ↦ inr (inr (fault, fault-in value ms rs fault no_selection shallow restores first))
     ]
   where
     fits-found : (found : Option (List ℕ)) → ((v : List ℕ) → found ≡ Some v → IsCompact 119 v) → Fits found
@@ -195,9 +195,9 @@ read-exists value is = by (object-or-not value is)
         elim (same-or-not (value_at (codes "type") ms) selection_text) [
           | inl kind ↦ inl (record { members = ms; object = object; kind = kind })
           | inr other ↦
-              let drawing : IsDrawing value ms = record { object = object; kind = other } in
+              let no_selection : IsNoSelection value ms = record { object = object; kind = other } in
               elim (nests-or-not value 120 is) [
-                | inl shallow ↦ shallow-read value ms drawing shallow
-                | inr deep ↦ inr (inr (Depth, record { members = ms; drawing = drawing; deep = deep }))
+                | inl shallow ↦ shallow-read value ms no_selection shallow
+                | inr deep ↦ inr (inr (Depth, record { members = ms; no_selection = no_selection; deep = deep }))
               ]
         ]

@@ -8,13 +8,13 @@ use Rattle.scene_json.specs.Value.{IsCompact}
 use Rattle.scene_json.proofs.CompactLaws.{object-compact}
 use Rattle.restore_table.specs.Restored.{AreRestored}
 use Rattle.restore_table.proofs.RestoredLaws.{restored-unique, restored-order}
-use Rattle.elem.specs.Drawn.{Drawn}
+use Rattle.elem.specs.ElementValue.{ElementValue}
 use Rattle.elem.specs.Forms.{find_in, IsObject}
 use Rattle.elem.specs.Said.{Says}
 use Rattle.elem.proofs.FormsOnce.{members-once}
 use Rattle.elem.proofs.Saying.{Says-once}
 use Rattle.elem_read.specs.Faults.{IsFirst}
-use Rattle.elem_read.specs.Reading.{IsSelection, IsDrawing, IsElementIn, IsTooDeep, HasFault, IsFaultIn}
+use Rattle.elem_read.specs.Reading.{IsSelection, IsNoSelection, IsElementIn, IsTooDeepElement, HasFault, IsFaultIn}
 use Rattle.elem_read.specs.declared.fault.ElemFault.{ElemFault}
 use Rattle.elem_read.specs.declared.fault.ElemFault.TheVariants.{NotObject, Depth, Id, Kind, Version, Nonce, Updated, Index, Deleted, Groups, Frame, Bound, Container, Binding, File}
 use Rattle.elem_read.proofs.Firsts.{first-once, faultless}
@@ -25,15 +25,15 @@ restored-once : (value : List ℕ) (ms ns rs ss : List Pair) → IsObject value 
 restored-once value ms ns rs ss one two left right =
     restored-unique ms rs ss left (subst (λ os. AreRestored os ss) (sym (members-once value ms ns one two)) right)
 
-pub element-once : (value : List ℕ) (e other : Drawn) → IsElementIn value e → IsElementIn value other → e ≡ other
+pub element-once : (value : List ℕ) (e other : ElementValue) → IsElementIn value e → IsElementIn value other → e ≡ other
 element-once value e other one two =
-    let same = restored-once value one.members two.members one.restored two.restored one.drawing.object two.drawing.object one.restores two.restores in
+    let same = restored-once value one.members two.members one.restored two.restored one.no_selection.object two.no_selection.object one.restores two.restores in
     Says-once (find_in one.restored) e other one.says (subst (λ rs. Says (find_in rs) other) (sym same) two.says)
 
 -- a fault is that there is no object, that it is too deep, or one of its members
 data Faulty (value : List ℕ) (fault : ElemFault) : Type 0 where
   none : fault ≡ NotObject → ((members : List Pair) → IsObject value members → ⊥) → Faulty value fault
-  deep : fault ≡ Depth → IsTooDeep value → Faulty value fault
+  deep : fault ≡ Depth → IsTooDeepElement value → Faulty value fault
   has : HasFault value fault → Faulty value fault
 
 faulty : (value : List ℕ) (fault : ElemFault) → IsFaultIn value fault → Faulty value fault
@@ -55,41 +55,41 @@ faulty value File is = has is
 
 faults-once : (value : List ℕ) (a b : ElemFault) → Faulty value a → Faulty value b → a ≡ b
 faults-once value a b (none e one) (none f two) = e ∙ sym f
-faults-once value a b (none e one) (deep f two) = absurd (one two.members two.drawing.object)
-faults-once value a b (none e one) (has two) = absurd (one two.members two.drawing.object)
-faults-once value a b (deep e one) (none f two) = absurd (two one.members one.drawing.object)
+faults-once value a b (none e one) (deep f two) = absurd (one two.members two.no_selection.object)
+faults-once value a b (none e one) (has two) = absurd (one two.members two.no_selection.object)
+faults-once value a b (deep e one) (none f two) = absurd (two one.members one.no_selection.object)
 faults-once value a b (deep e one) (deep f two) = e ∙ sym f
 faults-once value a b (deep e one) (has two) = absurd (one.deep two.shallow)
-faults-once value a b (has one) (none f two) = absurd (two one.members one.drawing.object)
+faults-once value a b (has one) (none f two) = absurd (two one.members one.no_selection.object)
 faults-once value a b (has one) (deep f two) = absurd (two.deep one.shallow)
 faults-once value a b (has one) (has two) =
-    let same = restored-once value one.members two.members one.restored two.restored one.drawing.object two.drawing.object one.restores two.restores in
+    let same = restored-once value one.members two.members one.restored two.restored one.no_selection.object two.no_selection.object one.restores two.restores in
     first-once (find_in one.restored) a b one.first (subst (λ rs. IsFirst (find_in rs) b) (sym same) two.first)
 
 pub fault-once : (value : List ℕ) (a b : ElemFault) → IsFaultIn value a → IsFaultIn value b → a ≡ b
 fault-once value a b one two = faults-once value a b (faulty value a one) (faulty value b two)
 
-without-fault : (value : List ℕ) (e : Drawn) (fault : ElemFault) → IsElementIn value e → Faulty value fault → ⊥
-without-fault value e fault is (none f lacks) = lacks is.members is.drawing.object
+without-fault : (value : List ℕ) (e : ElementValue) (fault : ElemFault) → IsElementIn value e → Faulty value fault → ⊥
+without-fault value e fault is (none f lacks) = lacks is.members is.no_selection.object
 without-fault value e fault is (deep f two) = two.deep is.shallow
 without-fault value e fault is (has two) =
-    let same = restored-once value is.members two.members is.restored two.restored is.drawing.object two.drawing.object is.restores two.restores in
+    let same = restored-once value is.members two.members is.restored two.restored is.no_selection.object two.no_selection.object is.restores two.restores in
     faultless (find_in is.restored) e is.says fault (subst (λ rs. IsFirst (find_in rs) fault) (sym same) two.first).comes
 
-pub element-faultless : (value : List ℕ) (e : Drawn) (fault : ElemFault) → IsElementIn value e → IsFaultIn value fault → ⊥
+pub element-faultless : (value : List ℕ) (e : ElementValue) (fault : ElemFault) → IsElementIn value e → IsFaultIn value fault → ⊥
 element-faultless value e fault is two = without-fault value e fault is (faulty value fault two)
 
-drawing-kept : (value : List ℕ) (ms : List Pair) → IsDrawing value ms → IsSelection value → ⊥
-drawing-kept value ms is selection =
+no_selection-kept : (value : List ℕ) (ms : List Pair) → IsNoSelection value ms → IsSelection value → ⊥
+no_selection-kept value ms is selection =
     is.kind (ap (value_at (codes "type")) (members-once value ms selection.members is.object selection.object) ∙ selection.kind)
 
-pub element-kept : (value : List ℕ) (e : Drawn) → IsElementIn value e → IsSelection value → ⊥
-element-kept value e is = drawing-kept value is.members is.drawing
+pub element-kept : (value : List ℕ) (e : ElementValue) → IsElementIn value e → IsSelection value → ⊥
+element-kept value e is = no_selection-kept value is.members is.no_selection
 
 dropped : (value : List ℕ) (fault : ElemFault) → Faulty value fault → IsSelection value → ⊥
 dropped value fault (none f lacks) selection = lacks selection.members selection.object
-dropped value fault (deep f two) selection = drawing-kept value two.members two.drawing selection
-dropped value fault (has two) selection = drawing-kept value two.members two.drawing selection
+dropped value fault (deep f two) selection = no_selection-kept value two.members two.no_selection selection
+dropped value fault (has two) selection = no_selection-kept value two.members two.no_selection selection
 
 pub fault-dropped : (value : List ℕ) (fault : ElemFault) → IsFaultIn value fault → IsSelection value → ⊥
 fault-dropped value fault is = dropped value fault (faulty value fault is)
@@ -111,15 +111,15 @@ shallow-moved value other ms os one two same shallow =
     } in
     subst (IsCompact 120) (sym two.spelled) (object-compact 119 os moved)
 
-drawing-moved : (value other : List ℕ) (ms os : List Pair) → IsObject other os → AreSameMembers ms os → IsDrawing value ms → IsDrawing other os
-drawing-moved value other ms os two same is = record { object = two; kind = λ selection. is.kind (same (codes "type") ∙ selection) }
+no_selection-moved : (value other : List ℕ) (ms os : List Pair) → IsObject other os → AreSameMembers ms os → IsNoSelection value ms → IsNoSelection other os
+no_selection-moved value other ms os two same is = record { object = two; kind = λ selection. is.kind (same (codes "type") ∙ selection) }
 
-pub element-moved : (value other : List ℕ) (ms os : List Pair) (e : Drawn) → IsObject value ms → IsObject other os → AreSameMembers ms os → IsElementIn value e → IsElementIn other e
+pub element-moved : (value other : List ℕ) (ms os : List Pair) (e : ElementValue) → IsObject value ms → IsObject other os → AreSameMembers ms os → IsElementIn value e → IsElementIn other e
 element-moved value other ms os e one two same is =
-    let own = members-once value is.members ms is.drawing.object one in record {
+    let own = members-once value is.members ms is.no_selection.object one in record {
       members = os;
       restored = is.restored;
-      drawing = drawing-moved value other ms os two same (subst (IsDrawing value) own is.drawing);
+      no_selection = no_selection-moved value other ms os two same (subst (IsNoSelection value) own is.no_selection);
       shallow = shallow-moved value other ms os one two same is.shallow;
       restores = restored-order ms os is.restored same (subst (λ ns. AreRestored ns is.restored) own is.restores);
       says = is.says;
@@ -132,14 +132,14 @@ fault-moved value other ms os fault one two same is = back fault (moved fault (f
     moved f (none e lacks) = absurd (lacks ms one)
     moved f (deep e bad) = deep e (record {
       members = os;
-      drawing = drawing-moved value other ms os two same (subst (IsDrawing value) (members-once value bad.members ms bad.drawing.object one) bad.drawing);
+      no_selection = no_selection-moved value other ms os two same (subst (IsNoSelection value) (members-once value bad.members ms bad.no_selection.object one) bad.no_selection);
       deep = λ shallow. bad.deep (shallow-moved other value os ms two one (λ name. sym (same name)) shallow);
     })
     moved f (has bad) =
-        let own = members-once value bad.members ms bad.drawing.object one in has (record {
+        let own = members-once value bad.members ms bad.no_selection.object one in has (record {
           members = os;
           restored = bad.restored;
-          drawing = drawing-moved value other ms os two same (subst (IsDrawing value) own bad.drawing);
+          no_selection = no_selection-moved value other ms os two same (subst (IsNoSelection value) own bad.no_selection);
           shallow = shallow-moved value other ms os one two same bad.shallow;
           restores = restored-order ms os bad.restored same (subst (λ ns. AreRestored ns bad.restored) own bad.restores);
           first = bad.first;

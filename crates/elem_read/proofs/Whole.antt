@@ -25,16 +25,16 @@ use Rattle.restore_table.proofs.RestoredLaws.{restored-lack}
 use Rattle.restore_table.proofs.Rows.{defaults-compact}
 use Rattle.elem.specs.declared.kind.Kind.{Kind}
 use Rattle.elem.specs.declared.kind.Kind.TheVariants.{Rectangle, Diamond, Ellipse, Arrow, Line, Freedraw, Text, Image, Frame, Magicframe, Iframe, Embeddable, Other}
-use Rattle.elem.specs.Drawn.{Drawn}
+use Rattle.elem.specs.ElementValue.{ElementValue}
 use Rattle.elem.specs.Facts.{greatest_whole, header_names, own_names, known_names, is_header, IsKind, IsElement}
 use Rattle.elem.specs.Forms.{find_in, AreOthers}
-use Rattle.elem.specs.Said.{Says, IsWritten}
+use Rattle.elem.specs.Said.{Says, HasValidTexts}
 use Rattle.elem.specs.Texts.{kind_name, truth_text, text_or_null, header_members, element_members}
 use Rattle.elem.proofs.Distinct.{IsDistinct-element}
 use Rattle.elem.proofs.FormsOnce.{text-once, rising-names}
 use Rattle.elem.proofs.Saying.{literal, AreMembers-deeper, element-are, element-says, element-found}
 use Rattle.elem.proofs.Sorting.{IsRising-sorted}
-use Rattle.elem_read.specs.Reading.{IsElementIn, IsWhole}
+use Rattle.elem_read.specs.Reading.{IsElementIn, IsWholeElement}
 use Rattle.elem_read.proofs.Keeping.{AllFound, found-has, object-nests, says-element, says-written}
 
 -- ---- restored members
@@ -185,7 +185,7 @@ truth-no-null : (truth : Bool) (default : List ℕ) → truth_text truth ≡ nul
 truth-no-null true default e = absurd (heads-differ 116 110 _ _ refl e)
 truth-no-null false default e = absurd (heads-differ 102 110 _ _ refl e)
 
-module _ (e : Drawn) (rs : List Pair) (is : IsElement e) (w : IsWritten e) (rest : AreOthers (is_header e.kind) (find_in rs) e.rest) (lack : LackNothing rs) where
+module _ (e : ElementValue) (rs : List Pair) (is : IsElement e) (w : HasValidTexts e) (rest : AreOthers (is_header e.kind) (find_in rs) e.rest) (lack : LackNothing rs) where
   own-says : Says (find_in (element_members e)) e
   own-says = element-says e is w
 
@@ -290,7 +290,7 @@ module _ (e : Drawn) (rs : List Pair) (is : IsElement e) (w : IsWritten e) (rest
       row-full : (name default : List ℕ) → value_at name defaults ≡ Some default → (value : List ℕ) × (value_at name (element_members e) ≡ Some value) × (value ≡ null_word → default ≡ null_word)
       row-full name default row = found-has (λ n d. IsFull (element_members e) (n, d)) defaults all-full name default row
 
-element-rise : (e : Drawn) → IsElement e → HaveRisingNames (element_members e)
+element-rise : (e : ElementValue) → IsElement e → HaveRisingNames (element_members e)
 unfolding element_members
 element-rise e is = rising-names (element_members e) (IsRising-sorted (header_members e ++ pairs e.rest) (IsDistinct-element e is))
 
@@ -314,16 +314,16 @@ no-selection Embeddable is e = apart-names (codes "embeddable") refl e
 no-selection (Other name) is e = false≢true (sym is ∙ ap (λ n. list_any (bytes_eq n) known_names) e)
 
 -- An element that a value says has the facts of elements, and its further members are those of members that lack nothing.
-pub record IsSound (e : Drawn) : Type 0 where
+pub record IsSound (e : ElementValue) : Type 0 where
   pub restored : List Pair
   pub is_element : IsElement e
-  pub written : IsWritten e
+  pub written : HasValidTexts e
   pub rest : AreOthers (is_header e.kind) (find_in restored) e.rest
   pub lack : LackNothing restored
 
-pub IsSound-read : (value : List ℕ) (e : Drawn) → IsElementIn value e → IsSound e
+pub IsSound-read : (value : List ℕ) (e : ElementValue) → IsElementIn value e → IsSound e
 IsSound-read value e in_ =
-    let given : AreMembers 119 in_.members = object-nests 120 value in_.members (lit≤ tt) (lit≤ tt) in_.shallow in_.drawing.object in
+    let given : AreMembers 119 in_.members = object-nests 120 value in_.members (lit≤ tt) (lit≤ tt) in_.shallow in_.no_selection.object in
     record {
       restored = in_.restored;
       is_element = says-element (find_in in_.restored) e (restored-nest in_.members in_.restored given in_.restores) in_.says;
@@ -333,14 +333,14 @@ IsSound-read value e in_ =
     }
 
 -- and each such element is whole
-pub IsSound-whole : (e : Drawn) → IsSound e → IsWhole e
+pub IsSound-whole : (e : ElementValue) → IsSound e → IsWholeElement e
 IsSound-whole e sound =
     let are = element-are e sound.is_element sound.written in
     let says = element-says e sound.is_element sound.written in
     record {
       members = element_members e;
       restored = element_members e;
-      drawing = record {
+      no_selection = record {
         object = record { are_members = AreMembers-deeper 119 127 (element_members e) (lit≤ tt) are; spelled = refl };
         kind = λ selection. no-selection e.kind sound.is_element.kind (text-once _ (kind_name e.kind) (codes "selection") says.kind.0 (literal (codes "selection") refl, selection));
       };
@@ -349,5 +349,5 @@ IsSound-whole e sound =
       says = says;
     }
 
-pub whole : (value : List ℕ) (e : Drawn) → IsElementIn value e → IsWhole e
+pub whole : (value : List ℕ) (e : ElementValue) → IsElementIn value e → IsWholeElement e
 whole value e in_ = IsSound-whole e (IsSound-read value e in_)

@@ -1,6 +1,6 @@
 -- The faults of an element. The forms that are accepted, the order of the faults and their words are this project's own.
 use Rattle.std.specs.Prelude.{◌⊎◌, ℕ, ◌<◌, List, Option, codes}
-use Rattle.elem.specs.Forms.{Find, IsText, IsId, IsWhole, IsTruth, IsTextOrNull, IsKeyOrNull, AreTexts, IsListing, IsBindingOrNull}
+use Rattle.elem.specs.Forms.{Find, IsText, IsId, IsWholeNumber, IsTruth, IsTextOrNull, IsKeyOrNull, AreTexts, IsListing, IsBindingOrNull}
 use Rattle.elem_read.specs.declared.fault.ElemFault.{ElemFault}
 use Rattle.elem_read.specs.declared.fault.ElemFault.TheVariants.{NotObject, Depth, Id, Kind, Version, Nonce, Updated, Index, Deleted, Groups, Frame, Bound, Container, Binding, File}
 
@@ -19,9 +19,9 @@ Fails NotObject find = ⊥
 Fails Depth find = ⊥
 Fails Id find = Lacks (IsId (find (codes "id")))
 Fails Kind find = Lacks (IsText (find (codes "type")))
-Fails Version find = Lacks (IsWhole (find (codes "version")))
-Fails Nonce find = Lacks (IsWhole (find (codes "versionNonce")))
-Fails Updated find = Lacks (IsWhole (find (codes "updated")))
+Fails Version find = Lacks (IsWholeNumber (find (codes "version")))
+Fails Nonce find = Lacks (IsWholeNumber (find (codes "versionNonce")))
+Fails Updated find = Lacks (IsWholeNumber (find (codes "updated")))
 Fails Index find = Lacks (IsKeyOrNull (find (codes "index")))
 Fails Deleted find = Lacks (IsTruth (find (codes "isDeleted")))
 Fails Groups find = Lacks (AreTexts (find (codes "groupIds")))
@@ -60,19 +60,19 @@ pub record IsFirst (find : Find) (fault : ElemFault) : Type 0 where
   pub first : Passes (place_of fault) find
 
 -- what a fault line calls the fault
-abbrev pub word_of : ElemFault → List ℕ
-word_of NotObject = codes "not an object"
-word_of Depth = codes "depth"
-word_of Id = codes "id"
-word_of Kind = codes "type"
-word_of Version = codes "version"
-word_of Nonce = codes "versionNonce"
-word_of Updated = codes "updated"
-word_of Index = codes "index"
-word_of Deleted = codes "isDeleted"
-word_of Groups = codes "groupIds"
-word_of Frame = codes "frameId"
-word_of Bound = codes "boundElements"
-word_of Container = codes "containerId"
-word_of Binding = codes "binding"
-word_of File = codes "fileId"
+abbrev pub fault_word : ElemFault → List ℕ
+fault_word NotObject = codes "not an object"
+fault_word Depth = codes "depth"
+fault_word Id = codes "id"
+fault_word Kind = codes "type"
+fault_word Version = codes "version"
+fault_word Nonce = codes "versionNonce"
+fault_word Updated = codes "updated"
+fault_word Index = codes "index"
+fault_word Deleted = codes "isDeleted"
+fault_word Groups = codes "groupIds"
+fault_word Frame = codes "frameId"
+fault_word Bound = codes "boundElements"
+fault_word Container = codes "containerId"
+fault_word Binding = codes "binding"
+fault_word File = codes "fileId"

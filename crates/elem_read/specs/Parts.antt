@@ -3,7 +3,7 @@ use Rattle.std.specs.Prelude.{◌≡◌, ◌⊎◌, ℕ, List, [], ◌∷◌, �
 use Rattle.board_io.specs.declared.stop.Stop.{Stop}
 use Rattle.board_io.specs.declared.stop.Stop.TheVariants.{Fault, Memory}
 use Rattle.elem.specs.declared.parts.BoundRef.{BoundRef}
-use Rattle.elem.specs.Forms.{IsEntry}
+use Rattle.elem.specs.Forms.{IsListingEntry}
 use Rattle.elem_read.specs.Faults.{Lacks}
 use Rattle.elem_read.specs.declared.fault.ElemFault.{ElemFault}
 
@@ -19,4 +19,4 @@ Reads P fault result = ReadsOr P P fault result
 -- The entry that the item is was appended, if it is one.
 abbrev pub TakesEntry : List ℕ → List BoundRef → List BoundRef → Type 0
 TakesEntry item old new =
-    ((entry : BoundRef) × IsEntry item entry × (new ≡ old ++ entry ∷ [])) ⊎ (Lacks (IsEntry item) × (new ≡ old))
+    ((entry : BoundRef) × IsListingEntry item entry × (new ≡ old ++ entry ∷ [])) ⊎ (Lacks (IsListingEntry item) × (new ≡ old))

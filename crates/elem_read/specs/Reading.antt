@@ -6,7 +6,7 @@ use Rattle.scene_json.specs.Compact.{Member as Pair}
 use Rattle.scene_json.specs.Named.{value_at}
 use Rattle.scene_json.specs.Value.{IsCompact}
 use Rattle.restore_table.specs.Restored.{AreRestored}
-use Rattle.elem.specs.Drawn.{Drawn}
+use Rattle.elem.specs.ElementValue.{ElementValue}
 use Rattle.elem.specs.Forms.{find_in, IsObject}
 use Rattle.elem.specs.Said.{Says}
 use Rattle.elem.specs.Texts.{element_text}
@@ -24,30 +24,30 @@ pub record IsSelection (value : List ℕ) : Type 0 where
   pub kind : value_at (codes "type") members ≡ Some selection_text
 
 -- Any other object.
-pub record IsDrawing (value : List ℕ) (members : List Pair) : Type 0 where
+pub record IsNoSelection (value : List ℕ) (members : List Pair) : Type 0 where
   pub object : IsObject value members
   pub kind : value_at (codes "type") members ≢ Some selection_text
 
 -- The value says this element: it nests at most 120, and its members, the defaults filled in, say the element.
-pub record IsElementIn (value : List ℕ) (e : Drawn) : Type 0 where
+pub record IsElementIn (value : List ℕ) (e : ElementValue) : Type 0 where
   pub members : List Pair
   pub restored : List Pair
-  pub drawing : IsDrawing value members
+  pub no_selection : IsNoSelection value members
   pub shallow : IsCompact 120 value
   pub restores : AreRestored members restored
   pub says : Says (find_in restored) e
 
 -- It nests deeper.
-pub record IsTooDeep (value : List ℕ) : Type 0 where
+pub record IsTooDeepElement (value : List ℕ) : Type 0 where
   pub members : List Pair
-  pub drawing : IsDrawing value members
+  pub no_selection : IsNoSelection value members
   pub deep : IsCompact 120 value → ⊥
 
 -- The first fault of its members, the defaults filled in, is this one.
 pub record HasFault (value : List ℕ) (fault : ElemFault) : Type 0 where
   pub members : List Pair
   pub restored : List Pair
-  pub drawing : IsDrawing value members
+  pub no_selection : IsNoSelection value members
   pub shallow : IsCompact 120 value
   pub restores : AreRestored members restored
   pub first : IsFirst (find_in restored) fault
@@ -56,9 +56,9 @@ pub record HasFault (value : List ℕ) (fault : ElemFault) : Type 0 where
 -- those of its members.
 abbrev pub IsFaultIn : List ℕ → ElemFault → Type 0
 IsFaultIn value NotObject = (members : List Pair) → IsObject value members → ⊥
-IsFaultIn value Depth = IsTooDeep value
+IsFaultIn value Depth = IsTooDeepElement value
 IsFaultIn value fault = HasFault value fault
 
 -- Reading the element's text gives the element.
-abbrev pub IsWhole : Drawn → Type 0
-IsWhole e = IsElementIn (element_text e) e
+abbrev pub IsWholeElement : ElementValue → Type 0
+IsWholeElement e = IsElementIn (element_text e) e

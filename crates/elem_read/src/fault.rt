@@ -37,11 +37,11 @@ pub enum ElemFault {
 
 impl ElemFault {
     ghost use Rattle.std.specs.Prelude.{◌≡◌};
-    ghost use Rattle.elem_read.specs.Faults.{word_of};
+    ghost use Rattle.elem_read.specs.Faults.{fault_word};
 
     /// What a fault line calls the fault.
     pub fn word(self) -> &'static str
-        ensures { result.now ≡ word_of self }
+        ensures { result.now ≡ fault_word self }
     {
         match self {
             ElemFault::NotObject => "not an object",

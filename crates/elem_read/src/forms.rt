@@ -3,7 +3,7 @@
 ghost use Rattle.std.specs.Prelude.{◌≡◌, codes};
 ghost use Rattle.scene_json.specs.Members.{pairs};
 ghost use Rattle.scene_json.specs.Named.{value_at};
-ghost use Rattle.elem.specs.Forms.{IsText, IsId, IsWhole, IsTruth, IsTextOrNull, IsKeyOrNull, AreTexts};
+ghost use Rattle.elem.specs.Forms.{IsText, IsId, IsWholeNumber, IsTruth, IsTextOrNull, IsKeyOrNull, AreTexts};
 ghost use Rattle.elem.specs.Said.{IsOwn};
 ghost use Rattle.elem_read.specs.Parts.{Reads};
 ghost use Rattle.elem_read.specs.declared.fault.ElemFault.TheVariants as faults;
@@ -48,7 +48,7 @@ pub(crate) fn whole(
     name: &str,
     fault: ElemFault,
 ) -> Result<u64, Stop<ElemFault>>
-    ensures { Reads (IsWhole (value_at name.now (pairs members.now))) fault result }
+    ensures { Reads (IsWholeNumber (value_at name.now (pairs members.now))) fault result }
 {
     match whole_named(members, name) {
         Some(number) => Ok(number),

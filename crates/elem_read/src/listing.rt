@@ -4,7 +4,7 @@ ghost use Rattle.std.specs.Prelude.{◌≡◌, codes, IfOk, OnOk, MatchOption};
 ghost use Rattle.scene_json.specs.Members.{pairs};
 ghost use Rattle.scene_json.specs.Named.{value_at};
 ghost use Rattle.scene_json.specs.TheOne.{IsTheOne};
-ghost use Rattle.elem.specs.Forms.{IsText, IsEntry, AreEntries, IsListing};
+ghost use Rattle.elem.specs.Forms.{IsText, IsListingEntry, AreListingEntries, IsListing};
 ghost use Rattle.elem.specs.Texts.{role_name};
 ghost use Rattle.elem_read.specs.Faults.{Lacks};
 ghost use Rattle.elem_read.specs.Parts.{Reads, TakesEntry};
@@ -34,7 +34,7 @@ pub(crate) fn listing(
 
 /// The entries among the items.
 fn entries(alloc: Global, items: &List<Raw>) -> Result<List<BoundRef>, AllocError>
-    ensures { IfOk result (AreEntries items.now) }
+    ensures { IfOk result (AreListingEntries items.now) }
 {
     let mut entries = Vec::new(alloc);
     for item in items.as_slice() {
@@ -56,7 +56,7 @@ fn push_entry(alloc: Global, entries: &mut Vec<BoundRef>, item: &Raw) -> Result<
 
 /// The entry that the item is, if it is one.
 fn entry(alloc: Global, item: &Raw) -> Result<Option<BoundRef>, AllocError>
-    ensures { IfOk result (λ found. MatchOption found (Lacks (IsEntry item.now)) (IsEntry item.now)) }
+    ensures { IfOk result (λ found. MatchOption found (Lacks (IsListingEntry item.now)) (IsListingEntry item.now)) }
 {
     let Some(members) = shaped(members(alloc, item))? else {
         return Ok(None);

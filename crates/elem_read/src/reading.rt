@@ -2,7 +2,7 @@
 
 ghost use Rattle.std.specs.Prelude.{◌≡◌, MatchOption, IfOk, IfSome, Err, All};
 ghost use Rattle.elem_read.specs.Elements.{AreRead, IsFirstFaulty};
-ghost use Rattle.elem_read.specs.Reading.{IsSelection, IsElementIn, IsFaultIn, IsWhole};
+ghost use Rattle.elem_read.specs.Reading.{IsSelection, IsElementIn, IsFaultIn, IsWholeElement};
 ghost use Rattle.elem_read.specs.declared.fault.ElemFault.{ElemFault};
 ghost use Rattle.elem_read.specs.declared.fault.FaultyElement.{FaultyElement};
 
@@ -22,7 +22,7 @@ const DEEPEST: u64 = 120;
 pub fn read_element(alloc: Global, value: &Raw) -> Result<Option<Element>, Stop<ElemFault>>
     ensures read { IfOk result (λ found. MatchOption found (IsSelection value.now) (IsElementIn value.now)) }
     ensures fault { (fault : ElemFault) → result ≡ Err (Stop.Fault fault) → IsFaultIn value.now fault }
-    ensures whole { IfOk result (λ found. IfSome found IsWhole) }
+    ensures whole { IfOk result (λ found. IfSome found IsWholeElement) }
 {
     let Some(given) = shaped(members(alloc, value))? else {
         return Err(Stop::Fault(ElemFault::NotObject));
@@ -46,7 +46,7 @@ pub fn read_elements(
     ensures read { IfOk result (AreRead values.now) }
     ensures fault { (faulty : FaultyElement) → result ≡ Err (Stop.Fault faulty)
         → IsFirstFaulty values.now faulty.place faulty.fault }
-    ensures whole { IfOk result (All IsWhole) }
+    ensures whole { IfOk result (All IsWholeElement) }
 {
     let mut elements = Vec::new(alloc);
     for (place, value) in values.as_slice().iter().enumerate() {

@@ -9,10 +9,10 @@ use Rattle.std.proofs.lemmas.List.Folds.{list_any_none, list_any_at}
 use Rattle.std.proofs.lemmas.List.MinMax.{IsFirstBest-from_best_of}
 use Rattle.std.proofs.lemmas.List.Recursion.{found_at}
 use Rattle.std.proofs.lemmas.List.Sums.{fold-append}
-use Rattle.elem.specs.Drawn.{Drawn}
-use Rattle.elem.specs.Order.{beats}
+use Rattle.elem.specs.ElementValue.{ElementValue}
+use Rattle.elem.specs.Order.{beats, has_id}
 use Rattle.elem.proofs.OrderLaws.{beats-asym, beats-below}
-use Rattle.elem_store.specs.Updates.{is_of, is_unbeaten, is_best, stored_of}
+use Rattle.elem_store.specs.Updates.{is_unbeaten, is_best, stored_of}
 use Rattle.elem_store.proofs.Ids.{same_id}
 use Rattle.elem_store.proofs.Lists.{find-filter, list_any-filter}
 
@@ -20,15 +20,15 @@ beats-IsStrictWeakOrder : IsStrictWeakOrder beats
 beats-IsStrictWeakOrder = record { one_way = beats-asym; chain = λ a b c h k. beats-below c b a k h }
 
 -- no element of the list beats it
-abbrev pub leads : List Drawn → Drawn → Bool
+abbrev pub leads : List ElementValue → ElementValue → Bool
 leads updates e = not (list_any (λ other. beats other e) updates)
 
 -- the first that leads, taking one after another
-abbrev pub leader : List Drawn → Option Drawn
+abbrev pub leader : List ElementValue → Option ElementValue
 leader [] = None
 leader (e ∷ updates) = Some (best_of beats e updates)
 
-pub find-leads : (updates : List Drawn) → find (leads updates) updates ≡ leader updates
+pub find-leads : (updates : List ElementValue) → find (leads updates) updates ≡ leader updates
 find-leads [] = refl
 find-leads (e ∷ rest) =
     let updates = e ∷ rest in
@@ -43,20 +43,20 @@ find-leads (e ∷ rest) =
     ∙ ap Some best.2
 
 -- the better one of the last update and the one that leads, if there is one
-abbrev pub next_leader : Drawn → Option Drawn → Drawn
+abbrev pub next_leader : ElementValue → Option ElementValue → ElementValue
 next_leader e None = e
 next_leader e (Some old) = cond (beats e old) e old
 
-leader-push : (updates : List Drawn) (e : Drawn) → leader (updates ++ e ∷ []) ≡ Some (next_leader e (leader updates))
+leader-push : (updates : List ElementValue) (e : ElementValue) → leader (updates ++ e ∷ []) ≡ Some (next_leader e (leader updates))
 leader-push [] e = refl
 leader-push (first ∷ updates) e = ap Some (fold-append (λ b x. cond (beats x b) x b) first updates (e ∷ []))
 
 -- the leader of two lists joined end to end: the one of the second if it beats the one of the first
-abbrev pub joined_leader : Option Drawn → Option Drawn → Option Drawn
+abbrev pub joined_leader : Option ElementValue → Option ElementValue → Option ElementValue
 joined_leader o None = o
 joined_leader o (Some e) = Some (next_leader e o)
 
-next_leader_assoc : (o : Option Drawn) (e f : Drawn) → next_leader f (Some (next_leader e o)) ≡ next_leader (next_leader f (Some e)) o
+next_leader_assoc : (o : Option ElementValue) (e f : ElementValue) → next_leader f (Some (next_leader e o)) ≡ next_leader (next_leader f (Some e)) o
 next_leader_assoc None e f = refl
 next_leader_assoc (Some d) e f = choose (beats e d) (beats f e) refl refl
   where
@@ -70,43 +70,43 @@ next_leader_assoc (Some d) e f = choose (beats e d) (beats f e) refl refl
     choose false false h k =
         cond-false (beats f d) f d (beats-IsStrictWeakOrder.chain f e d k h) ∙ sym (cond-false (beats e d) e d h)
 
-joined_leader_assoc : (o p : Option Drawn) (e : Drawn) → joined_leader (Some (next_leader e o)) p ≡ joined_leader o (joined_leader (Some e) p)
+joined_leader_assoc : (o p : Option ElementValue) (e : ElementValue) → joined_leader (Some (next_leader e o)) p ≡ joined_leader o (joined_leader (Some e) p)
 joined_leader_assoc o None e = refl
 joined_leader_assoc o (Some f) e = ap Some (next_leader_assoc o e f)
 
-leader-append : (updates others : List Drawn) → leader (updates ++ others) ≡ joined_leader (leader updates) (leader others)
+leader-append : (updates others : List ElementValue) → leader (updates ++ others) ≡ joined_leader (leader updates) (leader others)
 leader-append updates [] = ap leader (append-nil updates)
 leader-append updates (e ∷ others) =
     ap leader (sym (append_assoc updates (e ∷ []) others)) ∙ leader-append (updates ++ e ∷ []) others
     ∙ ap (λ o. joined_leader o (leader others)) (leader-push updates e) ∙ joined_leader_assoc (leader updates) (leader others) e
     ∙ ap (joined_leader (leader updates)) (sym (leader-append (e ∷ []) others))
 
-pub is_best-leads : (updates : List Drawn) (id : List ℕ) (e : Drawn) → is_best updates id e ≡ (is_of id e && leads (filter (is_of id) updates) e)
+pub is_best-leads : (updates : List ElementValue) (id : List ℕ) (e : ElementValue) → is_best updates id e ≡ (has_id id e && leads (filter (has_id id) updates) e)
 is_best-leads updates id e =
-    elim (cases_Bool (is_of id e)) [
-      | inl t ↦ ap (λ i. is_of id e && not (list_any (λ other. is_of i other && beats other e) updates)) (sym (same_id id e t))
-          ∙ ap (λ b. is_of id e && not b) (list_any-filter (is_of id) (λ other. beats other e) updates)
-      | inr f ↦ and_left (is_of id e) (is_unbeaten updates e) f ∙ sym (and_left (is_of id e) (leads (filter (is_of id) updates) e) f)
+    elim (cases_Bool (has_id id e)) [
+      | inl t ↦ ap (λ i. has_id id e && not (list_any (λ other. has_id i other && beats other e) updates)) (sym (same_id id e t))
+          ∙ ap (λ b. has_id id e && not b) (list_any-filter (has_id id) (λ other. beats other e) updates)
+      | inr f ↦ and_left (has_id id e) (is_unbeaten updates e) f ∙ sym (and_left (has_id id e) (leads (filter (has_id id) updates) e) f)
     ]
 
-pub stored-leader : (updates : List Drawn) (id : List ℕ) → stored_of updates id ≡ leader (filter (is_of id) updates)
+pub stored-leader : (updates : List ElementValue) (id : List ℕ) → stored_of updates id ≡ leader (filter (has_id id) updates)
 unfolding stored_of
 stored-leader updates id =
-    let mine = filter (is_of id) updates in
-    (λ i. find (λ e. is_best-leads updates id e i) updates) ∙ find-filter (is_of id) (leads mine) updates ∙ find-leads mine
+    let mine = filter (has_id id) updates in
+    (λ i. find (λ e. is_best-leads updates id e i) updates) ∙ find-filter (has_id id) (leads mine) updates ∙ find-leads mine
 
 -- the stored element of two lists joined end to end
-pub stored-append : (updates others : List Drawn) (id : List ℕ) → stored_of (updates ++ others) id ≡ joined_leader (stored_of updates id) (stored_of others id)
+pub stored-append : (updates others : List ElementValue) (id : List ℕ) → stored_of (updates ++ others) id ≡ joined_leader (stored_of updates id) (stored_of others id)
 stored-append updates others id =
-    stored-leader (updates ++ others) id ∙ ap leader (filter-append (is_of id) updates others)
-    ∙ leader-append (filter (is_of id) updates) (filter (is_of id) others)
+    stored-leader (updates ++ others) id ∙ ap leader (filter-append (has_id id) updates others)
+    ∙ leader-append (filter (has_id id) updates) (filter (has_id id) others)
     ∙ ap₂ joined_leader (sym (stored-leader updates id)) (sym (stored-leader others id))
 
 -- what a further update changes: the stored element of its own id alone
-pub stored-push : (updates : List Drawn) (e : Drawn) (id : List ℕ) → stored_of (updates ++ e ∷ []) id ≡ cond (is_of id e) (Some (next_leader e (stored_of updates id))) (stored_of updates id)
+pub stored-push : (updates : List ElementValue) (e : ElementValue) (id : List ℕ) → stored_of (updates ++ e ∷ []) id ≡ cond (has_id id e) (Some (next_leader e (stored_of updates id))) (stored_of updates id)
 stored-push updates e id =
-    stored-leader (updates ++ e ∷ []) id ∙ ap leader (filter-append (is_of id) updates (e ∷ []))
-    ∙ (elim (is_of id e) as (λ b. leader (filter (is_of id) updates ++ cond b (e ∷ []) []) ≡ cond b (Some (next_leader e (stored_of updates id))) (stored_of updates id)) [
-      | true ↦ leader-push (filter (is_of id) updates) e ∙ ap (λ o. Some (next_leader e o)) (sym (stored-leader updates id))
-      | false ↦ ap leader (append-nil (filter (is_of id) updates)) ∙ sym (stored-leader updates id)
+    stored-leader (updates ++ e ∷ []) id ∙ ap leader (filter-append (has_id id) updates (e ∷ []))
+    ∙ (elim (has_id id e) as (λ b. leader (filter (has_id id) updates ++ cond b (e ∷ []) []) ≡ cond b (Some (next_leader e (stored_of updates id))) (stored_of updates id)) [
+      | true ↦ leader-push (filter (has_id id) updates) e ∙ ap (λ o. Some (next_leader e o)) (sym (stored-leader updates id))
+      | false ↦ ap leader (append-nil (filter (has_id id) updates)) ∙ sym (stored-leader updates id)
     ])

@@ -15,7 +15,7 @@ use Rattle.std.proofs.lemmas.Map.Lookups.{exact_bytes}
 use Rattle.std.proofs.lemmas.Option.{slice_get-get_or, slice_get_within, get_or_from_slice_get}
 use Rattle.frac_keys.specs.Keys.{bytes_less}
 use Rattle.frac_keys.specs.Rising.{are_rising}
-use Rattle.elem.specs.Drawn.{Drawn}
+use Rattle.elem.specs.ElementValue.{ElementValue}
 use Rattle.elem.specs.Order.{beats}
 use Rattle.elem_store.specs.Updates.{element_of, ids_of, is_taken, HasTaken}
 use Rattle.elem_store.specs.Places.{elements_at, order_at, AreInOrder, IsAt, IsGapFor}
@@ -23,25 +23,25 @@ use Rattle.elem_store.proofs.Rising.{earlier_less, less-less, less-other}
 use Rattle.elem_store.proofs.Edits.{element-at, is_taken-at, HasTaken-set, HasTaken-not, HasTaken-insert}
 
 -- a place within the list has an element
-pub some_within : (elements : List Drawn) (place : ℕ) → place < length elements → (x : Drawn) × (slice_get elements place ≡ Some x)
+pub some_within : (elements : List ElementValue) (place : ℕ) → place < length elements → (x : ElementValue) × (slice_get elements place ≡ Some x)
 some_within [] place l = absurd (omega arith)
 some_within (x ∷ elements) zero l = (x, refl)
 some_within (x ∷ elements) (suc place) l = some_within elements place (omega arith)
 
-abbrev pub AllWithin : List Drawn → List ℕ → Type 0
+abbrev pub AllWithin : List ElementValue → List ℕ → Type 0
 AllWithin elements places = All (λ place. place < length elements) places
 
 -- the element at the first place, and those at the others
-at-cons : (elements : List Drawn) (place : ℕ) (places : List ℕ) (x : Drawn) → slice_get elements place ≡ Some x → elements_at elements (place ∷ places) ≡ x ∷ elements_at elements places
+at-cons : (elements : List ElementValue) (place : ℕ) (places : List ℕ) (x : ElementValue) → slice_get elements place ≡ Some x → elements_at elements (place ∷ places) ≡ x ∷ elements_at elements places
 at-cons elements place places x h = ap (λ o. cons_option o (elements_at elements places)) h
 
-pub length-at : (elements : List Drawn) (places : List ℕ) → AllWithin elements places → length (elements_at elements places) ≡ length places
+pub length-at : (elements : List ElementValue) (places : List ℕ) → AllWithin elements places → length (elements_at elements places) ≡ length places
 length-at elements [] h = refl
 length-at elements (place ∷ places) h =
     let x = some_within elements place (All-head (λ place. place < length elements) place places h) in
     ap length (at-cons elements place places x.0 x.1) ∙ ap suc (length-at elements places (All-tail (λ place. place < length elements) place places h))
 
-pub get-at : (elements : List Drawn) (places : List ℕ) (i : ℕ) → AllWithin elements places → slice_get (elements_at elements places) i ≡ option_and_then (slice_get elements) (slice_get places i)
+pub get-at : (elements : List ElementValue) (places : List ℕ) (i : ℕ) → AllWithin elements places → slice_get (elements_at elements places) i ≡ option_and_then (slice_get elements) (slice_get places i)
 get-at elements [] i h = refl
 get-at elements (place ∷ places) zero h =
     let x = some_within elements place (All-head (λ place. place < length elements) place places h) in
@@ -50,7 +50,7 @@ get-at elements (place ∷ places) (suc i) h =
     let x = some_within elements place (All-head (λ place. place < length elements) place places h) in
     ap (λ xs. slice_get xs (suc i)) (at-cons elements place places x.0 x.1) ∙ get-at elements places i (All-tail (λ place. place < length elements) place places h)
 
-pub take-at : (elements : List Drawn) (places : List ℕ) (i : ℕ) → AllWithin elements places → elements_at elements (take i places) ≡ take i (elements_at elements places)
+pub take-at : (elements : List ElementValue) (places : List ℕ) (i : ℕ) → AllWithin elements places → elements_at elements (take i places) ≡ take i (elements_at elements places)
 take-at elements places zero h = refl
 take-at elements [] (suc i) h = refl
 take-at elements (place ∷ places) (suc i) h =
@@ -58,7 +58,7 @@ take-at elements (place ∷ places) (suc i) h =
     at-cons elements place (take i places) x.0 x.1 ∙ ap (λ xs. x.0 ∷ xs) (take-at elements places i (All-tail (λ place. place < length elements) place places h))
     ∙ sym (ap (take (suc i)) (at-cons elements place places x.0 x.1))
 
-pub drop-at : (elements : List Drawn) (places : List ℕ) (i : ℕ) → AllWithin elements places → elements_at elements (drop i places) ≡ drop i (elements_at elements places)
+pub drop-at : (elements : List ElementValue) (places : List ℕ) (i : ℕ) → AllWithin elements places → elements_at elements (drop i places) ≡ drop i (elements_at elements places)
 drop-at elements places zero h = refl
 drop-at elements [] (suc i) h = refl
 drop-at elements (place ∷ places) (suc i) h =
@@ -67,24 +67,24 @@ drop-at elements (place ∷ places) (suc i) h =
     ∙ sym (ap (drop (suc i)) (at-cons elements place places x.0 x.1))
 
 -- elements that come later change nothing at the places
-get-later : (elements later : List Drawn) (place : ℕ) → place < length elements → slice_get (elements ++ later) place ≡ slice_get elements place
+get-later : (elements later : List ElementValue) (place : ℕ) → place < length elements → slice_get (elements ++ later) place ≡ slice_get elements place
 get-later [] later place l = absurd (omega arith)
 get-later (x ∷ elements) later zero l = refl
 get-later (x ∷ elements) later (suc place) l = get-later elements later place (omega arith)
 
-get-last : (elements : List Drawn) (e : Drawn) → slice_get (elements ++ e ∷ []) (length elements) ≡ Some e
+get-last : (elements : List ElementValue) (e : ElementValue) → slice_get (elements ++ e ∷ []) (length elements) ≡ Some e
 get-last [] e = refl
 get-last (x ∷ elements) e = get-last elements e
 
-pub at-later : (elements later : List Drawn) (places : List ℕ) → AllWithin elements places → elements_at (elements ++ later) places ≡ elements_at elements places
+pub at-later : (elements later : List ElementValue) (places : List ℕ) → AllWithin elements places → elements_at (elements ++ later) places ≡ elements_at elements places
 at-later elements later [] h = refl
 at-later elements later (place ∷ places) h =
     ap₂ cons_option (get-later elements later place (All-head (λ place. place < length elements) place places h))
     (at-later elements later places (All-tail (λ place. place < length elements) place places h))
 
 -- the element at a place of the list
-module _ (elements : List Drawn) (places : List ℕ) (h : AllWithin elements places) where
-  pub at-index : (i n : ℕ) (d : Drawn) → i < length places → slice_get elements (get_or places i n) ≡ Some (get_or (elements_at elements places) i d)
+module _ (elements : List ElementValue) (places : List ℕ) (h : AllWithin elements places) where
+  pub at-index : (i n : ℕ) (d : ElementValue) → i < length places → slice_get elements (get_or places i n) ≡ Some (get_or (elements_at elements places) i d)
   at-index i n d l =
       sym (ap (option_and_then (slice_get elements)) (slice_get-get_or places i n l)) ∙ sym (get-at elements places i h)
       ∙ slice_get-get_or (elements_at elements places) i d (rw (length-at elements places h) l)
@@ -100,9 +100,9 @@ greatest Less h = absurd (omega arith)
 greatest Equal h = absurd (omega arith)
 greatest Greater h = refl
 
-module _ (elements : List Drawn) (places : List ℕ) (o : AreInOrder elements places) (id : List ℕ) where
-  order_at-index : (i n : ℕ) (d : Drawn) → i < length places → order_at elements id (get_or places i n) ≡ slice_cmp nat_cmp (get_or (elements_at elements places) i d).id id
-  order_at-index i n d l = ap (λ found. option_map_or (λ (e : Drawn). slice_cmp nat_cmp e.id id) found Less) (at-index elements places o.within i n d l)
+module _ (elements : List ElementValue) (places : List ℕ) (o : AreInOrder elements places) (id : List ℕ) where
+  order_at-index : (i n : ℕ) (d : ElementValue) → i < length places → order_at elements id (get_or places i n) ≡ slice_cmp nat_cmp (get_or (elements_at elements places) i d).id id
+  order_at-index i n d l = ap (λ found. option_map_or (λ (e : ElementValue). slice_cmp nat_cmp e.id id) found Less) (at-index elements places o.within i n d l)
 
   -- the ids that stand in order compare with an id in order
   comparisons_rise : IsNonDecreasingBy (λ place. ordering_index (order_at elements id place)) places
@@ -110,9 +110,9 @@ module _ (elements : List Drawn) (places : List ℕ) (o : AreInOrder elements pl
       let among = elements_at elements places in
       let count = length-at elements places o.within in
       let x = some_within elements (get_or places j 0) (o.within j 0 l) in
-      let sorted = λ (k : ℕ) (d : Drawn) (low : 0 ≤ k) (m : k + 1 < length among). false_from_ne_true (bytes_less (get_or among (k + 1) d).id (get_or among k d).id)
+      let sorted = λ (k : ℕ) (d : ElementValue) (low : 0 ≤ k) (m : k + 1 < length among). false_from_ne_true (bytes_less (get_or among (k + 1) d).id (get_or among k d).id)
       (less-less (get_or among k d).id (get_or among (k + 1) d).id (earlier_less None None among k (k + 1) d o.ordered (omega arith) m)) in
-      let rise = searchable_from_sorted nat_list_cmp_total (λ (e : Drawn). e.id) among id sorted i j x.0 le (rw count l) in
+      let rise = searchable_from_sorted nat_list_cmp_total (λ (e : ElementValue). e.id) among id sorted i j x.0 le (rw count l) in
       subst₂ (λ a b. ordering_index a ≤ ordering_index b) (sym (order_at-index i n x.0 (omega arith))) (sym (order_at-index j n x.0 l)) rise
 
   -- what is found at the middle of the places is so before it, or from it on
@@ -154,7 +154,7 @@ module _ (elements : List Drawn) (places : List ℕ) (o : AreInOrder elements pl
       }
 
 -- what an element added at the end of the list is among them
-module _ (elements : List Drawn) (places : List ℕ) (o : AreInOrder elements places) (e : Drawn) (i : ℕ) (gap : IsGapFor (elements_at elements places) e.id i) where
+module _ (elements : List ElementValue) (places : List ℕ) (o : AreInOrder elements places) (e : ElementValue) (i : ℕ) (gap : IsGapFor (elements_at elements places) e.id i) where
   pub within_count : i ≤ length places
   within_count = omega (arith, length-at elements places o.within, gap.in_range)
 
@@ -185,54 +185,54 @@ module _ (elements : List Drawn) (places : List ℕ) (o : AreInOrder elements pl
   }
 
 -- the element at an index that has an id
-pub found : (o : Option Drawn) (id : List ℕ) → IsSomeAnd o (λ e. e.id ≡ id) → (x : Drawn) × (o ≡ Some x) × (x.id ≡ id)
+pub found : (o : Option ElementValue) (id : List ℕ) → IsSomeAnd o (λ e. e.id ≡ id) → (x : ElementValue) × (o ≡ Some x) × (x.id ≡ id)
 found None id h = absurd h
 found (Some x) id h = (x, refl, h)
 
 -- an index of the elements is one of the places
-pub at-within : (elements : List Drawn) (places : List ℕ) (o : AreInOrder elements places) (id : List ℕ) (i : ℕ) → IsAt (elements_at elements places) id i → i < length places
+pub at-within : (elements : List ElementValue) (places : List ℕ) (o : AreInOrder elements places) (id : List ℕ) (i : ℕ) → IsAt (elements_at elements places) id i → i < length places
 at-within elements places o id i at =
     let x = found (slice_get (elements_at elements places) i) id at in
     rw (← length-at elements places o.within) (slice_get_within (elements_at elements places) i x.0 x.1)
 
-read-at : (elements : List Drawn) (places : List ℕ) → AllWithin elements places → (i n : ℕ) (d : Drawn) → i < length places → get_or (elements_at elements places) i d ≡ get_or elements (get_or places i n) d
+read-at : (elements : List ElementValue) (places : List ℕ) → AllWithin elements places → (i n : ℕ) (d : ElementValue) → i < length places → get_or (elements_at elements places) i d ≡ get_or elements (get_or places i n) d
 read-at elements places h i n d l =
     sym (get_or_from_slice_get elements (get_or places i n) (get_or (elements_at elements places) i d) d (at-index elements places h i n d l))
 
 -- the element at an index that has an id is the one of the id
-pub element-found : (elements : List Drawn) (id : List ℕ) (i : ℕ) → are_rising (ids_of elements) ≡ true → IsAt elements id i → slice_get elements i ≡ element_of elements id
+pub element-found : (elements : List ElementValue) (id : List ℕ) (i : ℕ) → are_rising (ids_of elements) ≡ true → IsAt elements id i → slice_get elements i ≡ element_of elements id
 element-found elements id i rising at =
     let x = found (slice_get elements i) id at in
     x.1 ∙ sym (element-at elements rising id i x.0 x.1 x.2)
 
 -- a place that is read at an index is within the elements, and what stands there is the element at the index
-pub place-found : (elements : List Drawn) (places : List ℕ) (i place : ℕ) → AllWithin elements places → slice_get places i ≡ Some place → place < length elements
+pub place-found : (elements : List ElementValue) (places : List ℕ) (i place : ℕ) → AllWithin elements places → slice_get places i ≡ Some place → place < length elements
 place-found elements places i place h here =
     rw (← get_or_from_slice_get places i place place here) (h i place (slice_get_within places i place here))
 
-pub get-read : (elements : List Drawn) (places : List ℕ) (i place : ℕ) (x : Drawn) → AllWithin elements places → slice_get places i ≡ Some place → x ≡ get_or elements place x → Some x ≡ slice_get (elements_at elements places) i
+pub get-read : (elements : List ElementValue) (places : List ℕ) (i place : ℕ) (x : ElementValue) → AllWithin elements places → slice_get places i ≡ Some place → x ≡ get_or elements place x → Some x ≡ slice_get (elements_at elements places) i
 get-read elements places i place x h here read =
     ap Some read ∙ sym (slice_get-get_or elements place x (place-found elements places i place h here))
     ∙ sym (get-at elements places i h ∙ ap (option_and_then (slice_get elements)) here)
 
-pub none-read : (elements : List Drawn) (places : List ℕ) (i : ℕ) → AllWithin elements places → slice_get places i ≡ None → slice_get (elements_at elements places) i ≡ None
+pub none-read : (elements : List ElementValue) (places : List ℕ) (i : ℕ) → AllWithin elements places → slice_get places i ≡ None → slice_get (elements_at elements places) i ≡ None
 none-read elements places i h none = get-at elements places i h ∙ ap (option_and_then (slice_get elements)) none
 
 -- what holds of all elements holds of those at the places
-pub All-at : (P : Drawn → Type 0) (elements : List Drawn) (places : List ℕ) → AllWithin elements places → All P elements → All P (elements_at elements places)
+pub All-at : (P : ElementValue → Type 0) (elements : List ElementValue) (places : List ℕ) → AllWithin elements places → All P elements → All P (elements_at elements places)
 All-at P elements places h all = λ i d l.
     let m : i < length places = rw (← length-at elements places h) l in
     rw (read-at elements places h i 0 d m) (all (get_or places i 0) d (h i 0 m))
 
 -- no place comes twice
-places_differ : (elements : List Drawn) (places : List ℕ) (o : AreInOrder elements places) (i k n : ℕ) → i < length places → k < length places → k ≢ i → get_or places k n ≢ get_or places i n
+places_differ : (elements : List ElementValue) (places : List ℕ) (o : AreInOrder elements places) (i k n : ℕ) → i < length places → k < length places → k ≢ i → get_or places k n ≢ get_or places i n
 places_differ elements places o i k n l m ne same =
     let among = elements_at elements places in
     let count = length-at elements places o.within in
     let x = (some_within elements (get_or places i n) (o.within i n l)).0 in
     let one : get_or among k x ≡ get_or among i x =
     read-at elements places o.within k n x m ∙ ap (λ place. get_or elements place x) same ∙ sym (read-at elements places o.within i n x l) in
-    let ids = ap (λ (y : Drawn). y.id) one in
+    let ids = ap (λ (y : ElementValue). y.id) one in
     elim (cases_order k i) [
       | inl e ↦ ne e
       | inr unlike ↦ elim unlike [
@@ -242,7 +242,7 @@ places_differ elements places o i k n l m ne same =
     ]
 
 -- what an element in the place of one of its id is among them
-module _ (elements : List Drawn) (places : List ℕ) (o : AreInOrder elements places) (e : Drawn) (i place : ℕ) (at : IsAt (elements_at elements places) e.id i) (here : place ≡ get_or places i place) where
+module _ (elements : List ElementValue) (places : List ℕ) (o : AreInOrder elements places) (e : ElementValue) (i place : ℕ) (at : IsAt (elements_at elements places) e.id i) (here : place ≡ get_or places i place) where
   still_within : AllWithin (set elements place e) places
   still_within = All-weaker (λ p. p < length elements) (λ p. p < length (set elements place e)) (λ p l. rw (length-set elements place e) l) places o.within
 
@@ -275,7 +275,7 @@ module _ (elements : List Drawn) (places : List ℕ) (o : AreInOrder elements pl
       let in_places = at-within elements places o e.id i at in
       let same : get_or elements place e ≡ x.0 =
       ap (λ p. get_or elements p e) here ∙ sym (read-at elements places o.within i place e in_places) ∙ get_or_from_slice_get among i x.0 e x.1 in
-      (x.1 ∙ ap Some (sym same), ap (λ (y : Drawn). y.id) same ∙ x.2)
+      (x.1 ∙ ap Some (sym same), ap (λ (y : ElementValue). y.id) same ∙ x.2)
 
   pub taken-replaced : is_taken (elements_at elements places) e ≡ beats e (get_or elements place e)
   taken-replaced = is_taken-at (elements_at elements places) o.ordered e i (get_or elements place e) old-at.0 old-at.1
@@ -294,6 +294,6 @@ module _ (elements : List Drawn) (places : List ℕ) (o : AreInOrder elements pl
   AreInOrder-replaced false h = o
 
 -- what holds of all elements and of a further one holds of those where it stands in the place of another
-pub All-replaced : (P : Drawn → Type 0) (elements : List Drawn) (place : ℕ) (e : Drawn) (better : Bool) → P e → All P elements → All P (cond better (set elements place e) elements)
+pub All-replaced : (P : ElementValue → Type 0) (elements : List ElementValue) (place : ℕ) (e : ElementValue) (better : Bool) → P e → All P elements → All P (cond better (set elements place e) elements)
 All-replaced P elements place e true is all = All-set P elements place e is all
 All-replaced P elements place e false is all = all

@@ -7,17 +7,18 @@ use Rattle.std.proofs.lemmas.Bool.{cases_Bool, and_parts, and_from}
 use Rattle.scene_json.proofs.Collapsed.{bytes_eq-true}
 use Rattle.scene_json.proofs.Lookups.{bytes_eq-less, bytes_eq-tied, less_turned}
 use Rattle.frac_keys.specs.Rising.{ends_rise, rise_between, are_rising}
-use Rattle.elem.specs.Drawn.{Drawn}
-use Rattle.elem_store.specs.Updates.{is_of, element_of, ids_of, is_taken, stored_of, AreStored, HasTaken}
+use Rattle.elem.specs.ElementValue.{ElementValue}
+use Rattle.elem.specs.Order.{has_id}
+use Rattle.elem_store.specs.Updates.{element_of, ids_of, is_taken, stored_of, AreStored, HasTaken}
 use Rattle.elem_store.proofs.Edits.{HasTaken-not}
 use Rattle.elem_store.proofs.StoreLaws.{AreStored-push}
 
 -- ---- an element that takes its place
-abbrev put : Drawn → List Drawn → List Drawn
+abbrev put : ElementValue → List ElementValue → List ElementValue
 put e [] = e ∷ []
 put e (f ∷ fs) = match_ordering (slice_cmp nat_cmp e.id f.id) (e ∷ f ∷ fs) (e ∷ fs) (f ∷ put e fs)
 
-put-rises : (low : Option (List ℕ)) (e : Drawn) (fs : List Drawn) → ends_rise low (Some e.id) ≡ true → rise_between low None (ids_of fs) ≡ true → rise_between low None (ids_of (put e fs)) ≡ true
+put-rises : (low : Option (List ℕ)) (e : ElementValue) (fs : List ElementValue) → ends_rise low (Some e.id) ≡ true → rise_between low None (ids_of fs) ≡ true → rise_between low None (ids_of (put e fs)) ≡ true
 put-rises low e [] above rise = and_from _ _ above refl
 put-rises low e (f ∷ fs) above rise =
     let parts = and_parts (ends_rise low (Some f.id)) (rise_between (Some f.id) None (ids_of fs)) rise in
@@ -27,11 +28,11 @@ put-rises low e (f ∷ fs) above rise =
       | Greater ↦ λ more. and_from _ _ parts.0 (put-rises (Some f.id) e fs (ap is_lt (less_turned e.id f.id more)) parts.1)
     ] refl
 
-put-at : (id : List ℕ) (e : Drawn) (fs : List Drawn) → element_of (put e fs) id ≡ cond (is_of id e) (Some e) (element_of fs id)
+put-at : (id : List ℕ) (e : ElementValue) (fs : List ElementValue) → element_of (put e fs) id ≡ cond (has_id id e) (Some e) (element_of fs id)
 put-at id e [] = refl
 put-at id e (f ∷ fs) =
     elim (slice_cmp nat_cmp e.id f.id) as (λ o. slice_cmp nat_cmp e.id f.id ≡ o →
-    element_of (match_ordering o (e ∷ f ∷ fs) (e ∷ fs) (f ∷ put e fs)) id ≡ cond (is_of id e) (Some e) (element_of (f ∷ fs) id)) [
+    element_of (match_ordering o (e ∷ f ∷ fs) (e ∷ fs) (f ∷ put e fs)) id ≡ cond (has_id id e) (Some e) (element_of (f ∷ fs) id)) [
       | Less ↦ λ less. refl
       | Equal ↦ λ tied. elim (cases_Bool (bytes_eq id e.id)) [
         | inl own ↦ rw own refl
@@ -48,23 +49,23 @@ put-at id e (f ∷ fs) =
     ] refl
 
 -- ---- one update more, and all of them
-pub taken : (elements : List Drawn) (e : Drawn) → are_rising (ids_of elements) ≡ true → (new : List Drawn) × HasTaken elements e new
+pub taken : (elements : List ElementValue) (e : ElementValue) → are_rising (ids_of elements) ≡ true → (new : List ElementValue) × HasTaken elements e new
 taken elements e rise = elim (cases_Bool (is_taken elements e)) [
   | inl takes ↦ (
     put e elements,
     record {
       ordered = put-rises None e elements refl rise;
-      each = λ id. put-at id e elements ∙ rw takes (both (is_of id e) (Some e) (element_of elements id));
+      each = λ id. put-at id e elements ∙ rw takes (both (has_id id e) (Some e) (element_of elements id));
     },
   )
   | inr stays ↦ (elements, HasTaken-not elements e rise stays)
 ]
   where
-    both : (b : Bool) (x y : Option Drawn) → cond b x y ≡ (if b && true then x else y)
+    both : (b : Bool) (x y : Option ElementValue) → cond b x y ≡ (if b && true then x else y)
     both true x y = refl
     both false x y = refl
 
-stored-behind : (done elements updates : List Drawn) → AreStored done elements → (all : List Drawn) × AreStored (done ++ updates) all
+stored-behind : (done elements updates : List ElementValue) → AreStored done elements → (all : List ElementValue) × AreStored (done ++ updates) all
 stored-behind done elements [] are = (elements, subst (λ us. AreStored us elements) (sym (append-nil done)) are)
 stored-behind done elements (e ∷ updates) are =
     let next = taken elements e are.ordered in
@@ -75,5 +76,5 @@ none : AreStored [] []
 unfolding stored_of
 none = record { ordered = refl; each = λ id. refl }
 
-pub stored-exist : (updates : List Drawn) → (elements : List Drawn) × AreStored updates elements
+pub stored-exist : (updates : List ElementValue) → (elements : List ElementValue) × AreStored updates elements
 stored-exist updates = stored-behind [] [] updates none

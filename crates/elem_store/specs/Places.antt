@@ -7,12 +7,12 @@ use Rattle.std.specs.declared.cmp.Ordering.{Ordering}
 use Rattle.std.specs.declared.cmp.Ordering.TheVariants.{Less}
 use Rattle.frac_keys.specs.Keys.{bytes_less}
 use Rattle.frac_keys.specs.Rising.{are_rising}
-use Rattle.elem.specs.Drawn.{Drawn}
+use Rattle.elem.specs.ElementValue.{ElementValue}
 use Rattle.elem.specs.Said.{AreElements}
 use Rattle.elem_store.specs.Updates.{ids_of}
 
 -- the elements at these places
-abbrev pub elements_at : List Drawn → List ℕ → List Drawn
+abbrev pub elements_at : List ElementValue → List ℕ → List ElementValue
 elements_at elements places = filter_map (slice_get elements) places
 
 -- how many more elements fit in so much room, of which so much is taken, where so many more places do
@@ -20,26 +20,26 @@ abbrev pub spare_in : ℕ → ℕ → ℕ → ℕ
 spare_in room count spare = min (room - count) spare
 
 -- There are as many places as elements, each within the list, and the ids rise along them, so that no place comes twice.
-pub record AreInOrder (elements : List Drawn) (places : List ℕ) : Type 0 where
+pub record AreInOrder (elements : List ElementValue) (places : List ℕ) : Type 0 where
   pub within : All (λ place. place < length elements) places
   pub full : length places ≡ length elements
   pub ordered : are_rising (ids_of (elements_at elements places)) ≡ true
 
 -- A store's elements, in order by their places, are elements.
-pub record IsKept (list : List Drawn) (places : List ℕ) : Type 0 where
+pub record IsKept (list : List ElementValue) (places : List ℕ) : Type 0 where
   pub in_order : AreInOrder list places
   pub elements : AreElements list
 
 -- how the id of the element at a place compares with an id
-abbrev pub order_at : List Drawn → List ℕ → ℕ → Ordering
-order_at elements id place = option_map_or (λ (e : Drawn). slice_cmp nat_cmp e.id id) (slice_get elements place) Less
+abbrev pub order_at : List ElementValue → List ℕ → ℕ → Ordering
+order_at elements id place = option_map_or (λ (e : ElementValue). slice_cmp nat_cmp e.id id) (slice_get elements place) Less
 
 -- the element at the index has the id
-abbrev pub IsAt : List Drawn → List ℕ → ℕ → Type 0
+abbrev pub IsAt : List ElementValue → List ℕ → ℕ → Type 0
 IsAt elements id i = IsSomeAnd (slice_get elements i) (λ e. e.id ≡ id)
 
 -- the id would stand at the index: lesser ids before it, greater ones from it on
-pub record IsGapFor (elements : List Drawn) (id : List ℕ) (i : ℕ) : Type 0 where
+pub record IsGapFor (elements : List ElementValue) (id : List ℕ) (i : ℕ) : Type 0 where
   pub in_range : i ≤ length elements
-  pub less_before : All (λ (e : Drawn). bytes_less e.id id ≡ true) (take i elements)
-  pub greater_after : All (λ (e : Drawn). bytes_less id e.id ≡ true) (drop i elements)
+  pub less_before : All (λ (e : ElementValue). bytes_less e.id id ≡ true) (take i elements)
+  pub greater_after : All (λ (e : ElementValue). bytes_less id e.id ≡ true) (drop i elements)

@@ -2,7 +2,7 @@
 
 ghost use Rattle.std.specs.Prelude.{◌≡◌, ◌+◌, ◌<◌, ◌≤◌, List as Items, [], ◌∷◌, ◌++◌, true, length, slice_get, option_copied, IsSome, IsOk, IfOk, IfErr, OnOk, Ok, false};
 ghost use Rattle.frac_keys.specs.Rising.{are_rising};
-ghost use Rattle.elem.specs.Drawn.{Drawn};
+ghost use Rattle.elem.specs.ElementValue.{ElementValue};
 ghost use Rattle.elem.specs.Said.{AreElements};
 ghost use Rattle.elem_store.specs.Updates.{AreStored, HasTaken, element_of, ids_of, is_taken};
 
@@ -65,7 +65,7 @@ impl Store {
 
     /// Takes the updates in their order.
     fn take_each(&mut self, elements: Vec<Element>) -> Result<(), AllocError>
-        ensures { OnOk result ((updates : Items Drawn) → AreStored updates self.old.elements → AreStored (updates ++ elements.items) self.new.elements) }
+        ensures { OnOk result ((updates : Items ElementValue) → AreStored updates self.old.elements → AreStored (updates ++ elements.items) self.new.elements) }
     {
         for e in elements {
             self.take(e).map_err(|(_, error)| error)?;
@@ -88,7 +88,7 @@ impl Store {
     /// there is room for a new one.
     pub fn take(&mut self, e: Element) -> Result<bool, (Element, AllocError)>
         // What is stored of a list of updates is then stored of the list with this one at its end.
-        ensures stored { OnOk result ((updates : Items Drawn)
+        ensures stored { OnOk result ((updates : Items ElementValue)
             → AreStored updates self.old.elements → AreStored (updates ++ e ∷ []) self.new.elements) }
 
         ensures after { OnOk result (HasTaken self.old.elements e self.new.elements) }
@@ -116,7 +116,7 @@ impl Store {
     /// Takes the elements in their order. There is room for them, so it takes no memory.
     pub fn take_all(&mut self, elements: List<Element>)
         requires { length elements ≤ self.old.spare }
-        ensures { (updates : Items Drawn) → AreStored updates self.old.elements → AreStored (updates ++ elements) self.new.elements }
+        ensures { (updates : Items ElementValue) → AreStored updates self.old.elements → AreStored (updates ++ elements) self.new.elements }
     {
         for e in elements.into_vec() {
             match self.take(e) {

@@ -5,7 +5,7 @@ ghost use Rattle.std.specs.List.{AllByRecursion};
 ghost use Rattle.std.specs.Str.{IsUtf8};
 ghost use Rattle.frac_keys.specs.Keys.{is_key};
 ghost use Rattle.elem.specs.Facts.{names, IsElement};
-ghost use Rattle.elem.specs.Said.{IsBindingText, IsWritten};
+ghost use Rattle.elem.specs.Said.{IsBindingText, HasValidTexts};
 ghost use Rattle.elem.specs.Texts.{kind_name};
 ghost use Rattle.elem.specs.declared.parts.BoundRef.{BoundRef};
 
@@ -17,7 +17,7 @@ use scene_json::{Member, Text};
 /// An element is one, and its texts are texts.
 pub fn tell(e: &Element)
     ensures is_element { IsElement e.now }
-    ensures is_written { IsWritten e.now }
+    ensures is_written { HasValidTexts e.now }
 {
     tell_text(&e.id);
     tell_kind(&e.kind);

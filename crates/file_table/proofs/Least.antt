@@ -9,7 +9,7 @@ use Rattle.scene_json.specs.Named.{value_at, HaveRisingNames}
 use Rattle.scene_json.specs.Parts.{names_of}
 use Rattle.scene_json.proofs.Lookups.{rising_distinct, rising_same, rising_none}
 use Rattle.frac_keys.specs.Keys.{bytes_less}
-use Rattle.file_table.specs.Table.{lesser, lesser_of, least_entry, IsLeast, AreFilesOf}
+use Rattle.file_table.specs.Table.{lesser, lesser_of, least_entry, IsLeast, AreLeastEntries}
 use Rattle.file_table.proofs.Lesser.{less_order, less_itself, same_bytes, lesser_either, lesser_of-either}
 
 -- ---- of two lists joined end to end
@@ -158,18 +158,18 @@ least-moved given others id same = go (least_entry given id) (least_entry others
         sym (least-from others id e (IsLeast-moved given others id e same (IsLeast-from given id e is))) ∙ other
 
 -- ---- tables
-pub AreFilesOf-unique : (given files others : List Pair) → AreFilesOf given files → AreFilesOf given others → files ≡ others
-AreFilesOf-unique given files others h k =
+pub AreLeastEntries-unique : (given files others : List Pair) → AreLeastEntries given files → AreLeastEntries given others → files ≡ others
+AreLeastEntries-unique given files others h k =
     rising_same files others h.ordered k.ordered (λ id. h.each id ∙ sym (k.each id))
 
-pub AreFilesOf-none : AreFilesOf [] []
-AreFilesOf-none = record { ordered = rising_none; each = λ id. refl }
+pub AreLeastEntries-none : AreLeastEntries [] []
+AreLeastEntries-none = record { ordered = rising_none; each = λ id. refl }
 
-pub AreFilesOf-moved : (given others files : List Pair) → ((file : Pair) → Contains given file ↔ Contains others file) → AreFilesOf given files → AreFilesOf others files
-AreFilesOf-moved given others files same h = record { ordered = h.ordered; each = λ id. h.each id ∙ least-moved given others id same }
+pub AreLeastEntries-moved : (given others files : List Pair) → ((file : Pair) → Contains given file ↔ Contains others file) → AreLeastEntries given files → AreLeastEntries others files
+AreLeastEntries-moved given others files same h = record { ordered = h.ordered; each = λ id. h.each id ∙ least-moved given others id same }
 
-pub AreFilesOf-join : (given files others more all : List Pair) → AreFilesOf given files → AreFilesOf others more → AreFilesOf (files ++ more) all → AreFilesOf (given ++ others) all
-AreFilesOf-join given files others more all h k m = record {
+pub AreLeastEntries-join : (given files others more all : List Pair) → AreLeastEntries given files → AreLeastEntries others more → AreLeastEntries (files ++ more) all → AreLeastEntries (given ++ others) all
+AreLeastEntries-join given files others more all h k m = record {
   ordered = m.ordered;
   each = λ id.
       m.each id ∙ least-append files more id
@@ -178,5 +178,5 @@ AreFilesOf-join given files others more all h k m = record {
       ∙ sym (least-append given others id);
 }
 
-pub AreFilesOf-own : (files : List Pair) → HaveRisingNames files → AreFilesOf files files
-AreFilesOf-own files rising = record { ordered = rising; each = λ id. sym (least-own files id rising) }
+pub AreLeastEntries-own : (files : List Pair) → HaveRisingNames files → AreLeastEntries files files
+AreLeastEntries-own files rising = record { ordered = rising; each = λ id. sym (least-own files id rising) }

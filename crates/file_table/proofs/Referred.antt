@@ -13,20 +13,20 @@ use Rattle.scene_json.specs.Parts.{names_of}
 use Rattle.scene_json.specs.Value.{IsCompact}
 use Rattle.first_texts.specs.FirstOccurrences.{first_occurrences}
 use Rattle.first_texts.proofs.FirstLaws.{IsDistinct-filter, any-first_occurrences}
-use Rattle.elem.specs.Drawn.{Drawn}
+use Rattle.elem.specs.ElementValue.{ElementValue}
 use Rattle.file_table.specs.References.{references, file_of, referred_files}
 use Rattle.elem.specs.Texts.{sorted_members}
 use Rattle.file_table.specs.Table.{EntriesNest}
 use Rattle.file_table.proofs.ById.{value-by_id}
 
 -- ---- one element more
-pub references-some : (elements : List Drawn) (e : Drawn) (id : List ℕ) → e.file ≡ Some id → references (elements ++ e ∷ []) ≡ references elements ++ id ∷ []
+pub references-some : (elements : List ElementValue) (e : ElementValue) (id : List ℕ) → e.file ≡ Some id → references (elements ++ e ∷ []) ≡ references elements ++ id ∷ []
 references-some elements e id h =
-    filter_map-append (λ (d : Drawn). d.file) elements (e ∷ []) ∙ ap (λ o. references elements ++ cons_option o []) h
+    filter_map-append (λ (d : ElementValue). d.file) elements (e ∷ []) ∙ ap (λ o. references elements ++ cons_option o []) h
 
-pub references-none : (elements : List Drawn) (e : Drawn) → e.file ≡ None → references (elements ++ e ∷ []) ≡ references elements
+pub references-none : (elements : List ElementValue) (e : ElementValue) → e.file ≡ None → references (elements ++ e ∷ []) ≡ references elements
 references-none elements e h =
-    filter_map-append (λ (d : Drawn). d.file) elements (e ∷ []) ∙ ap (λ o. references elements ++ cons_option o []) h ∙ append-nil (references elements)
+    filter_map-append (λ (d : ElementValue). d.file) elements (e ∷ []) ∙ ap (λ o. references elements ++ cons_option o []) h ∙ append-nil (references elements)
 
 -- ---- one id more
 abbrev pub found : List Pair → List (List ℕ) → List Pair
@@ -113,10 +113,10 @@ found-at files (id ∷ ids) name = go (value_at id files) refl (found-at files i
               ∙ (more ∙ ap (λ b. cond (b || list_any (bytes_eq name) ids) (value_at name files) None) (sym other))
         ]
 
-pub referred-at : (files : List Pair) (elements : List Drawn) (id : List ℕ) → value_at id (referred_files files elements) ≡ cond (list_any (bytes_eq id) (references elements)) (value_at id files) None
+pub referred-at : (files : List Pair) (elements : List ElementValue) (id : List ℕ) → value_at id (referred_files files elements) ≡ cond (list_any (bytes_eq id) (references elements)) (value_at id files) None
 referred-at files elements id =
     found-at files (first_occurrences (references elements)) id
     ∙ ap (λ b. cond b (value_at id files) None) (any-first_occurrences (references elements) id)
 
-pub referred-ids : (files : List Pair) (elements : List Drawn) → names_of (referred_files files elements) ≡ filter (λ id. is_some (value_at id files)) (first_occurrences (references elements))
+pub referred-ids : (files : List Pair) (elements : List ElementValue) → names_of (referred_files files elements) ≡ filter (λ id. is_some (value_at id files)) (first_occurrences (references elements))
 referred-ids files elements = names-found files (first_occurrences (references elements))

@@ -19,7 +19,7 @@ use Rattle.scene_json.proofs.Decided.{string-or-not, object-or-not}
 use Rattle.scene_json.proofs.Rising.{tabled}
 use Rattle.elem.proofs.Once.{object-once, quote-once}
 use Rattle.file_table.specs.Picture.{IsDataUrl, HasUrl, HasData, IsPictureSize}
-use Rattle.file_table.specs.Table.{least_entry, AreFilesOf}
+use Rattle.file_table.specs.Table.{least_entry, AreLeastEntries}
 use Rattle.file_table.proofs.Pictures.{size-none}
 use Rattle.file_table.proofs.Urls.{has_comma}
 
@@ -30,7 +30,7 @@ none-given (file ∷ files) id none =
     let parts = or_parts (bytes_eq id file.0) (list_any (bytes_eq id) (names_of files)) none in
     rw parts.0 (none-given files id parts.1)
 
-pub files-exist : (given : List Pair) → (files : List Pair) × AreFilesOf given files
+pub files-exist : (given : List Pair) → (files : List Pair) × AreLeastEntries given files
 files-exist given =
     let t = tabled (names_of given) (least_entry given) (none-given given) in
     (t.0, record { ordered = t.1; each = t.2 })

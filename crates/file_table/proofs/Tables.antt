@@ -10,7 +10,7 @@ use Rattle.scene_json.specs.Named.{value_at, HaveRisingNames}
 use Rattle.scene_json.specs.Parts.{names_of}
 use Rattle.scene_json.specs.Value.{IsCompact}
 use Rattle.frac_keys.specs.Keys.{bytes_less}
-use Rattle.file_table.specs.Table.{takes_place, least_entry, AreFilesOf, EntriesNest, HaveFiles}
+use Rattle.file_table.specs.Table.{takes_place, least_entry, AreLeastEntries, EntriesNest, HaveFiles}
 use Rattle.elem.specs.Texts.{sorted_members}
 use Rattle.file_table.proofs.ById.{value-by_id, rising-by_id}
 use Rattle.file_table.proofs.Lesser.{lesser_either, lesser_either-none}
@@ -32,9 +32,9 @@ kept : (entry : List ℕ) (o : Option (List ℕ)) → takes_place o entry ≡ fa
 kept entry None h = absurd (both_ways true h refl)
 kept entry (Some old) h = ap Some (cond-false (bytes_less entry old) entry old h)
 
-AreFilesOf-taken : (old new : List Pair) (id entry : List ℕ) → HaveRisingNames old → HaveRisingNames new → takes_place (value_at id old) entry ≡ true
-    → ((q : List ℕ) → value_at q new ≡ cond (bytes_eq q id) (Some entry) (value_at q old)) → AreFilesOf (old ++ (id, entry) ∷ []) new
-AreFilesOf-taken old new id entry rising still takes each = record { ordered = still; each = λ q. go q (cases_Bool (bytes_eq q id)) }
+AreLeastEntries-taken : (old new : List Pair) (id entry : List ℕ) → HaveRisingNames old → HaveRisingNames new → takes_place (value_at id old) entry ≡ true
+    → ((q : List ℕ) → value_at q new ≡ cond (bytes_eq q id) (Some entry) (value_at q old)) → AreLeastEntries (old ++ (id, entry) ∷ []) new
+AreLeastEntries-taken old new id entry rising still takes each = record { ordered = still; each = λ q. go q (cases_Bool (bytes_eq q id)) }
   where
     go : (q : List ℕ) → (bytes_eq q id ≡ true) ⊎ (bytes_eq q id ≡ false) → value_at q new ≡ least_entry (old ++ (id, entry) ∷ []) q
     go q (inl t) =
@@ -49,8 +49,8 @@ AreFilesOf-taken old new id entry rising still takes each = record { ordered = s
         ∙ ap (lesser_either (value_at q old)) (sym (cond-false (bytes_eq q id) (Some entry) None f))
         ∙ sym (least-one old id entry q rising)
 
-AreFilesOf-kept : (old : List Pair) (id entry : List ℕ) → HaveRisingNames old → takes_place (value_at id old) entry ≡ false → AreFilesOf (old ++ (id, entry) ∷ []) old
-AreFilesOf-kept old id entry rising stays = record { ordered = rising; each = λ q. go q (cases_Bool (bytes_eq q id)) }
+AreLeastEntries-kept : (old : List Pair) (id entry : List ℕ) → HaveRisingNames old → takes_place (value_at id old) entry ≡ false → AreLeastEntries (old ++ (id, entry) ∷ []) old
+AreLeastEntries-kept old id entry rising stays = record { ordered = rising; each = λ q. go q (cases_Bool (bytes_eq q id)) }
   where
     go : (q : List ℕ) → (bytes_eq q id ≡ true) ⊎ (bytes_eq q id ≡ false) → value_at q old ≡ least_entry (old ++ (id, entry) ∷ []) q
     go q (inl t) =
@@ -80,12 +80,12 @@ HaveFiles-insert old new id entry has h is distinct = record {
 
 -- ---- entries in whatever order
 pub by_id-taken : (old new : List Pair) (id entry : List ℕ) → HaveFiles old → HaveFiles new → takes_place (value_at id old) entry ≡ true
-    → ((q : List ℕ) → value_at q new ≡ cond (bytes_eq id q) (Some entry) (value_at q old)) → AreFilesOf (sorted_members old ++ (id, entry) ∷ []) (sorted_members new)
+    → ((q : List ℕ) → value_at q new ≡ cond (bytes_eq id q) (Some entry) (value_at q old)) → AreLeastEntries (sorted_members old ++ (id, entry) ∷ []) (sorted_members new)
 by_id-taken old new id entry has gets takes each =
-    AreFilesOf-taken (sorted_members old) (sorted_members new) id entry (rising-by_id old has.distinct) (rising-by_id new gets.distinct)
+    AreLeastEntries-taken (sorted_members old) (sorted_members new) id entry (rising-by_id old has.distinct) (rising-by_id new gets.distinct)
     (ap (λ o. takes_place o entry) (value-by_id id old) ∙ takes)
     (λ q. value-by_id q new ∙ each q ∙ ap (λ b. cond b (Some entry) (value_at q old)) (nat_list_eq_equiv.symm id q) ∙ ap (cond (bytes_eq q id) (Some entry)) (sym (value-by_id q old)))
 
-pub by_id-kept : (old : List Pair) (id entry : List ℕ) → HaveFiles old → takes_place (value_at id old) entry ≡ false → AreFilesOf (sorted_members old ++ (id, entry) ∷ []) (sorted_members old)
+pub by_id-kept : (old : List Pair) (id entry : List ℕ) → HaveFiles old → takes_place (value_at id old) entry ≡ false → AreLeastEntries (sorted_members old ++ (id, entry) ∷ []) (sorted_members old)
 by_id-kept old id entry has stays =
-    AreFilesOf-kept (sorted_members old) id entry (rising-by_id old has.distinct) (ap (λ o. takes_place o entry) (value-by_id id old) ∙ stays)
+    AreLeastEntries-kept (sorted_members old) id entry (rising-by_id old has.distinct) (ap (λ o. takes_place o entry) (value-by_id id old) ∙ stays)

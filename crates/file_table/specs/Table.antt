@@ -34,7 +34,7 @@ pub record IsLeast (given : List Pair) (id entry : List ℕ) : Type 0 where
   pub least : (other : List ℕ) → Contains given (id, other) → bytes_less other entry ≡ false
 
 -- These are the files of the entries that were given: of each id the least, in the order of the ids.
-pub record AreFilesOf (given files : List Pair) : Type 0 where
+pub record AreLeastEntries (given files : List Pair) : Type 0 where
   pub ordered : HaveRisingNames files
   pub each : (id : List ℕ) → value_at id files ≡ least_entry given id
 

@@ -7,7 +7,7 @@ ghost use Rattle.scene_json.specs.Members.{pairs};
 ghost use Rattle.scene_json.specs.Named.{HaveRisingNames};
 ghost use Rattle.scene_json.specs.Parts.{names_of};
 ghost use Rattle.scene_json.specs.Value.{IsCompact};
-ghost use Rattle.file_table.specs.Table.{AreFilesOf, EntriesNest};
+ghost use Rattle.file_table.specs.Table.{AreLeastEntries, EntriesNest};
 ghost use Rattle.file_table.specs.References.{referred_files};
 
 use crate::references::{found, references};
@@ -55,7 +55,7 @@ impl Files {
     /// want of memory it is unchanged.
     pub fn take(&mut self, id: Text, entry: Raw) -> Result<(), AllocError>
         requires { IsCompact 126 entry }
-        ensures taken { OnOk result (AreFilesOf (self.old ++ (id, entry) ∷ []) self.new) }
+        ensures taken { OnOk result (AreLeastEntries (self.old ++ (id, entry) ∷ []) self.new) }
         ensures err { OnErr result (self.new ≡ self.old) }
     {
         keep_lesser(&mut self.entries, id, entry)

@@ -7,10 +7,10 @@ ghost use Rattle.scene_json.specs.Named.{HaveRisingNames, value_at};
 ghost use Rattle.scene_json.specs.Parts.{names_of};
 ghost use Rattle.scene_json.specs.Value.{IsCompact};
 ghost use Rattle.first_texts.specs.FirstOccurrences.{first_occurrences};
-ghost use Rattle.elem.specs.Drawn.{Drawn};
+ghost use Rattle.elem.specs.ElementValue.{ElementValue};
 ghost use Rattle.file_table.specs.References.{references, referred_files};
 ghost use Rattle.file_table.specs.Picture.{HasData, IsPictureSize};
-ghost use Rattle.file_table.specs.Table.{least_entry, IsLeast, AreFilesOf};
+ghost use Rattle.file_table.specs.Table.{least_entry, IsLeast, AreLeastEntries};
 
 /// The least entry of an id is one that was given for it, and none of these is less.
 pub fn least_entry_is_least()
@@ -19,34 +19,34 @@ pub fn least_entry_is_least()
 
 /// The entries that were given have one table of files, and no entry has an empty one.
 pub fn files_are_unique()
-    ensures unique { (given files others : List Pair) → AreFilesOf given files → AreFilesOf given others → files ≡ others }
-    ensures none { AreFilesOf [] [] }
+    ensures unique { (given files others : List Pair) → AreLeastEntries given files → AreLeastEntries given others → files ≡ others }
+    ensures none { AreLeastEntries [] [] }
 {}
 
 /// The order and the repeats of the given entries don't count.
 pub fn order_of_entries_plays_no_part()
     ensures { (given others files : List Pair)
-        → ((file : Pair) → Contains given file ↔ Contains others file) → AreFilesOf given files → AreFilesOf others files }
+        → ((file : Pair) → Contains given file ↔ Contains others file) → AreLeastEntries given files → AreLeastEntries others files }
 {}
 
 /// Their grouping doesn't count: the files of two tables are those of all that was given for both, and a table is its own.
 pub fn files_join()
     ensures joined { (given files others more all : List Pair)
-        → AreFilesOf given files → AreFilesOf others more → AreFilesOf (files ++ more) all → AreFilesOf (given ++ others) all }
-    ensures own { (files : List Pair) → HaveRisingNames files → AreFilesOf files files }
+        → AreLeastEntries given files → AreLeastEntries others more → AreLeastEntries (files ++ more) all → AreLeastEntries (given ++ others) all }
+    ensures own { (files : List Pair) → HaveRisingNames files → AreLeastEntries files files }
 {}
 
 /// The entries that are given have a table of files.
 pub fn files_exist()
-    ensures { (given : List Pair) → (files : List Pair) × AreFilesOf given files }
+    ensures { (given : List Pair) → (files : List Pair) × AreLeastEntries given files }
 {}
 
 /// A file is referred exactly if an element names it, as images alone do, and the table has it; and then with the entry of
 /// the table, in the order in which they are first named.
 pub fn referred_files_are_named()
-    ensures exact { (files : List Pair) (elements : List Drawn) (id : List ℕ) → value_at id (referred_files files elements)
+    ensures exact { (files : List Pair) (elements : List ElementValue) (id : List ℕ) → value_at id (referred_files files elements)
         ≡ (if list_any (bytes_eq id) (references elements) then value_at id files else None) }
-    ensures order { (files : List Pair) (elements : List Drawn) → names_of (referred_files files elements)
+    ensures order { (files : List Pair) (elements : List ElementValue) → names_of (referred_files files elements)
         ≡ filter (λ id. is_some (value_at id files)) (first_occurrences (references elements)) }
 {}
 

@@ -5,7 +5,7 @@ ghost use Rattle.scene_json.specs.Named.{value_at};
 ghost use Rattle.scene_json.specs.Members.{pair_of, pairs};
 ghost use Rattle.scene_json.specs.Value.{IsCompact};
 ghost use Rattle.elem.specs.Texts.{sorted_members};
-ghost use Rattle.file_table.specs.Table.{takes_place, AreFilesOf, HaveFiles};
+ghost use Rattle.file_table.specs.Table.{takes_place, AreLeastEntries, HaveFiles};
 
 use indexmap::IndexMap;
 use scene_json::{Member, Raw, Text};
@@ -20,7 +20,7 @@ pub(crate) fn keep_lesser(entries: &mut Entries, id: Text, entry: Raw) -> Result
     requires nest { IsCompact 126 entry }
     requires table { HaveFiles entries.old.entries }
     ensures taken { OnOk result
-        (AreFilesOf (sorted_members entries.old.entries ++ (id, entry) ∷ []) (sorted_members entries.new.entries)) }
+        (AreLeastEntries (sorted_members entries.old.entries ++ (id, entry) ∷ []) (sorted_members entries.new.entries)) }
     ensures table { HaveFiles entries.new.entries }
     ensures err { OnErr result (entries.new.entries ≡ entries.old.entries) }
 {

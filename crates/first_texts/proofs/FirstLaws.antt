@@ -8,7 +8,7 @@ use Rattle.std.proofs.lemmas.List.Elements.{filter_passes, filter-append, recurs
 use Rattle.std.proofs.lemmas.Map.Views.{any-filter_same, Contains-from_any, list_any-from_Contains}
 use Rattle.std.proofs.lemmas.Slice.Eq.{bytes_eq-Decides}
 use Rattle.indexmap.specs.IndexSet.{insert_key}
-use Rattle.first_texts.specs.FirstOccurrences.{is_other, first_occurrences}
+use Rattle.first_texts.specs.FirstOccurrences.{is_other_text, first_occurrences}
 
 -- ---- one text more
 with_one_more : (text other : List ℕ) (texts : List (List ℕ)) (among same : Bool)
@@ -25,7 +25,7 @@ filter_either p false xs ys = refl
 pub first_occurrences-push : (texts : List (List ℕ)) (other : List ℕ) → first_occurrences (texts ++ other ∷ []) ≡ cond (list_any (bytes_eq other) texts) (first_occurrences texts) (first_occurrences texts ++ other ∷ [])
 first_occurrences-push [] other = refl
 first_occurrences-push (text ∷ texts) other =
-    let p = is_other text in
+    let p = is_other_text text in
     let found = first_occurrences texts in
     let among = list_any (bytes_eq other) texts in
     ap (λ x. text ∷ filter p x) (first_occurrences-push texts other)
@@ -55,7 +55,7 @@ IsDistinct-filter p (x ∷ xs) h =
       | false ↦ IsDistinct-filter p xs h.1
     ]
 
-apart : (x y : List ℕ) → is_other x y ≡ true → bytes_eq x y ≡ false
+apart : (x y : List ℕ) → is_other_text x y ≡ true → bytes_eq x y ≡ false
 apart x y h = nat_list_eq_equiv.symm x y ∙ not-true (bytes_eq y x) h
 
 pub IsDistinct-first_occurrences : (texts : List (List ℕ)) → IsDistinct bytes_eq (first_occurrences texts)
@@ -63,9 +63,9 @@ unfolding IsDistinct
 IsDistinct-first_occurrences [] = tt
 IsDistinct-first_occurrences (text ∷ texts) =
     let found = first_occurrences texts in (
-      AllByRecursion-weaker (filter (is_other text) found) (apart text)
-          (recursion_from_All (λ y. is_other text y ≡ true) (filter (is_other text) found) (filter_passes (is_other text) found)),
-      IsDistinct-filter (is_other text) found (IsDistinct-first_occurrences texts),
+      AllByRecursion-weaker (filter (is_other_text text) found) (apart text)
+          (recursion_from_All (λ y. is_other_text text y ≡ true) (filter (is_other_text text) found) (filter_passes (is_other_text text) found)),
+      IsDistinct-filter (is_other_text text) found (IsDistinct-first_occurrences texts),
     )
 
 -- ---- they are the texts
@@ -80,7 +80,7 @@ pub any-first_occurrences : (texts : List (List ℕ)) (text : List ℕ) → list
 any-first_occurrences [] text = refl
 any-first_occurrences (first ∷ texts) text =
     let same = bytes_eq text first in
-    ap (λ b. same || b) (any-filter_same (bytes_eq text) (is_other first) (not same) (λ k h. ap (λ x. not (bytes_eq x first)) (sym (same_texts text k h))) (first_occurrences texts))
+    ap (λ b. same || b) (any-filter_same (bytes_eq text) (is_other_text first) (not same) (λ k h. ap (λ x. not (bytes_eq x first)) (sym (same_texts text k h))) (first_occurrences texts))
     ∙ ap (λ b. same || (not same && b)) (any-first_occurrences texts text)
     ∙ either_way same (list_any (bytes_eq text) texts)
 
@@ -101,12 +101,12 @@ filter_keeps : (p : List ℕ → Bool) (xs : List (List ℕ)) → AllByRecursion
 filter_keeps p [] h = refl
 filter_keeps p (x ∷ xs) h = ap (λ b. cond b (x ∷ filter p xs) (filter p xs)) h.0 ∙ ap (λ ys. x ∷ ys) (filter_keeps p xs h.1)
 
-other : (x y : List ℕ) → bytes_eq x y ≡ false → is_other x y ≡ true
+other : (x y : List ℕ) → bytes_eq x y ≡ false → is_other_text x y ≡ true
 other x y h = not_from_false (bytes_eq y x) (nat_list_eq_equiv.symm y x ∙ h)
 
 pub first_occurrences-distinct : (texts : List (List ℕ)) → IsDistinct bytes_eq texts → first_occurrences texts ≡ texts
 unfolding IsDistinct
 first_occurrences-distinct [] h = refl
 first_occurrences-distinct (text ∷ texts) h =
-    ap (λ x. text ∷ filter (is_other text) x) (first_occurrences-distinct texts h.1)
-    ∙ ap (λ x. text ∷ x) (filter_keeps (is_other text) texts (AllByRecursion-weaker texts (other text) h.0))
+    ap (λ x. text ∷ filter (is_other_text text) x) (first_occurrences-distinct texts h.1)
+    ∙ ap (λ x. text ∷ x) (filter_keeps (is_other_text text) texts (AllByRecursion-weaker texts (other text) h.0))

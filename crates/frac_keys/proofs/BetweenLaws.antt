@@ -3,7 +3,7 @@ use Rattle.std.proofs.Common.{◌≡◌, ℕ, true, false, cond, List, [], ◌�
 use Rattle.std.specs.List.{list_all}
 use Rattle.std.proofs.lemmas.Bool.{cond_both, and_from}
 use Rattle.std.proofs.lemmas.Slice.Eq.{bytes_eq-Decides}
-use Rattle.frac_keys.specs.Digits.{is_digit}
+use Rattle.frac_keys.specs.Digits.{is_key_digit}
 use Rattle.frac_keys.specs.Keys.{digit_count, integer_part, fraction, ends_in_zero, smallest_integer, is_key, bytes_less}
 use Rattle.frac_keys.specs.Between.{midpoint_above, midpoint, increment, decrement, key_above, key_below, key_inside, key_between}
 use Rattle.frac_keys.specs.Rising.{ends_rise, is_key_or_none, lies_between}
@@ -61,7 +61,7 @@ fraction_below {b} k e = by (fraction b) refl where
   by : (f : List ℕ) → fraction b ≡ f → IsBelow b (smallest_integer ++ midpoint [] f)
   by [] is = absurd (k.other (sym k.joined ∙ (ap (λ f. integer_part b ++ f) is ∙ (append-nil (integer_part b) ∙ e))))
   by (d ∷ ds) is =
-      let p = IsPositive-from d ds (subst (λ f. list_all is_digit f ≡ true) is k.digits) (subst (λ f. ends_in_zero f ≡ false) is k.not_zero) in
+      let p = IsPositive-from d ds (subst (λ f. list_all is_key_digit f ≡ true) is k.digits) (subst (λ f. ends_in_zero f ≡ false) is k.not_zero) in
       let m = midpoint-law [] (d ∷ ds) refl p ended in
       let joined : smallest_integer ++ d ∷ ds ≡ b = ap (λ i. i ++ d ∷ ds) (sym e) ∙ (ap (λ f. integer_part b ++ f) (sym is) ∙ k.joined) in
       record {
@@ -112,13 +112,13 @@ fractions_inside {a} {b} k l less e = by (fraction b) refl where
   by g is =
       let joined : integer_part a ++ g ≡ b = ap₂ (λ i f. i ++ f) e (sym is) ∙ l.joined in
       let inner : IsLess (fraction a) g = IsLess-cancel (integer_part a) (fraction a) g (subst₂ IsLess (sym k.joined) (sym joined) less) in
-      let m = midpoint-law (fraction a) g k.digits (positive g inner (subst (λ f. list_all is_digit f ≡ true) is l.digits) (subst (λ f. ends_in_zero f ≡ false) is l.not_zero)) inner in
+      let m = midpoint-law (fraction a) g k.digits (positive g inner (subst (λ f. list_all is_key_digit f ≡ true) is l.digits) (subst (λ f. ends_in_zero f ≡ false) is l.not_zero)) inner in
       record {
         key = is_key-positive k.integer_is m.positive;
         above = subst (λ x. IsLess x (integer_part a ++ midpoint (fraction a) g)) k.joined (IsLess-append (integer_part a) m.above);
         below = subst (IsLess (integer_part a ++ midpoint (fraction a) g)) joined (IsLess-append (integer_part a) m.below);
       } where
-        positive : (g : List ℕ) → IsLess (fraction a) g → list_all is_digit g ≡ true → ends_in_zero g ≡ false → IsPositive g
+        positive : (g : List ℕ) → IsLess (fraction a) g → list_all is_key_digit g ≡ true → ends_in_zero g ≡ false → IsPositive g
         positive [] l h z = absurd (not_below_nil l)
         positive (d ∷ ds) l h z = IsPositive-from d ds h z
 

@@ -6,24 +6,24 @@ use Rattle.std.specs.Option.{option_map_or}
 use Rattle.std.proofs.lemmas.Bool.{and_parts, and_from, cases_Bool, cond-true, cond-false, eqb-true, eqb-false}
 use Rattle.std.proofs.lemmas.Bool.Decides.{nat_tests}
 use Rattle.std.proofs.lemmas.List.{length-replicate}
-use Rattle.frac_keys.specs.Digits.{is_digit, digit_value}
+use Rattle.frac_keys.specs.Digits.{is_key_digit, digit_value}
 use Rattle.frac_keys.specs.Keys.{digit_count, smallest_integer}
 use Rattle.frac_keys.specs.Between.{carried, stepped, next_digit, previous_digit, next_head, previous_head, increment, decrement}
-use Rattle.frac_keys.proofs.DigitLaws.{is_digit-range, digit_value-lt, digit_value-lt_last, digit_value-gt_first, digit_byte-digit, digit_byte-above, digit_byte-below}
+use Rattle.frac_keys.proofs.DigitLaws.{is_key_digit-range, digit_value-lt, digit_value-lt_last, digit_value-gt_first, digit_byte-digit, digit_byte-above, digit_byte-below}
 use Rattle.frac_keys.proofs.OrderLaws.{IsLess, parted, later, Part, here, there, Up, Down, Part-from}
 
 -- A head and as many digits as it counts.
 pub data IsInteger : List ℕ → Type 0 where
-  integer : {h : ℕ} {ds : List ℕ} → is_ascii_alphabetic h ≡ true → length ds ≡ digit_count h → list_all is_digit ds ≡ true → IsInteger (h ∷ ds)
+  integer : {h : ℕ} {ds : List ℕ} → is_ascii_alphabetic h ≡ true → length ds ≡ digit_count h → list_all is_key_digit ds ≡ true → IsInteger (h ∷ ds)
 
-pub list_all-replicate : (n d : ℕ) → is_digit d ≡ true → list_all is_digit (replicate n d) ≡ true
+pub list_all-replicate : (n d : ℕ) → is_key_digit d ≡ true → list_all is_key_digit (replicate n d) ≡ true
 list_all-replicate zero d h = refl
-list_all-replicate (suc n) d h = and_from (is_digit d) (list_all is_digit (replicate n d)) h (list_all-replicate n d h)
+list_all-replicate (suc n) d h = and_from (is_key_digit d) (list_all is_key_digit (replicate n d)) h (list_all-replicate n d h)
 
 -- digits that were moved on, and how they part from what they were
 record IsMoved (R : ℕ → ℕ → Type 0) (ds es : List ℕ) : Type 0 where
   pub parts : Part R ds es
-  digits : list_all is_digit es ≡ true
+  digits : list_all is_key_digit es ≡ true
   long : length es ≡ length ds
 
 -- an integer part that was moved on
@@ -31,9 +31,9 @@ pub record IsStepped (R : ℕ → ℕ → Type 0) (i j : List ℕ) : Type 0 wher
   pub parts : Part R i j
   pub integer : IsInteger j
 
-module _ (R : ℕ → ℕ → Type 0) (full reset : ℕ) (next : ℕ → ℕ) (resets : is_digit reset ≡ true)
-    (moves : (d : ℕ) → is_digit d ≡ true → (d ≡ full → ⊥) → R d (next d) × (is_digit (next d) ≡ true)) where
-  carry : (d : ℕ) (ds es : List ℕ) → is_digit d ≡ true → cond (eqb d full) None (Some (next d ∷ replicate (length ds) reset)) ≡ Some es → IsMoved R (d ∷ ds) es
+module _ (R : ℕ → ℕ → Type 0) (full reset : ℕ) (next : ℕ → ℕ) (resets : is_key_digit reset ≡ true)
+    (moves : (d : ℕ) → is_key_digit d ≡ true → (d ≡ full → ⊥) → R d (next d) × (is_key_digit (next d) ≡ true)) where
+  carry : (d : ℕ) (ds es : List ℕ) → is_key_digit d ≡ true → cond (eqb d full) None (Some (next d ∷ replicate (length ds) reset)) ≡ Some es → IsMoved R (d ∷ ds) es
   carry d ds es h e =
       elim (cases_Bool (eqb d full)) [
         | inl t ↦ cc (cond-true (eqb d full) None (Some (next d ∷ replicate (length ds) reset)) t)
@@ -42,26 +42,26 @@ module _ (R : ℕ → ℕ → Type 0) (full reset : ℕ) (next : ℕ → ℕ) (r
             let is : next d ∷ replicate (length ds) reset ≡ es = cc (cond-false (eqb d full) None (Some (next d ∷ replicate (length ds) reset)) f) in
             subst (IsMoved R (d ∷ ds)) is (record {
               parts = here m.0;
-              digits = and_from (is_digit (next d)) (list_all is_digit (replicate (length ds) reset)) m.1 (list_all-replicate (length ds) reset resets);
+              digits = and_from (is_key_digit (next d)) (list_all is_key_digit (replicate (length ds) reset)) m.1 (list_all-replicate (length ds) reset resets);
               long = ap suc (length-replicate (length ds) reset);
             })
       ]
 
-  carried-law : (ds es : List ℕ) → list_all is_digit ds ≡ true → carried full reset next ds ≡ Some es → IsMoved R ds es
+  carried-law : (ds es : List ℕ) → list_all is_key_digit ds ≡ true → carried full reset next ds ≡ Some es → IsMoved R ds es
   unfolding carried
   carried-law [] es h e = cc
-  carried-law (d ∷ ds) es h e = by_rest (carried full reset next ds) refl e (λ ms. carried-law ds ms (and_parts (is_digit d) (list_all is_digit ds) h).1) where
+  carried-law (d ∷ ds) es h e = by_rest (carried full reset next ds) refl e (λ ms. carried-law ds ms (and_parts (is_key_digit d) (list_all is_key_digit ds) h).1) where
     by_rest : (o : Option (List ℕ)) → carried full reset next ds ≡ o
         → option_map_or (λ moved. Some (d ∷ moved)) o (cond (eqb d full) None (Some (next d ∷ replicate (length ds) reset))) ≡ Some es
         → ((ms : List ℕ) → carried full reset next ds ≡ Some ms → IsMoved R ds ms)
         → IsMoved R (d ∷ ds) es
-    by_rest None was e hyp = carry d ds es (and_parts (is_digit d) (list_all is_digit ds) h).0 e
+    by_rest None was e hyp = carry d ds es (and_parts (is_key_digit d) (list_all is_key_digit ds) h).0 e
     by_rest (Some ms) was e hyp =
         let rest = hyp ms was in
         let is : d ∷ ms ≡ es = cc in
         subst (IsMoved R (d ∷ ds)) is (record {
           parts = there rest.parts;
-          digits = and_from (is_digit d) (list_all is_digit ms) (and_parts (is_digit d) (list_all is_digit ds) h).0 rest.digits;
+          digits = and_from (is_key_digit d) (list_all is_key_digit ms) (and_parts (is_key_digit d) (list_all is_key_digit ds) h).0 rest.digits;
           long = ap suc rest.long;
         })
 
@@ -89,12 +89,12 @@ module _ (R : ℕ → ℕ → Type 0) (full reset : ℕ) (next : ℕ → ℕ) (r
           subst (IsStepped R (h ∷ ds)) is (record { parts = there moved.parts; integer = integer a (moved.long ∙ n) moved.digits })
 
 -- the digit after another one is above it, and the one before is below it
-next_digit-law : (d : ℕ) → is_digit d ≡ true → (d ≡ 122 → ⊥) → (d < next_digit d) × (is_digit (next_digit d) ≡ true)
+next_digit-law : (d : ℕ) → is_key_digit d ≡ true → (d ≡ 122 → ⊥) → (d < next_digit d) × (is_key_digit (next_digit d) ≡ true)
 next_digit-law d h ne =
     let under = digit_value-lt_last d h ne in
     (digit_byte-above d (digit_value d + 1) h (omega arith), digit_byte-digit (digit_value d + 1) (omega arith))
 
-previous_digit-law : (d : ℕ) → is_digit d ≡ true → (d ≡ 48 → ⊥) → (previous_digit d < d) × (is_digit (previous_digit d) ≡ true)
+previous_digit-law : (d : ℕ) → is_key_digit d ≡ true → (d ≡ 48 → ⊥) → (previous_digit d < d) × (is_key_digit (previous_digit d) ≡ true)
 previous_digit-law d h ne =
     let over = digit_value-gt_first d h ne in
     let most = digit_value-lt d h in
@@ -115,9 +115,9 @@ pub decrement-law : {i : List ℕ} → IsInteger i → (j : List ℕ) → decrem
 decrement-law n j e = stepped-law Down 48 122 previous_digit refl previous_digit-law previous_head previous_head-law n j e
 
 -- no digits part from zeros downward
-not_below_zeros : {ds zs : List ℕ} → Part Up ds zs → list_all is_digit ds ≡ true → list_all (λ z. eqb z 48) zs ≡ true → ⊥
-not_below_zeros (here {x} {y} {xs} {ys} l) h z = absurd (grind (arith, is_digit-range x (and_parts (is_digit x) (list_all is_digit xs) h).0, eqb-true y 48 (and_parts (eqb y 48) (list_all (λ z. eqb z 48) ys) z).0))
-not_below_zeros (there {x} {xs} {ys} p) h z = not_below_zeros p (and_parts (is_digit x) (list_all is_digit xs) h).1 (and_parts (eqb x 48) (list_all (λ z. eqb z 48) ys) z).1
+not_below_zeros : {ds zs : List ℕ} → Part Up ds zs → list_all is_key_digit ds ≡ true → list_all (λ z. eqb z 48) zs ≡ true → ⊥
+not_below_zeros (here {x} {y} {xs} {ys} l) h z = absurd (grind (arith, is_key_digit-range x (and_parts (is_key_digit x) (list_all is_key_digit xs) h).0, eqb-true y 48 (and_parts (eqb y 48) (list_all (λ z. eqb z 48) ys) z).0))
+not_below_zeros (there {x} {xs} {ys} p) h z = not_below_zeros p (and_parts (is_key_digit x) (list_all is_key_digit xs) h).1 (and_parts (eqb x 48) (list_all (λ z. eqb z 48) ys) z).1
 
 not_below_smallest : {i j : List ℕ} → IsInteger i → Part Up i j → j ≡ smallest_integer → ⊥
 not_below_smallest (integer {h} {ds} a n d) (here {x} {y} {xs} {ys} l) e = let least : y ≡ 65 = cc in grind (arith, nat_tests)

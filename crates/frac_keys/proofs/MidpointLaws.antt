@@ -3,25 +3,25 @@ use Rattle.std.proofs.Common.{◌≡◌, ℕ, ◌<◌, ◌≤◌, ◌-◌, true,
 use Rattle.std.specs.List.{list_all}
 use Rattle.std.proofs.lemmas.Bool.{and_parts, and_from, cond_both, eqb-true, eqb-false, ltb-true, cases_eq}
 use Rattle.std.proofs.lemmas.Bool.Decides.{nat_tests}
-use Rattle.frac_keys.specs.Digits.{is_digit, digit_value, digit_byte, middle_digit}
+use Rattle.frac_keys.specs.Digits.{is_key_digit, digit_value, digit_byte, middle_digit}
 use Rattle.frac_keys.specs.Keys.{ends_in_zero}
 use Rattle.frac_keys.specs.Between.{first_digit, later_digits, midpoint_above, midpoint_beside, midpoint}
-use Rattle.frac_keys.proofs.DigitLaws.{is_digit-range, digit_value-lt, middle_digit-above, middle_digit-below}
+use Rattle.frac_keys.proofs.DigitLaws.{is_key_digit-range, digit_value-lt, middle_digit-above, middle_digit-below}
 use Rattle.frac_keys.proofs.OrderLaws.{IsLess, ended, parted, later}
 
 -- A fraction that isn't empty: digits, the last of which isn't `0`.
 pub data IsPositive : List ℕ → Type 0 where
-  last : {d : ℕ} → is_digit d ≡ true → 48 < d → IsPositive (d ∷ [])
-  more : {d : ℕ} {ds : List ℕ} → is_digit d ≡ true → IsPositive ds → IsPositive (d ∷ ds)
+  last : {d : ℕ} → is_key_digit d ≡ true → 48 < d → IsPositive (d ∷ [])
+  more : {d : ℕ} {ds : List ℕ} → is_key_digit d ≡ true → IsPositive ds → IsPositive (d ∷ ds)
 
-above_zero : (d : ℕ) → is_digit d ≡ true → (d ≡ 48 → ⊥) → 48 < d
-above_zero d h ne = grind (arith, is_digit-range d h)
+above_zero : (d : ℕ) → is_key_digit d ≡ true → (d ≡ 48 → ⊥) → 48 < d
+above_zero d h ne = grind (arith, is_key_digit-range d h)
 
-pub IsPositive-from : (d : ℕ) (ds : List ℕ) → list_all is_digit (d ∷ ds) ≡ true → ends_in_zero (d ∷ ds) ≡ false → IsPositive (d ∷ ds)
-IsPositive-from d [] h z = let digit : is_digit d ≡ true = (and_parts _ _ h).0 in last digit (above_zero d digit (eqb-false d 48 z))
-IsPositive-from d (e ∷ ds) h z = let p = and_parts (is_digit d) (list_all is_digit (e ∷ ds)) h in more p.0 (IsPositive-from e ds p.1 z)
+pub IsPositive-from : (d : ℕ) (ds : List ℕ) → list_all is_key_digit (d ∷ ds) ≡ true → ends_in_zero (d ∷ ds) ≡ false → IsPositive (d ∷ ds)
+IsPositive-from d [] h z = let digit : is_key_digit d ≡ true = (and_parts _ _ h).0 in last digit (above_zero d digit (eqb-false d 48 z))
+IsPositive-from d (e ∷ ds) h z = let p = and_parts (is_key_digit d) (list_all is_key_digit (e ∷ ds)) h in more p.0 (IsPositive-from e ds p.1 z)
 
-pub IsPositive-digits : {ds : List ℕ} → IsPositive ds → list_all is_digit ds ≡ true
+pub IsPositive-digits : {ds : List ℕ} → IsPositive ds → list_all is_key_digit ds ≡ true
 IsPositive-digits (last h l) = and_from _ _ h refl
 IsPositive-digits (more h p) = and_from _ _ h (IsPositive-digits p)
 
@@ -38,10 +38,10 @@ ends_in_zero-positive (x ∷ []) (more h p) = ends_in_zero-positive [] (more h p
 ends_in_zero-positive (x ∷ y ∷ i) p = ends_in_zero-positive (y ∷ i) p
 
 -- A digit between `b` and `high`, alone.
-pub middle-positive : (b high : ℕ) → is_digit b ≡ true → ltb 1 (high - digit_value b) ≡ true → high ≤ 62 → IsPositive (middle_digit (digit_value b) high ∷ [])
+pub middle-positive : (b high : ℕ) → is_key_digit b ≡ true → ltb 1 (high - digit_value b) ≡ true → high ≤ 62 → IsPositive (middle_digit (digit_value b) high ∷ [])
 middle-positive b high h far most =
     let m = middle_digit-above b high h (ltb-true 1 (high - digit_value b) far) most in
-    last m.0 (grind (arith, is_digit-range b h, m.1))
+    last m.0 (grind (arith, is_key_digit-range b h, m.1))
 
 pub half-positive : IsPositive (middle_digit 0 62 ∷ [])
 unfolding digit_byte
@@ -52,11 +52,11 @@ pub record IsAbove (a m : List ℕ) : Type 0 where
   pub positive : IsPositive m
   pub above : IsLess a m
 
-pub midpoint_above-law : (a : List ℕ) → list_all is_digit a ≡ true → IsAbove a (midpoint_above a)
+pub midpoint_above-law : (a : List ℕ) → list_all is_key_digit a ≡ true → IsAbove a (midpoint_above a)
 unfolding midpoint_above
 midpoint_above-law [] h = record { positive = half-positive; above = ended }
 midpoint_above-law (d ∷ ds) h =
-    let p = and_parts (is_digit d) (list_all is_digit ds) h in
+    let p = and_parts (is_key_digit d) (list_all is_key_digit ds) h in
     let rest = midpoint_above-law ds p.1 in
     cond_both (ltb 1 (62 - digit_value d)) (middle_digit (digit_value d) 62 ∷ []) (d ∷ midpoint_above ds) (IsAbove (d ∷ ds))
     (λ far. record {
@@ -71,19 +71,19 @@ pub record IsMiddle (a b m : List ℕ) : Type 0 where
   pub above : IsLess a m
   pub below : IsLess m b
 
-first-digit : (a : List ℕ) → list_all is_digit a ≡ true → is_digit (first_digit a) ≡ true
+first-digit : (a : List ℕ) → list_all is_key_digit a ≡ true → is_key_digit (first_digit a) ≡ true
 first-digit [] h = refl
-first-digit (x ∷ xs) h = (and_parts (is_digit x) (list_all is_digit xs) h).0
+first-digit (x ∷ xs) h = (and_parts (is_key_digit x) (list_all is_key_digit xs) h).0
 
-later-digits : (a : List ℕ) → list_all is_digit a ≡ true → list_all is_digit (later_digits a) ≡ true
+later-digits : (a : List ℕ) → list_all is_key_digit a ≡ true → list_all is_key_digit (later_digits a) ≡ true
 later-digits [] h = refl
-later-digits (x ∷ xs) h = (and_parts (is_digit x) (list_all is_digit xs) h).1
+later-digits (x ∷ xs) h = (and_parts (is_key_digit x) (list_all is_key_digit xs) h).1
 
 -- the first digits are in order, or they are one and the rests are
 abbrev Heads : List ℕ → ℕ → List ℕ → Type 0
 Heads a y ys = (first_digit a < y) ⊎ ((first_digit a ≡ y) × IsLess (later_digits a) ys)
 
-zero_or_above : (d : ℕ) {ds : List ℕ} → is_digit d ≡ true → IsLess [] ds → Heads [] d ds
+zero_or_above : (d : ℕ) {ds : List ℕ} → is_key_digit d ≡ true → IsLess [] ds → Heads [] d ds
 zero_or_above d h l = elim (cases_eq 48 d) [ inl e ↦ inr (e, l) | inr ne ↦ inl (above_zero d h (λ e. ne (sym e))) ]
 
 heads : (a : List ℕ) {y : ℕ} {ys : List ℕ} → IsLess a (y ∷ ys) → IsPositive (y ∷ ys) → Heads a y ys
@@ -105,7 +105,7 @@ below-later (x ∷ xs) m l = later l
 tail : {d e : ℕ} {ds : List ℕ} → IsPositive (d ∷ e ∷ ds) → IsPositive (e ∷ ds)
 tail (more h p) = p
 
-head : {d : ℕ} {ds : List ℕ} → IsPositive (d ∷ ds) → is_digit d ≡ true
+head : {d : ℕ} {ds : List ℕ} → IsPositive (d ∷ ds) → is_key_digit d ≡ true
 head (last h l) = h
 head (more h p) = h
 
@@ -113,19 +113,19 @@ pub not_below_nil : {a : List ℕ} → IsLess a [] → ⊥
 not_below_nil l = elim l [ ]
 
 -- where no digit stands between the first ones
-midpoint_beside-law : (a : List ℕ) (y : ℕ) (ys : List ℕ) → list_all is_digit a ≡ true → IsPositive (y ∷ ys) → first_digit a < y → IsMiddle a (y ∷ ys) (midpoint_beside a (y ∷ ys))
+midpoint_beside-law : (a : List ℕ) (y : ℕ) (ys : List ℕ) → list_all is_key_digit a ≡ true → IsPositive (y ∷ ys) → first_digit a < y → IsMiddle a (y ∷ ys) (midpoint_beside a (y ∷ ys))
 unfolding midpoint_beside
 midpoint_beside-law a y [] h p l =
     let rest = midpoint_above-law (later_digits a) (later-digits a h) in
     record { positive = more (first-digit a h) rest.positive; above = below-later a _ rest.above; below = parted l }
 midpoint_beside-law a y (z ∷ zs) h p l =
-    record { positive = last (head p) (grind (arith, is_digit-range (first_digit a) (first-digit a h))); above = below-parted a y [] l; below = later ended }
+    record { positive = last (head p) (grind (arith, is_key_digit-range (first_digit a) (first-digit a h))); above = below-parted a y [] l; below = later ended }
 
 tail_above : {y : ℕ} {ys a : List ℕ} → IsPositive (y ∷ ys) → IsLess a ys → IsPositive ys
 tail_above (last h k) l = absurd (not_below_nil l)
 tail_above (more h p) l = p
 
-pub midpoint-law : (a b : List ℕ) → list_all is_digit a ≡ true → IsPositive b → IsLess a b → IsMiddle a b (midpoint a b)
+pub midpoint-law : (a b : List ℕ) → list_all is_key_digit a ≡ true → IsPositive b → IsLess a b → IsMiddle a b (midpoint a b)
 unfolding midpoint
 midpoint-law a [] h p l = absurd (not_below_nil l)
 midpoint-law a (y ∷ ys) h p l =

@@ -3,13 +3,13 @@ use Rattle.std.proofs.Common.{◌≡◌, ℕ, zero, suc, ◌+◌, ◌-◌, ◌<�
 use Rattle.std.specs.List.{list_all, prefix_len}
 use Rattle.std.proofs.lemmas.Bool.{and_parts, cond_both, cond-true, cond-false, eqb-true, eqb-false, eq-eqb, ne_eqb, lt-ltb, le-ltb}
 use Rattle.std.proofs.lemmas.List.{drop_more, take_more, take_rest, drop_min, nil_from_length}
-use Rattle.frac_keys.specs.Digits.{is_digit, digit_value, middle_digit}
+use Rattle.frac_keys.specs.Digits.{is_key_digit, digit_value, middle_digit}
 use Rattle.frac_keys.specs.Between.{first_digit, later_digits, midpoint_above, midpoint_beside, midpoint}
 use Rattle.frac_keys.proofs.DigitLaws.{digit_value-lt_last}
 
 -- n digits of 61 stand in front of a smaller one
 pub record IsFull (a : List ℕ) (n : ℕ) : Type 0 where
-  pub digit : is_digit (first_digit (drop n a)) ≡ true
+  pub digit : is_key_digit (first_digit (drop n a)) ≡ true
   pub under : digit_value (first_digit (drop n a)) + 1 < 62
   pub split : midpoint_above a ≡ take n a ++ middle_digit (digit_value (first_digit (drop n a))) 62 ∷ []
 
@@ -30,16 +30,16 @@ at_last : (ds : List ℕ) (n : ℕ) → IsFull ds n → IsFull (122 ∷ ds) (suc
 unfolding midpoint_above digit_value
 at_last ds n rest = record { digit = rest.digit; under = rest.under; split = ap (λ t. 122 ∷ t) rest.split }
 
-at_other : (d : ℕ) (ds : List ℕ) → is_digit d ≡ true → (d ≡ 122 → ⊥) → IsFull (d ∷ ds) 0
+at_other : (d : ℕ) (ds : List ℕ) → is_key_digit d ≡ true → (d ≡ 122 → ⊥) → IsFull (d ∷ ds) 0
 unfolding midpoint_above
 at_other d ds h ne =
     let under = digit_value-lt_last d h ne in
     record { digit = h; under = omega arith; split = cond-true (ltb 1 (62 - digit_value d)) (middle_digit (digit_value d) 62 ∷ []) (d ∷ midpoint_above ds) (lt-ltb 1 (62 - digit_value d) (omega arith)) }
 
-pub full : (a : List ℕ) → list_all is_digit a ≡ true → IsFull a (prefix_len (λ d. eqb d 122) a)
+pub full : (a : List ℕ) → list_all is_key_digit a ≡ true → IsFull a (prefix_len (λ d. eqb d 122) a)
 full [] h = nothing_full
 full (d ∷ ds) h =
-    let p = and_parts (is_digit d) (list_all is_digit ds) h in
+    let p = and_parts (is_key_digit d) (list_all is_key_digit ds) h in
     cond_both (eqb d 122) (1 + prefix_len (λ d. eqb d 122) ds) 0 (IsFull (d ∷ ds))
     (λ t. subst₂ (λ e n. IsFull (e ∷ ds) n) (sym (eqb-true d 122 t)) (sym (one-add (prefix_len (λ d. eqb d 122) ds))) (at_last ds (prefix_len (λ d. eqb d 122) ds) (full ds p.1)))
     (λ f. at_other d ds p.0 (eqb-false d 122 f))

@@ -3,8 +3,8 @@ use Rattle.std.specs.Prelude.{ℕ, ◌+◌, ◌-◌, ◌/◌, Bool, nat_lt, nat_
 use Rattle.std.specs.Char.{is_ascii_alphanumeric}
 
 -- A digit is one of `0` to `9`, `A` to `Z`, `a` to `z`. Source: the alphabet of rocicorp's fractional-indexing.
-abbrev pub is_digit : ℕ → Bool
-is_digit byte = is_ascii_alphanumeric byte
+abbrev pub is_key_digit : ℕ → Bool
+is_key_digit byte = is_ascii_alphanumeric byte
 
 -- The value of a digit, 0 to 61 in the order of the bytes; `9` is byte 57 and `Z` byte 90. Source: rocicorp's fractional-indexing.
 unfoldable pub digit_value : ℕ → ℕ

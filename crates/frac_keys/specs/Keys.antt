@@ -4,7 +4,7 @@ use Rattle.std.specs.Char.{is_ascii_alphabetic}
 use Rattle.std.specs.Cmp.Lexicographic.{slice_cmp}
 use Rattle.std.specs.List.{list_all}
 use Rattle.std.specs.Ordering.{is_lt, nat_cmp}
-use Rattle.frac_keys.specs.Digits.{is_digit}
+use Rattle.frac_keys.specs.Digits.{is_key_digit}
 
 -- How many digits follow a head in its integer part: 1 to 26 for `a` to `z`, and 1 to 26 for `Z` down to `A`; `Z` is
 -- byte 90. Source: rocicorp's fractional-indexing.
@@ -19,7 +19,7 @@ integer_part (head ∷ rest) = head ∷ take (digit_count head) rest
 -- Whether bytes are an integer part: a head, and as many digits as it counts. Source: rocicorp's fractional-indexing.
 abbrev pub is_integer : List ℕ → Bool
 is_integer [] = false
-is_integer (head ∷ digits) = is_ascii_alphabetic head && length digits == digit_count head && list_all is_digit digits
+is_integer (head ∷ digits) = is_ascii_alphabetic head && length digits == digit_count head && list_all is_key_digit digits
 
 -- The fraction of a key: what follows the integer part. Source: rocicorp's fractional-indexing.
 abbrev pub fraction : List ℕ → List ℕ
@@ -41,7 +41,7 @@ smallest_integer = codes "A00000000000000000000000000"
 unfoldable pub is_key : List ℕ → Bool
 is_key [] = false
 is_key (head ∷ rest) =
-    is_ascii_alphabetic head && nat_le (digit_count head) (length rest) && list_all is_digit rest
+    is_ascii_alphabetic head && nat_le (digit_count head) (length rest) && list_all is_key_digit rest
     && not (ends_in_zero (drop (digit_count head) rest)) && not (bytes_eq (head ∷ rest) smallest_integer)
 
 -- Whether a key is less than another one, by their bytes. Source: rocicorp's fractional-indexing.

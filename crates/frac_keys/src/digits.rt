@@ -1,12 +1,12 @@
 //! The digits of base 62.
 
 ghost use Rattle.std.specs.Prelude.{◌≡◌, ◌+◌, ◌<◌, ◌≤◌, IsTrue};
-ghost use Rattle.frac_keys.specs.Digits.{is_digit, digit_value, digit_byte, middle_digit};
+ghost use Rattle.frac_keys.specs.Digits.{is_key_digit, digit_value, digit_byte, middle_digit};
 
 /// The value of a digit, 0 to 61.
 #[tactic(auto, unfolding(crate::specs::Digits::digit_value))]
 pub(crate) fn digit_value(digit: u8) -> u8
-    requires { IsTrue (is_digit digit) }
+    requires { IsTrue (is_key_digit digit) }
     ensures value { result ≡ digit_value digit }
     ensures bound { result < 62 }
     ensures first { result ≡ 0 → digit ≡ 48 }

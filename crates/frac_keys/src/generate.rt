@@ -2,7 +2,7 @@
 
 ghost use Rattle.std.specs.Prelude.{◌≡◌, ◌++◌, IfOk, IsTrue, option_copied};
 ghost use Rattle.std.specs.List.{list_all};
-ghost use Rattle.frac_keys.specs.Digits.{is_digit};
+ghost use Rattle.frac_keys.specs.Digits.{is_key_digit};
 ghost use Rattle.frac_keys.specs.Keys.{is_key, bytes_less};
 ghost use Rattle.frac_keys.specs.Between.{midpoint, midpoint_above, key_above, key_below, key_inside, key_between};
 ghost use Rattle.frac_keys.specs.Rising.{ends_rise, is_key_or_none, lies_between};
@@ -123,8 +123,8 @@ fn key_inside(alloc: Global, a: &[u8], b: &[u8]) -> Result<Vec<u8>, AllocError>
 
 /// The integer part, with the fraction between two.
 fn with_midpoint(alloc: Global, integer: &[u8], a: &[u8], b: &[u8]) -> Result<Vec<u8>, AllocError>
-    requires low { IsTrue (list_all is_digit a.now) }
-    requires high { IsTrue (list_all is_digit b.now) }
+    requires low { IsTrue (list_all is_key_digit a.now) }
+    requires high { IsTrue (list_all is_key_digit b.now) }
     ensures { IfOk result (λ v. v.items ≡ integer.now ++ midpoint a.now b.now) }
 {
     let mut bytes = Vec::from_slice(alloc, integer)?;
@@ -134,7 +134,7 @@ fn with_midpoint(alloc: Global, integer: &[u8], a: &[u8], b: &[u8]) -> Result<Ve
 
 /// The integer part, with a fraction above the one given.
 fn with_midpoint_above(alloc: Global, integer: &[u8], a: &[u8]) -> Result<Vec<u8>, AllocError>
-    requires { IsTrue (list_all is_digit a.now) }
+    requires { IsTrue (list_all is_key_digit a.now) }
     ensures { IfOk result (λ v. v.items ≡ integer.now ++ midpoint_above a.now) }
 {
     let mut bytes = Vec::from_slice(alloc, integer)?;

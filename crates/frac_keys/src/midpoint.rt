@@ -2,7 +2,7 @@
 
 ghost use Rattle.std.specs.Prelude.{◌≡◌, ◌≢◌, ◌<◌, ◌≤◌, ◌==◌, ◌++◌, OnOk, IsTrue, length, take, drop, slice_index};
 ghost use Rattle.std.specs.List.{list_all, prefix_len};
-ghost use Rattle.frac_keys.specs.Digits.{is_digit};
+ghost use Rattle.frac_keys.specs.Digits.{is_key_digit};
 ghost use Rattle.frac_keys.specs.Between.{first_digit, later_digits, midpoint, midpoint_above};
 
 use crate::digits::{digit_value, middle_digit};
@@ -10,8 +10,8 @@ use std::alloc::AllocError;
 
 /// Appends the fraction between two, the first of which is less.
 pub(crate) fn push_midpoint(bytes: &mut Vec<u8>, a: &[u8], b: &[u8]) -> Result<(), AllocError>
-    requires low { IsTrue (list_all is_digit a.now) }
-    requires high { IsTrue (list_all is_digit b.now) }
+    requires low { IsTrue (list_all is_key_digit a.now) }
+    requires high { IsTrue (list_all is_key_digit b.now) }
     ensures { OnOk result (bytes.new.items ≡ bytes.old.items ++ midpoint a.now b.now) }
 {
     let shared = shared_len(a, b);
@@ -35,8 +35,8 @@ fn shared_len(a: &[u8], b: &[u8]) -> usize
 
 /// Appends the fraction between two whose first digits differ.
 fn push_parted(bytes: &mut Vec<u8>, a: &[u8], b: &[u8]) -> Result<(), AllocError>
-    requires low { IsTrue (list_all is_digit a.now) }
-    requires high { IsTrue (list_all is_digit b.now) }
+    requires low { IsTrue (list_all is_key_digit a.now) }
+    requires high { IsTrue (list_all is_key_digit b.now) }
     requires parted { 0 < length b.now → first_digit a.now ≢ slice_index b.now 0 }
     ensures { OnOk result (bytes.new.items ≡ bytes.old.items ++ midpoint a.now b.now) }
 {
@@ -59,7 +59,7 @@ fn push_parted(bytes: &mut Vec<u8>, a: &[u8], b: &[u8]) -> Result<(), AllocError
 
 /// Appends a fraction above the one given.
 pub(crate) fn push_midpoint_above(bytes: &mut Vec<u8>, a: &[u8]) -> Result<(), AllocError>
-    requires { IsTrue (list_all is_digit a.now) }
+    requires { IsTrue (list_all is_key_digit a.now) }
     ensures { OnOk result (bytes.new.items ≡ bytes.old.items ++ midpoint_above a.now) }
 {
     let full = full_len(a);

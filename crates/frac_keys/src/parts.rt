@@ -3,7 +3,7 @@
 ghost use Rattle.std.specs.Prelude.{◌≡◌, ◌+◌, ◌<◌, ◌≤◌, IsTrue, length};
 ghost use Rattle.std.specs.Char.{is_ascii_alphabetic};
 ghost use Rattle.std.specs.List.{list_all};
-ghost use Rattle.frac_keys.specs.Digits.{is_digit};
+ghost use Rattle.frac_keys.specs.Digits.{is_key_digit};
 ghost use Rattle.frac_keys.specs.Keys.{digit_count, integer_part, fraction, ends_in_zero, is_integer, is_key, bytes_less};
 
 /// The smallest integer part, which alone is no key.
@@ -39,7 +39,7 @@ pub(crate) fn digit_count(head: u8) -> usize
 }
 
 fn are_digits(bytes: &[u8]) -> bool
-    ensures { result ≡ list_all is_digit bytes.now }
+    ensures { result ≡ list_all is_key_digit bytes.now }
 {
     bytes.iter().all(|byte| byte.is_ascii_alphanumeric())
 }
@@ -59,7 +59,7 @@ pub(crate) fn split(key: &[u8]) -> (&[u8], &[u8])
     ensures integer { result.0.now ≡ integer_part key.now }
     ensures fraction { result.1.now ≡ fraction key.now }
     ensures is_integer { IsTrue (is_integer result.0.now) }
-    ensures are_digits { IsTrue (list_all is_digit result.1.now) }
+    ensures are_digits { IsTrue (list_all is_key_digit result.1.now) }
 {
     key.split_at(1 + digit_count(key[0]))
 }

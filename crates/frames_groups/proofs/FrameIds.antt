@@ -3,11 +3,11 @@ use Rattle.std.proofs.Common.{◌≡◌, ℕ, Bool, true, false, cond, ◌&&◌,
 use Rattle.std.specs.BTreeSet.{BTreeSet, contains, Updates}
 use Rattle.std.specs.Cmp.Lexicographic.{slice_cmp, nat_list_eq_equiv, texts_ties}
 use Rattle.std.proofs.lemmas.List.Folds.{list_any-append}
-use Rattle.elem.specs.Drawn.{Drawn}
+use Rattle.elem.specs.ElementValue.{ElementValue}
 use Rattle.frames_groups.specs.Frames.{is_frame, is_frame_of, has_frame}
 
 -- the set has the ids of the frames among the elements
-abbrev pub HasFrames : BTreeSet (List ℕ) → List Drawn → Type 0
+abbrev pub HasFrames : BTreeSet (List ℕ) → List ElementValue → Type 0
 HasFrames frames elements = (id : List ℕ) → contains (slice_cmp nat_cmp) frames id ≡ has_frame elements id
 
 joined : (same among : Bool) → cond same true among ≡ (among || ((true && same) || false))
@@ -20,7 +20,7 @@ alone : (among : Bool) → among ≡ (among || (false || false))
 alone true = refl
 alone false = refl
 
-pub HasFrames-frame : (frames new : BTreeSet (List ℕ)) (elements : List Drawn) (e : Drawn) (id : List ℕ) → HasFrames frames elements → Updates (slice_cmp nat_cmp) frames new id true → id ≡ e.id → is_frame e ≡ true
+pub HasFrames-frame : (frames new : BTreeSet (List ℕ)) (elements : List ElementValue) (e : ElementValue) (id : List ℕ) → HasFrames frames elements → Updates (slice_cmp nat_cmp) frames new id true → id ≡ e.id → is_frame e ≡ true
     → HasFrames new (elements ++ e ∷ [])
 HasFrames-frame frames new elements e id has updates own frame other =
     let same = bytes_eq other e.id in
@@ -31,7 +31,7 @@ HasFrames-frame frames new elements e id has updates own frame other =
     ∙ ap (λ b. has_frame elements other || ((b && same) || false)) (sym frame)
     ∙ sym (list_any-append (is_frame_of other) elements (e ∷ []))
 
-pub HasFrames-other : (frames : BTreeSet (List ℕ)) (elements : List Drawn) (e : Drawn) → HasFrames frames elements → is_frame e ≡ false → HasFrames frames (elements ++ e ∷ [])
+pub HasFrames-other : (frames : BTreeSet (List ℕ)) (elements : List ElementValue) (e : ElementValue) → HasFrames frames elements → is_frame e ≡ false → HasFrames frames (elements ++ e ∷ [])
 HasFrames-other frames elements e has none other =
     has other ∙ alone (has_frame elements other)
     ∙ ap (λ b. has_frame elements other || ((b && bytes_eq other e.id) || false)) (sym none)

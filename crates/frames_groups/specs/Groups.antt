@@ -2,24 +2,24 @@
 use Rattle.std.specs.Prelude.{ℕ, List, [], All, map, bytes_eq}
 use Rattle.std.specs.List.{IsDistinct}
 use Rattle.first_texts.specs.FirstOccurrences.{first_occurrences}
-use Rattle.elem.specs.Drawn.{Drawn}
+use Rattle.elem.specs.ElementValue.{ElementValue}
 
 -- the element in these groups
-abbrev pub with_groups : Drawn → List (List ℕ) → Drawn
+abbrev pub with_groups : ElementValue → List (List ℕ) → ElementValue
 with_groups e groups = record e { groups = groups }
 
 -- the element, each of its groups once, where it stands first
-abbrev pub grouped : Drawn → Drawn
+abbrev pub grouped : ElementValue → ElementValue
 grouped e = with_groups e (first_occurrences e.groups)
 
 -- each element of a list, each of its groups once
-abbrev pub groups_settled : List Drawn → List Drawn
+abbrev pub groups_settled : List ElementValue → List ElementValue
 groups_settled elements = map grouped elements
 
 -- No element has a group twice.
-abbrev pub HaveDistinctGroups : List Drawn → Type 0
-HaveDistinctGroups elements = All (λ (e : Drawn). IsDistinct bytes_eq e.groups) elements
+abbrev pub HaveDistinctGroups : List ElementValue → Type 0
+HaveDistinctGroups elements = All (λ (e : ElementValue). IsDistinct bytes_eq e.groups) elements
 
 -- the element in no group
-abbrev pub without_groups : Drawn → Drawn
+abbrev pub without_groups : ElementValue → ElementValue
 without_groups e = with_groups e []

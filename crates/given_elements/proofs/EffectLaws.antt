@@ -14,12 +14,12 @@ use Rattle.elem.specs.declared.kind.Kind.{Kind}
 use Rattle.elem.specs.declared.kind.Kind.TheVariants as kinds
 use Rattle.elem.specs.declared.parts.BoundRef.{BoundRef}
 use Rattle.elem.specs.declared.parts.Binding.{Binding}
-use Rattle.elem.specs.Drawn.{Drawn}
+use Rattle.elem.specs.ElementValue.{ElementValue}
 use Rattle.elem.specs.Facts.{IsBinding, AllNest, names}
 use Rattle.elem.specs.Said.{IsBindingText}
 use Rattle.delta.specs.Rest.{with_value}
 use Rattle.delta.proofs.RestLaws.{each-with_value}
-use Rattle.links.specs.Entries.{same_entry, arrow_entry, text_entry, lists}
+use Rattle.links.specs.Entries.{same_listing_entry, arrow_entry, text_entry, lists}
 use Rattle.links.specs.Names.{is_id, is_arrow, is_text, target_of}
 use Rattle.links.specs.Texts.{is_for_text}
 use Rattle.view.specs.Shown.{HaveRisingKeys}
@@ -32,17 +32,17 @@ use Rattle.effects.specs.declared.command.Side.TheVariants.{Start, End}
 use Rattle.effects.specs.Deleting.{kept_name, kept_entries, kept_end, without_names, deleted_from}
 use Rattle.effects.specs.Effects.{effect, with_group, without_group}
 use Rattle.effects.specs.Limits.{IsRest, IsWithinLimits}
-use Rattle.effects.specs.Linking.{with_entry, without_entry, listed, unlisted, with_end, with_end_of, old_target, old_container, with_container_of, without_other_texts, with_text_alone, with_text_of, without_container_of}
+use Rattle.effects.specs.Linking.{with_listing_entry, without_listing_entry, listed, unlisted, with_end, with_end_of, old_target, old_container, with_container_of, without_other_texts, with_text_alone, with_text_of, without_container_of}
 use Rattle.effects.specs.Naming.{is_among, is_some_that, apart_from}
-use Rattle.effects.specs.Placing.{settled, settled_key, key_at, key_in}
+use Rattle.effects.specs.Placing.{with_view_key, settled_key, key_at, key_in}
 use Rattle.effects.specs.Refusals.{refusal_if, guarded}
-use Rattle.effects.specs.Settings.{is_protected, given_value, with_member}
+use Rattle.effects.specs.Settings.{is_protected, given_value, with_set_member}
 use Rattle.effects.proofs.SettingLaws.{nests-more, free-header}
 use Rattle.given_elements.specs.Written.{IsWrittenCommand}
 use Rattle.given_elements.proofs.PartLaws.{HasText, IsEnd, with_parts, with_deleted, with_index, with_groups, with_frame, with_bound, with_container, with_start, with_end', with_rest}
 use Rattle.given_elements.proofs.SpotLaws.{settled_key-is, key_at-is, key_in-is}
 
-chosen : (b : Bool) (x y : Drawn) → (b ≡ true → IsKept x) → IsKept y → IsKept (if b then x else y)
+chosen : (b : Bool) (x y : ElementValue) → (b ≡ true → IsKept x) → IsKept y → IsKept (if b then x else y)
 chosen true x y p q = p refl
 chosen false x y p q = q
 
@@ -51,8 +51,8 @@ unless P true o is = tt
 unless P false o is = is
 
 -- ---- keys
-settled-kept : (shown : List Drawn) (e : Drawn) → AreKept shown → IsKept e → IsKept (settled shown e)
-settled-kept shown e all kept = with_index e kept (settled_key shown e) (settled_key-is shown e all kept)
+with_view_key-kept : (shown : List ElementValue) (e : ElementValue) → AreKept shown → IsKept e → IsKept (with_view_key shown e)
+with_view_key-kept shown e all kept = with_index e kept (settled_key shown e) (settled_key-is shown e all kept)
 
 -- ---- members
 or-compact : (o : Option (List ℕ)) (value : List ℕ) → IfSome o (IsCompact 1) → IsCompact 100 value → IsCompact 119 (unwrap_or o value)
@@ -84,14 +84,14 @@ names-written : (ms : List Member) → AllByRecursion HasName ms → AllByRecurs
 names-written [] all = tt
 names-written (m ∷ ms) all = (all.0, names-written ms all.1)
 
-with_member-kept : (name value : List ℕ) (e : Drawn) → is_protected name ≡ false → IsCompact 100 value → IsUtf8 name → IsKept e → IsKept (with_member name value e)
-with_member-kept name value e free compact text kept =
+with_set_member-kept : (name value : List ℕ) (e : ElementValue) → is_protected name ≡ false → IsCompact 100 value → IsUtf8 name → IsKept e → IsKept (with_set_member name value e)
+with_set_member-kept name value e free compact text kept =
     let given = given_value name value in
     with_rest e kept name given (free-header e.kind name free) (given-compact name value compact)
     (names-written (with_value name (Some given) e.rest) (each-with_value HasName name (Some given) e.rest (text, tt) (members-named e.rest kept.written.rest)))
 
 -- ---- what is deleted
-deleted_from-kept : (is_gone : List ℕ → Bool) (e : Drawn) → IsKept e → IsKept (deleted_from is_gone e)
+deleted_from-kept : (is_gone : List ℕ → Bool) (e : ElementValue) → IsKept e → IsKept (deleted_from is_gone e)
 deleted_from-kept is_gone e kept =
     let a = kept.element in
     let w = kept.written in
@@ -104,22 +104,22 @@ deleted_from-kept is_gone e kept =
     (unless _ (is_some_that is_gone (target_of e.end_binding)) e.end_binding a.end_binding) (unless IsBindingText (is_some_that is_gone (target_of e.end_binding)) e.end_binding w.end_binding))
 
 -- ---- listings
-with_entry-text : (entry : BoundRef) (entries : List BoundRef) → IsUtf8 entry.id → AllByRecursion HasText entries → AllByRecursion HasText (with_entry entry entries)
-with_entry-text entry entries text all =
+with_listing_entry-text : (entry : BoundRef) (entries : List BoundRef) → IsUtf8 entry.id → AllByRecursion HasText entries → AllByRecursion HasText (with_listing_entry entry entries)
+with_listing_entry-text entry entries text all =
     elim (lists entries entry) as (λ (b : Bool). AllByRecursion HasText (if b then entries else entries ++ entry ∷ [])) [
       | true ↦ all
       | false ↦ All-append HasText entries (entry ∷ []) all (text, tt)
     ]
 
-listed-kept : (id : Option (List ℕ)) (entry : BoundRef) (e : Drawn) → IsUtf8 entry.id → IsKept e → IsKept (listed id entry e)
+listed-kept : (id : Option (List ℕ)) (entry : BoundRef) (e : ElementValue) → IsUtf8 entry.id → IsKept e → IsKept (listed id entry e)
 listed-kept id entry e text kept =
-    chosen (is_id e.id id) (record e { bound = with_entry entry e.bound }) e
-    (λ _. with_bound e kept (with_entry entry e.bound) (with_entry-text entry e.bound text kept.written.bound)) kept
+    chosen (is_id e.id id) (record e { bound = with_listing_entry entry e.bound }) e
+    (λ _. with_bound e kept (with_listing_entry entry e.bound) (with_listing_entry-text entry e.bound text kept.written.bound)) kept
 
-unlisted-kept : (id : Option (List ℕ)) (entry : BoundRef) (e : Drawn) → IsKept e → IsKept (unlisted id entry e)
+unlisted-kept : (id : Option (List ℕ)) (entry : BoundRef) (e : ElementValue) → IsKept e → IsKept (unlisted id entry e)
 unlisted-kept id entry e kept =
-    chosen (is_id e.id id) (record e { bound = without_entry entry e.bound }) e
-    (λ _. with_bound e kept (without_entry entry e.bound) (all_kept_by (λ (other : BoundRef). not (same_entry entry other)) HasText e.bound kept.written.bound)) kept
+    chosen (is_id e.id id) (record e { bound = without_listing_entry entry e.bound }) e
+    (λ _. with_bound e kept (without_listing_entry entry e.bound) (all_kept_by (λ (other : BoundRef). not (same_listing_entry entry other)) HasText e.bound kept.written.bound)) kept
 
 -- ---- ends of arrows
 arrow-kind : (kind : Kind) → is_arrow kind ≡ true → kind ≡ kinds.Arrow
@@ -141,11 +141,11 @@ end-of : (kind : Kind) (binding : Option Binding) → kind ≡ kinds.Arrow → I
 end-of kind None arrow is = tt
 end-of kind (Some binding) arrow is = (arrow, is)
 
-with_end-kept : (side : Side) (binding : Option Binding) (e : Drawn) → e.kind ≡ kinds.Arrow → IfSome binding IsBinding → IfSome binding IsBindingText → IsKept e → IsKept (with_end side binding e)
+with_end-kept : (side : Side) (binding : Option Binding) (e : ElementValue) → e.kind ≡ kinds.Arrow → IfSome binding IsBinding → IfSome binding IsBindingText → IsKept e → IsKept (with_end side binding e)
 with_end-kept Start binding e arrow is text kept = with_start e kept binding (end-of e.kind binding arrow is) text
 with_end-kept End binding e arrow is text kept = with_end' e kept binding (end-of e.kind binding arrow is) text
 
-with_end_of-kept : (arrow : List ℕ) (side : Side) (binding : Option Binding) (e : Drawn) → IfSome binding IsBinding → IfSome binding IsBindingText → IsKept e → IsKept (with_end_of arrow side binding e)
+with_end_of-kept : (arrow : List ℕ) (side : Side) (binding : Option Binding) (e : ElementValue) → IfSome binding IsBinding → IfSome binding IsBindingText → IsKept e → IsKept (with_end_of arrow side binding e)
 with_end_of-kept arrow side binding e is text kept =
     chosen (bytes_eq arrow e.id && is_arrow e.kind) (with_end side binding e) e
     (λ t. with_end-kept side binding e (arrow-kind e.kind (and_parts (bytes_eq arrow e.id) (is_arrow e.kind) t).1) is text kept) kept
@@ -173,21 +173,21 @@ text-kind kinds.Iframe h = absurd (false≢true h)
 text-kind kinds.Embeddable h = absurd (false≢true h)
 text-kind (kinds.Other name) h = absurd (false≢true h)
 
-with_container_of-kept : (text container : List ℕ) (e : Drawn) → IsUtf8 container → IsKept e → IsKept (with_container_of text container e)
+with_container_of-kept : (text container : List ℕ) (e : ElementValue) → IsUtf8 container → IsKept e → IsKept (with_container_of text container e)
 with_container_of-kept text container e written kept =
     chosen (bytes_eq text e.id && is_text e.kind) (record e { container = Some container }) (if is_id container e.container then record e { container = None } else e)
     (λ t. with_container e kept (Some container) (text-kind e.kind (and_parts (bytes_eq text e.id) (is_text e.kind) t).1) written)
     (chosen (is_id container e.container) (record e { container = None }) e (λ _. with_container e kept None tt tt) kept)
 
-with_text_of-kept : (text container : List ℕ) (e : Drawn) → IsUtf8 text → IsKept e → IsKept (with_text_of text container e)
+with_text_of-kept : (text container : List ℕ) (e : ElementValue) → IsUtf8 text → IsKept e → IsKept (with_text_of text container e)
 with_text_of-kept text container e written kept =
     chosen (bytes_eq container e.id) (record e { bound = with_text_alone text e.bound }) e
     (λ _. with_bound e kept (with_text_alone text e.bound)
-    (with_entry-text (text_entry text) (without_other_texts text e.bound) written
+    (with_listing_entry-text (text_entry text) (without_other_texts text e.bound) written
     (all_kept_by (λ (other : BoundRef). not (is_for_text other.role) || bytes_eq text other.id) HasText e.bound kept.written.bound)))
     kept
 
-without_container_of-kept : (text : List ℕ) (e : Drawn) → IsKept e → IsKept (without_container_of text e)
+without_container_of-kept : (text : List ℕ) (e : ElementValue) → IsKept e → IsKept (without_container_of text e)
 without_container_of-kept text e kept = chosen (bytes_eq text e.id) (record e { container = None }) e (λ _. with_container e kept None tt tt) kept
 
 -- ---- groups
@@ -203,17 +203,17 @@ unguarded : (b : Bool) (refusal : Refusal) → refusal_if b refusal ≡ None →
 unguarded true refusal h = cc
 unguarded false refusal h = refl
 
-pub effect-kept : (stored shown : List Drawn) (command : Command) (e : Drawn) → AreKept shown → HaveRisingKeys shown → IsWithinLimits command → IsWrittenCommand command → guarded command ≡ None → IsKept e → IsKept (effect stored shown command e)
-effect-kept stored shown (commands.Create element spot) e all rise limits written free kept = settled-kept shown e all kept
+pub effect-kept : (stored shown : List ElementValue) (command : Command) (e : ElementValue) → AreKept shown → HaveRisingKeys shown → IsWithinLimits command → IsWrittenCommand command → guarded command ≡ None → IsKept e → IsKept (effect stored shown command e)
+effect-kept stored shown (commands.Create element spot) e all rise limits written free kept = with_view_key-kept shown e all kept
 effect-kept stored shown (commands.Set id name value) e all rise limits written free kept =
-    chosen (bytes_eq id e.id) (with_member name value e) e
-    (λ _. with_member-kept name value e (unguarded (is_protected name) _ free) limits written kept) kept
+    chosen (bytes_eq id e.id) (with_set_member name value e) e
+    (λ _. with_set_member-kept name value e (unguarded (is_protected name) _ free) limits written kept) kept
 effect-kept stored shown (commands.Delete ids) e all rise limits written free kept = deleted_from-kept (is_among ids) e kept
 effect-kept stored shown (commands.Place id spot) e all rise limits written free kept =
     let key = key_at shown spot id (key_in shown id) in
-    chosen (bytes_eq id e.id) (record (settled shown e) { index = key }) (settled shown e)
-    (λ _. with_index (settled shown e) (settled-kept shown e all kept) key (key_at-is shown spot id (key_in shown id) all rise (key_in-is shown id all)))
-    (settled-kept shown e all kept)
+    chosen (bytes_eq id e.id) (record (with_view_key shown e) { index = key }) (with_view_key shown e)
+    (λ _. with_index (with_view_key shown e) (with_view_key-kept shown e all kept) key (key_at-is shown spot id (key_in shown id) all rise (key_in-is shown id all)))
+    (with_view_key-kept shown e all kept)
 effect-kept stored shown (commands.Bind arrow side target rest) e all rise limits written free kept =
     let binding : Option Binding = Some (record { target = target; rest = rest }) in
     let ended = with_end_of arrow side binding e in

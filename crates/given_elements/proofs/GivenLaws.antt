@@ -5,9 +5,9 @@ use Rattle.std.proofs.ByRecursion.{All-weaker}
 use Rattle.std.proofs.lemmas.Bool.{eqb-false}
 use Rattle.std.proofs.lemmas.List.Elements.{All-from_recursion, recursion_from_All}
 use Rattle.frac_keys.specs.Keys.{bytes_less}
-use Rattle.elem.specs.Drawn.{Drawn}
+use Rattle.elem.specs.ElementValue.{ElementValue}
 use Rattle.elem.specs.Facts.{IsElement, greatest_whole}
-use Rattle.elem.specs.Said.{IsWritten, AreElements}
+use Rattle.elem.specs.Said.{HasValidTexts, AreElements}
 use Rattle.view.specs.Shown.{live_elements, with_element, shown, HaveRisingKeys}
 use Rattle.view.proofs.Kept.{IsKept, AreKept, kept-keys, live-kept, shown-kept}
 use Rattle.view.proofs.ShownLaws.{shown-keys}
@@ -30,19 +30,19 @@ use Rattle.given_elements.proofs.SpotLaws.{key_at-is}
 one-below : (version greatest : ℕ) → version ≤ greatest → (version ≡ greatest → ⊥) → version + 1 ≤ greatest
 one-below version greatest within other = omega arith
 
-none-found : (p : Drawn → Bool) (e : Drawn) (es : List Drawn) → find p (e ∷ es) ≡ None → (p e ≡ false) × (find p es ≡ None)
+none-found : (p : ElementValue → Bool) (e : ElementValue) (es : List ElementValue) → find p (e ∷ es) ≡ None → (p e ≡ false) × (find p es ≡ None)
 none-found p e es none = by (p e) refl none
   where
     by : (b : Bool) → p e ≡ b → cond b (Some e) (find p es) ≡ None → (p e ≡ false) × (find p es ≡ None)
     by true is h = cc
     by false is h = (is, h)
 
-added : (o : Option Drawn) (es : List Drawn) → IfSome o IsKept → AreKept es → AreKept (cons_option o es)
+added : (o : Option ElementValue) (es : List ElementValue) → IfSome o IsKept → AreKept es → AreKept (cons_option o es)
 added None es is all = all
 added (Some e) es is all = (is, all)
 
-module _ (makes : Drawn → Drawn) (time nonce : ℕ) (each : (e : Drawn) → IsKept e → IsKept (makes e)) (same : (e : Drawn) → (makes e).version ≡ e.version) (early : time ≤ greatest_whole) (small : nonce ≤ greatest_whole) where
-  change-kept : (e : Drawn) → IsKept e → is_full makes e ≡ false → IfSome (change_of makes time nonce e) IsKept
+module _ (makes : ElementValue → ElementValue) (time nonce : ℕ) (each : (e : ElementValue) → IsKept e → IsKept (makes e)) (same : (e : ElementValue) → (makes e).version ≡ e.version) (early : time ≤ greatest_whole) (small : nonce ≤ greatest_whole) where
+  change-kept : (e : ElementValue) → IsKept e → is_full makes e ≡ false → IfSome (change_of makes time nonce e) IsKept
   change-kept e kept other = by (is_changed makes e) other
     where
       by : (changed : Bool) → (changed && e.version == greatest_whole) ≡ false → IfSome (if changed then Some (stamped time nonce (makes e)) else None) IsKept
@@ -51,47 +51,47 @@ module _ (makes : Drawn → Drawn) (time nonce : ℕ) (each : (e : Drawn) → Is
           with_stamp (makes e) (each e kept) ((makes e).version + 1) nonce time
           (subst (λ v. v + 1 ≤ greatest_whole) (sym (same e)) (one-below e.version greatest_whole kept.element.version (eqb-false e.version greatest_whole h))) small early
 
-  changes-kept : (stored : List Drawn) → AreKept stored → find (is_full makes) stored ≡ None → AreKept (changes_of makes time nonce stored)
+  changes-kept : (stored : List ElementValue) → AreKept stored → find (is_full makes) stored ≡ None → AreKept (changes_of makes time nonce stored)
   changes-kept [] all none = tt
   changes-kept (e ∷ es) all none =
       let parts = none-found (is_full makes) e es none in
       added (change_of makes time nonce e) (changes_of makes time nonce es) (change-kept e all.0 parts.0) (changes-kept es all.1 parts.1)
 
 -- ---- a new element
-created-kept : (view : List Drawn) (command : Command) (time nonce : ℕ) → AreKept view → HaveRisingKeys view → IsWrittenCommand command → time ≤ greatest_whole → nonce ≤ greatest_whole → IfSome (created view command time nonce) IsKept
+created-kept : (view : List ElementValue) (command : Command) (time nonce : ℕ) → AreKept view → HaveRisingKeys view → IsWrittenCommand command → time ≤ greatest_whole → nonce ≤ greatest_whole → IfSome (created view command time nonce) IsKept
 created-kept view (commands.Create element spot) time nonce all rise written early small =
-    let new : Drawn = record element { version = 1; nonce = nonce; updated = time } in
-    let live : Drawn = record new { deleted = false } in
+    let new : ElementValue = record element { version = 1; nonce = nonce; updated = time } in
+    let live : ElementValue = record new { deleted = false } in
     with_index live (with_deleted new (with_stamp element (record { element = written.0; written = written.1 }) 1 nonce time (lit≤ tt) small early) false)
     (key_at view spot element.id None) (key_at-is view spot element.id None all rise tt)
 created-kept view _ time nonce all rise written early small = tt
 
-inserted : (e : Drawn) (es : List Drawn) → IsKept e → AreKept es → AreKept (with_element (λ other new. bytes_less other.id new.id) e es)
+inserted : (e : ElementValue) (es : List ElementValue) → IsKept e → AreKept es → AreKept (with_element (λ other new. bytes_less other.id new.id) e es)
 inserted e [] is all = (is, tt)
 inserted e (other ∷ others) is all =
-    let more = with_element (λ (other new : Drawn). bytes_less other.id new.id) e others in
+    let more = with_element (λ (other new : ElementValue). bytes_less other.id new.id) e others in
     elim (bytes_less other.id e.id) as (λ (b : Bool). AreKept (if b then other ∷ more else e ∷ other ∷ others)) [
       | true ↦ (all.0, inserted e others is all.1)
       | false ↦ (is, all)
     ]
 
-with_created-kept : (new : Option Drawn) (es : List Drawn) → IfSome new IsKept → AreKept es → AreKept (with_created new es)
+with_created-kept : (new : Option ElementValue) (es : List ElementValue) → IfSome new IsKept → AreKept es → AreKept (with_created new es)
 with_created-kept None es is all = all
 with_created-kept (Some e) es is all = inserted e es is all
 
 -- ---- the outcome
-abbrev or-these : List Drawn → Result (List Drawn) Refusal → List Drawn
+abbrev or-these : List ElementValue → Result (List ElementValue) Refusal → List ElementValue
 or-these these (Ok es) = es
 or-these these (Err refusal) = these
 
-same-given : (r : Result (List Drawn) Refusal) (given : List Drawn) → r ≡ Ok given → or-these given r ≡ given
+same-given : (r : Result (List ElementValue) Refusal) (given : List ElementValue) → r ≡ Ok given → or-these given r ≡ given
 same-given r given is = ap (or-these given) is
 
-given-kept : (stored view given : List Drawn) (command : Command) (time nonce : ℕ) → AreKept stored → AreKept view → HaveRisingKeys view → IsWithinLimits command → IsWrittenCommand command
+given-kept : (stored view given : List ElementValue) (command : Command) (time nonce : ℕ) → AreKept stored → AreKept view → HaveRisingKeys view → IsWithinLimits command → IsWrittenCommand command
     → time ≤ greatest_whole → nonce ≤ greatest_whole → outcome stored view command time nonce ≡ Ok given → AreKept given
 given-kept stored view given command time nonce all seen rise limits written early small is = by-refusal (refusal_of stored view command) refl is
   where
-    by-full : (o : Option Drawn) → refusal_of stored view command ≡ None → find (is_full (effect stored view command)) stored ≡ o
+    by-full : (o : Option ElementValue) → refusal_of stored view command ≡ None → find (is_full (effect stored view command)) stored ≡ o
         → outcome_from o (created view command time nonce) (changes_of (effect stored view command) time nonce stored) ≡ Ok given → AreKept given
     by-full (Some full) free found h = cc
     by-full None free found h =
@@ -106,26 +106,26 @@ given-kept stored view given command time nonce all seen rise limits written ear
     by-refusal (Some refusal) refused h = cc
     by-refusal None free h = by-full (find (is_full (effect stored view command)) stored) free refl h
 
-kept-from : (es : List Drawn) → AreElements es → AreKept es
-kept-from es all = All-weaker (λ e. IsElement e × IsWritten e) IsKept (λ e h. record { element = h.0; written = h.1 }) es (recursion_from_All _ es all)
+kept-from : (es : List ElementValue) → AreElements es → AreKept es
+kept-from es all = All-weaker (λ e. IsElement e × HasValidTexts e) IsKept (λ e h. record { element = h.0; written = h.1 }) es (recursion_from_All _ es all)
 
-kept-to : (es : List Drawn) → AreKept es → AreElements es
-kept-to es all = All-from_recursion _ es (All-weaker IsKept (λ e. IsElement e × IsWritten e) (λ e h. (h.element, h.written)) es all)
+kept-to : (es : List ElementValue) → AreKept es → AreElements es
+kept-to es all = All-from_recursion _ es (All-weaker IsKept (λ e. IsElement e × HasValidTexts e) (λ e h. (h.element, h.written)) es all)
 
 -- on a board that shows elements with rising keys, a command gives elements
-pub given-elements : (stored view given : List Drawn) (command : Command) (time nonce : ℕ) → AreElements stored → AreElements view → HaveRisingKeys view → IsWithinLimits command → IsWrittenCommand command
+pub given-elements : (stored view given : List ElementValue) (command : Command) (time nonce : ℕ) → AreElements stored → AreElements view → HaveRisingKeys view → IsWithinLimits command → IsWrittenCommand command
     → time ≤ greatest_whole → nonce ≤ greatest_whole → outcome stored view command time nonce ≡ Ok given → AreElements given
 given-elements stored view given command time nonce all seen rise limits written early small is =
     kept-to given (given-kept stored view given command time nonce (kept-from stored all) (kept-from view seen) rise limits written early small is)
 
 -- what a board of elements shows is such
-pub view-elements : (stored : List Drawn) → AreElements stored → AreElements (shown (live_elements stored))
+pub view-elements : (stored : List ElementValue) → AreElements stored → AreElements (shown (live_elements stored))
 view-elements stored all = kept-to (shown (live_elements stored)) (shown-kept (live_elements stored) (live-kept stored (kept-from stored all)))
 
-pub view-keys : (stored : List Drawn) → AreElements stored → HaveRisingKeys (shown (live_elements stored))
+pub view-keys : (stored : List ElementValue) → AreElements stored → HaveRisingKeys (shown (live_elements stored))
 view-keys stored all = shown-keys (live_elements stored) (kept-keys (live_elements stored) (live-kept stored (kept-from stored all)))
 
-pub board-given : (stored given : List Drawn) (command : Command) (time nonce : ℕ) → AreElements stored → IsWithinLimits command → IsWrittenCommand command
+pub board-given : (stored given : List ElementValue) (command : Command) (time nonce : ℕ) → AreElements stored → IsWithinLimits command → IsWrittenCommand command
     → time ≤ greatest_whole → nonce ≤ greatest_whole → outcome stored (shown (live_elements stored)) command time nonce ≡ Ok given → AreElements given
 board-given stored given command time nonce all limits written early small is =
     given-elements stored (shown (live_elements stored)) given command time nonce all (view-elements stored all) (view-keys stored all) limits written early small is

@@ -7,7 +7,7 @@ use Rattle.elem.specs.declared.kind.Kind.{Kind}
 use Rattle.elem.specs.declared.kind.Kind.TheVariants.{Arrow, Text}
 use Rattle.elem.specs.declared.parts.BoundRef.{BoundRef}
 use Rattle.elem.specs.declared.parts.Binding.{Binding}
-use Rattle.elem.specs.Drawn.{Drawn}
+use Rattle.elem.specs.ElementValue.{ElementValue}
 use Rattle.elem.specs.Facts.{IsBinding, greatest_whole, is_header, names}
 use Rattle.elem.specs.Said.{IsBindingText}
 use Rattle.delta.specs.Rest.{with_value}
@@ -24,7 +24,7 @@ HasText entry = IsUtf8 entry.id
 abbrev pub IsEnd : Kind → Option Binding → Type 0
 IsEnd kind end' = IfSome end' (λ binding. (kind ≡ Arrow) × IsBinding binding)
 
-module _ (e : Drawn) (kept : IsKept e) where
+module _ (e : ElementValue) (kept : IsKept e) where
   pub with_parts : (deleted : Bool) (index : Option (List ℕ)) (groups : List (List ℕ)) (frame : Option (List ℕ)) (bound : List BoundRef) (container : Option (List ℕ)) (start_binding end_binding : Option Binding)
       → IsIndex index → AllByRecursion IsUtf8 groups → IfSome frame IsUtf8 → AllByRecursion HasText bound
       → IfSome container (λ id. e.kind ≡ Text) → IfSome container IsUtf8

@@ -4,8 +4,9 @@ use Rattle.std.specs.Option.{option_map_or, option_and_then}
 use Rattle.frac_keys.specs.Between.{key_between}
 use Rattle.frac_keys.specs.Rising.{ends_rise, is_key_or_none}
 use Rattle.frac_keys.proofs.BetweenLaws.{key_between-law}
-use Rattle.elem.specs.Drawn.{Drawn}
-use Rattle.elem_store.specs.Updates.{is_of, element_of}
+use Rattle.elem.specs.ElementValue.{ElementValue}
+use Rattle.elem.specs.Order.{has_id}
+use Rattle.elem_store.specs.Updates.{element_of}
 use Rattle.view.specs.Shown.{HaveRisingKeys}
 use Rattle.std.proofs.ByRecursion.{all_kept_by}
 use Rattle.view.proofs.Kept.{IsKept, AreKept}
@@ -15,7 +16,7 @@ use Rattle.effects.specs.Placing.{settled_key, others, first_key, last_key, last
 use Rattle.effects.proofs.PlacingLaws.{Rises, Rises-shown, Rises-lower, ends_rise-none}
 use Rattle.given_elements.proofs.PartLaws.{IsIndex}
 
-find-some : (p : Drawn → Bool) (es : List Drawn) → AreKept es → IfSome (find p es) IsKept
+find-some : (p : ElementValue → Bool) (es : List ElementValue) → AreKept es → IfSome (find p es) IsKept
 find-some p [] all = tt
 find-some p (e ∷ es) all = elim (p e) as (λ (b : Bool). IfSome (cond b (Some e) (find p es)) IsKept) [ true ↦ all.0 | false ↦ find-some p es all.1 ]
 
@@ -24,17 +25,17 @@ index-key None is = refl
 index-key (Some key) is = is
 
 -- ---- keys in the view
-pub settled_key-is : (shown : List Drawn) (e : Drawn) → AreKept shown → IsKept e → IsIndex (settled_key shown e)
-settled_key-is shown e all kept = by (element_of shown e.id) (find-some (is_of e.id) shown all)
+pub settled_key-is : (shown : List ElementValue) (e : ElementValue) → AreKept shown → IsKept e → IsIndex (settled_key shown e)
+settled_key-is shown e all kept = by (element_of shown e.id) (find-some (has_id e.id) shown all)
   where
-    by : (o : Option Drawn) → IfSome o IsKept → IsIndex (option_map_or (λ (s : Drawn). s.index) o e.index)
+    by : (o : Option ElementValue) → IfSome o IsKept → IsIndex (option_map_or (λ (s : ElementValue). s.index) o e.index)
     by None is = kept.written.index
     by (Some s) is = is.written.index
 
-pub key_in-is : (shown : List Drawn) (id : List ℕ) → AreKept shown → IsIndex (key_in shown id)
-key_in-is shown id all = by (element_of shown id) (find-some (is_of id) shown all)
+pub key_in-is : (shown : List ElementValue) (id : List ℕ) → AreKept shown → IsIndex (key_in shown id)
+key_in-is shown id all = by (element_of shown id) (find-some (has_id id) shown all)
   where
-    by : (o : Option Drawn) → IfSome o IsKept → IsIndex (option_and_then (λ (e : Drawn). e.index) o)
+    by : (o : Option ElementValue) → IfSome o IsKept → IsIndex (option_and_then (λ (e : ElementValue). e.index) o)
     by None is = tt
     by (Some e) is = is.written.index
 
@@ -44,7 +45,7 @@ record IsGap (gap : Gap) : Type 0 where
   high : is_key_or_none gap.high ≡ true
   rise : ends_rise gap.low gap.high ≡ true
 
-Rises-others : (id : List ℕ) (low : Option (List ℕ)) (es : List Drawn) → Rises low es → Rises low (others id es)
+Rises-others : (id : List ℕ) (low : Option (List ℕ)) (es : List ElementValue) → Rises low es → Rises low (others id es)
 Rises-others id low [] h = tt
 Rises-others id low (e ∷ es) h =
     elim (bytes_eq id e.id) as (λ (b : Bool). Rises low (cond (not b) (e ∷ others id es) (others id es))) [
@@ -52,19 +53,19 @@ Rises-others id low (e ∷ es) h =
       | false ↦ (h.0, h.1, h.2, Rises-others id (Some h.0) es h.3)
     ]
 
-first_key-key : (es : List Drawn) → AreKept es → is_key_or_none (first_key es) ≡ true
+first_key-key : (es : List ElementValue) → AreKept es → is_key_or_none (first_key es) ≡ true
 first_key-key [] all = refl
 first_key-key (e ∷ es) all = index-key e.index all.0.written.index
 
-last_key-key : (key : Option (List ℕ)) (es : List Drawn) → is_key_or_none key ≡ true → AreKept es → is_key_or_none (last_key_or key es) ≡ true
+last_key-key : (key : Option (List ℕ)) (es : List ElementValue) → is_key_or_none key ≡ true → AreKept es → is_key_or_none (last_key_or key es) ≡ true
 last_key-key key [] is all = is
 last_key-key key (e ∷ es) is all = last_key-key e.index es (index-key e.index all.0.written.index) all.1
 
-first_key-above : (low : Option (List ℕ)) (es : List Drawn) → Rises low es → ends_rise low (first_key es) ≡ true
+first_key-above : (low : Option (List ℕ)) (es : List ElementValue) → Rises low es → ends_rise low (first_key es) ≡ true
 first_key-above low [] h = ends_rise-none low
 first_key-above low (e ∷ es) h = ap (ends_rise low) h.1 ∙ h.2
 
-gap_above-is : (id : List ℕ) (low : Option (List ℕ)) (es : List Drawn) → Rises low es → AreKept es → IsGap (gap_above id es)
+gap_above-is : (id : List ℕ) (low : Option (List ℕ)) (es : List ElementValue) → Rises low es → AreKept es → IsGap (gap_above id es)
 gap_above-is id low [] h all = record { low = refl; high = refl; rise = refl }
 gap_above-is id low (e ∷ es) h all =
     let here : Gap = record { low = e.index; high = first_key es } in
@@ -77,7 +78,7 @@ gap_above-is id low (e ∷ es) h all =
       | false ↦ gap_above-is id (Some h.0) es h.3 all.1
     ]
 
-gap_at-is : (spot : Spot) (es : List Drawn) → Rises None es → AreKept es → IsGap (gap_at spot es)
+gap_at-is : (spot : Spot) (es : List ElementValue) → Rises None es → AreKept es → IsGap (gap_at spot es)
 gap_at-is Bottom es h all = record { low = refl; high = first_key-key es all; rise = refl }
 gap_at-is Top es h all = record { low = last_key-key None es refl all; high = refl; rise = ends_rise-none (last_key es) }
 gap_at-is (After id) es h all = gap_above-is id None es h all
@@ -90,7 +91,7 @@ key_within-is gap old is own =
     ]
 
 -- the key at a spot is one
-pub key_at-is : (shown : List Drawn) (spot : Spot) (id : List ℕ) (old : Option (List ℕ)) → AreKept shown → HaveRisingKeys shown → IsIndex old → IsIndex (key_at shown spot id old)
+pub key_at-is : (shown : List ElementValue) (spot : Spot) (id : List ℕ) (old : Option (List ℕ)) → AreKept shown → HaveRisingKeys shown → IsIndex old → IsIndex (key_at shown spot id old)
 key_at-is shown spot id old all rise own =
     key_within-is (gap_of shown spot id) old
-    (gap_at-is spot (others id shown) (Rises-others id None shown (Rises-shown shown rise)) (all_kept_by (λ (e : Drawn). not (bytes_eq id e.id)) IsKept shown all)) own
+    (gap_at-is spot (others id shown) (Rises-others id None shown (Rises-shown shown rise)) (all_kept_by (λ (e : ElementValue). not (bytes_eq id e.id)) IsKept shown all)) own

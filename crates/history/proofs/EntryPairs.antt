@@ -8,11 +8,11 @@ use Rattle.std.proofs.lemmas.List.Folds.{Any-from_list_any}
 use Rattle.std.proofs.lemmas.Option.{same_Some}
 use Rattle.frac_keys.specs.Keys.{bytes_less}
 use Rattle.frac_keys.specs.Rising.{are_rising}
-use Rattle.elem.specs.Drawn.{Drawn}
+use Rattle.elem.specs.ElementValue.{ElementValue}
 use Rattle.elem.specs.Facts.{IsElement, greatest_whole}
-use Rattle.elem.specs.Order.{unstamped}
-use Rattle.elem.specs.Said.{IsWritten, AreElements}
-use Rattle.elem_store.specs.Updates.{is_of, element_of}
+use Rattle.elem.specs.Order.{unstamped, has_id}
+use Rattle.elem.specs.Said.{HasValidTexts, AreElements}
+use Rattle.elem_store.specs.Updates.{element_of}
 use Rattle.elem_store.proofs.Lists.{Contains-head, Contains-cons, Contains-cases, find-Some, find-None}
 use Rattle.delta.specs.Delta.{Delta}
 use Rattle.delta.specs.Pairs.{Pair, exchanged}
@@ -78,32 +78,32 @@ pub exchanged-entry : (parts : List Delta) (pairs : List Pair) → IsEntryOf par
 exchanged-entry parts pairs is = record { stands = entry-exchanged parts pairs is.stands; entry = turns.exchanged-entry pairs is.entry }
 
 -- what a test of a pair says of the stored element
-tested : (p : Reverted → Bool) (pair : Pair) (o : Option Drawn) → option_map_or p (option_map (λ (now : Drawn). record { now = now; undone = undone pair now }) o) false ≡ true
-    → (now : Drawn) × (o ≡ Some now) × (p (record { now = now; undone = undone pair now }) ≡ true)
+tested : (p : Reverted → Bool) (pair : Pair) (o : Option ElementValue) → option_map_or p (option_map (λ (now : ElementValue). record { now = now; undone = undone pair now }) o) false ≡ true
+    → (now : ElementValue) × (o ≡ Some now) × (p (record { now = now; undone = undone pair now }) ≡ true)
 tested p pair None h = absurd (false≢true h)
 tested p pair (Some now) h = (now, refl, h)
 
-module _ (store : List Drawn) (are : AreElements store) where
-  stored-is : (id : List ℕ) (now : Drawn) → element_of store id ≡ Some now → IsElement now × IsWritten now
-  stored-is id now stored = All-contains (λ e. IsElement e × IsWritten e) store now are (find-Some (is_of id) store now stored).0
+module _ (store : List ElementValue) (are : AreElements store) where
+  stored-is : (id : List ℕ) (now : ElementValue) → element_of store id ≡ Some now → IsElement now × HasValidTexts now
+  stored-is id now stored = All-contains (λ e. IsElement e × HasValidTexts e) store now are (find-Some (has_id id) store now stored).0
 
   -- whether a pair passes a test with the stored element
   abbrev passes : (Reverted → Bool) → Pair → Bool
   passes p pair = option_map_or p (reverted store pair) false
 
-  passes-at : (p : Reverted → Bool) (pair : Pair) (now : Drawn) → element_of store pair.after.id ≡ Some now → p (record { now = now; undone = undone pair now }) ≡ true → passes p pair ≡ true
-  passes-at p pair now found h = ap (λ o. option_map_or p (option_map (λ (now : Drawn). record { now = now; undone = undone pair now }) o) false) found ∙ h
+  passes-at : (p : Reverted → Bool) (pair : Pair) (now : ElementValue) → element_of store pair.after.id ≡ Some now → p (record { now = now; undone = undone pair now }) ≡ true → passes p pair ≡ true
+  passes-at p pair now found h = ap (λ o. option_map_or p (option_map (λ (now : ElementValue). record { now = now; undone = undone pair now }) o) false) found ∙ h
 
   module _ (parts : List Delta) (pairs : List Pair) (is : IsEntryOf parts pairs) where
     -- the pair of a part, and what undoing it makes of the stored element
-    record IsPairAt (part : Delta) (now r : Drawn) (pair : Pair) : Type 0 where
+    record IsPairAt (part : Delta) (now r : ElementValue) (pair : Pair) : Type 0 where
       among : Contains pairs pair
       id : part.id ≡ pair.after.id
       found : element_of store pair.after.id ≡ Some now
       once : r ≡ undone pair now
       differ : Differ now r → differ now (undone pair now) ≡ true
 
-    from-part : (part : Delta) (now r : Drawn) → IsNow parts store part now → Reverts part now r → (pair : Pair) × IsPairAt part now r pair
+    from-part : (part : Delta) (now r : ElementValue) → IsNow parts store part now → Reverts part now r → (pair : Pair) × IsPairAt part now r pair
     from-part part now r at reverts =
         let of = is.stands.each_part part at.among in
         let own = is.entry.each of.0 of.1 in
@@ -120,14 +120,14 @@ module _ (store : List Drawn) (are : AreElements store) where
         )
 
     -- the part of a pair, and what its inverse makes of the stored element
-    record IsPartAt (pair : Pair) (now : Drawn) (part : Delta) : Type 0 where
+    record IsPartAt (pair : Pair) (now : ElementValue) (part : Delta) : Type 0 where
       at : IsNow parts store part now
       id : part.id ≡ pair.after.id
       reverts : Reverts part now (undone pair now)
-      once : (r : Drawn) → Reverts part now r → r ≡ undone pair now
+      once : (r : ElementValue) → Reverts part now r → r ≡ undone pair now
       differ : differ now (undone pair now) ≡ true → Differ now (undone pair now)
 
-    from-pair : (pair : Pair) (now : Drawn) → Contains pairs pair → element_of store pair.after.id ≡ Some now → (part : Delta) × IsPartAt pair now part
+    from-pair : (pair : Pair) (now : ElementValue) → Contains pairs pair → element_of store pair.after.id ≡ Some now → (part : Delta) × IsPartAt pair now part
     from-pair pair now c found =
         let own = is.entry.each pair c in
         let whole = stored-is pair.after.id now found in
@@ -161,7 +161,7 @@ module _ (store : List Drawn) (are : AreElements store) where
         let now = seen.1 in
         let of = from-part seen.0 now seen.3.0 seen.2 seen.3.1 in
         let r = undone of.0 now in
-        let live = subst (λ (u : Drawn). (now.deleted ≡ false) ⊎ (u.deleted ≡ false)) of.1.once seen.3.3 in
+        let live = subst (λ (u : ElementValue). (now.deleted ≡ false) ⊎ (u.deleted ≡ false)) of.1.once seen.3.3 in
         list_any-Contains (passes is_visible) pairs of.0 of.1.among
         (passes-at is_visible of.0 now of.1.found (and_from (differ now r) (not now.deleted || not r.deleted) (of.1.differ seen.3.2) (one-live now.deleted r.deleted live)))
 
@@ -195,8 +195,8 @@ module _ (store : List Drawn) (are : AreElements store) where
         ∙ ap Some own
 
     -- ---- what is given
-    module _ (time nonce : ℕ) (es : List Drawn) (gives : AreGiven parts store time nonce es) where
-      given-in : (e : Drawn) → Contains (given store time nonce pairs) e → Contains es e
+    module _ (time nonce : ℕ) (es : List ElementValue) (gives : AreGiven parts store time nonce es) where
+      given-in : (e : ElementValue) → Contains (given store time nonce pairs) e → Contains es e
       given-in e c =
           let own = turns.given-each store time nonce pairs e c in
           let of = from-pair own.pair own.now own.among own.found in
@@ -208,7 +208,7 @@ module _ (store : List Drawn) (are : AreElements store) where
             | inr among ↦ subst (Contains es) (ap (stamped time nonce) same ∙ sym own.is) among
           ]
 
-      in-given : (e : Drawn) → Contains es e → Contains (given store time nonce pairs) e
+      in-given : (e : ElementValue) → Contains es e → Contains (given store time nonce pairs) e
       in-given e c =
           let own = gives.each e c in
           let of = from-part own.0 own.1 own.2 own.3 own.4 in
@@ -224,4 +224,4 @@ module _ (store : List Drawn) (are : AreElements store) where
       -- the elements of a step are those that undoing the pairs gives
       pub given-same : given store time nonce pairs ≡ es
       given-same =
-          same_members (λ (e : Drawn). e.id) (given store time nonce pairs) es (turns.given-rise store time nonce are pairs is.entry.ordered) gives.ordered given-in in-given
+          same_members (λ (e : ElementValue). e.id) (given store time nonce pairs) es (turns.given-rise store time nonce are pairs is.entry.ordered) gives.ordered given-in in-given

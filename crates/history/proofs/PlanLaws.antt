@@ -5,7 +5,7 @@ use Rattle.std.proofs.lemmas.List.{map-append}
 use Rattle.std.proofs.lemmas.List.Elements.{Contains-append_right, Contains-push_cases}
 use mathlib.Core.List.{reverse_aux-eq}
 use Rattle.elem_store.proofs.Lists.{Contains-cases}
-use Rattle.elem.specs.Drawn.{Drawn}
+use Rattle.elem.specs.ElementValue.{ElementValue}
 use Rattle.delta.specs.Delta.{Delta}
 use Rattle.delta.specs.Parts.{inverses}
 use Rattle.history.specs.declared.planned.HistoryStep.{HistoryStep}
@@ -56,7 +56,7 @@ drop-head (y ∷ ys) zero x l here = ap (λ z. z ∷ ys) (sym here)
 drop-head (y ∷ ys) (suc k) x l here = drop-head ys k x (omega arith) here
 
 -- one more entry that isn't seen, at the index below
-pub unseen-below : (store : List Drawn) (stack : List (List Delta)) (k count : ℕ) (entry : List Delta) → count ≡ suc k → k < length stack → entry ≡ get_or stack k entry → ¬ (IsSeen store entry) → AreUnseen store (drop count stack) → AreUnseen store (drop k stack)
+pub unseen-below : (store : List ElementValue) (stack : List (List Delta)) (k count : ℕ) (entry : List Delta) → count ≡ suc k → k < length stack → entry ≡ get_or stack k entry → ¬ (IsSeen store entry) → AreUnseen store (drop count stack) → AreUnseen store (drop k stack)
 unseen-below store stack k count entry more l here not unseen parts among =
     elim (Contains-cases entry (drop (suc k) stack) parts (subst (λ xs. Contains xs parts) (drop-head stack k entry l here) among)) [
       | inl same ↦ subst (λ e. ¬ (IsSeen store e)) same not
@@ -86,9 +86,9 @@ pub noted-none : (entry : List Delta) (stacks : Stacks) → entry ≡ [] → not
 noted-none entry stacks none = ap (λ e. noted e stacks) none
 
 -- ---- plans
-module _ (store : List Drawn) (time nonce : ℕ) where
+module _ (store : List ElementValue) (time nonce : ℕ) where
   -- a planned step is one, from the stacks as they are to those that put leaves
-  pub stepped-from : (from to : List (List Delta)) (given : List Drawn) (made : List Delta) (passed : ℕ) → IsPlanned store time nonce from given made passed → HasStepped store time nonce given from to (below_last (passed + 1) from) (grown_by passed made from to)
+  pub stepped-from : (from to : List (List Delta)) (given : List ElementValue) (made : List Delta) (passed : ℕ) → IsPlanned store time nonce from given made passed → HasStepped store time nonce given from to (below_last (passed + 1) from) (grown_by passed made from to)
   stepped-from from to given made passed plan = record {
     parts = plan.parts;
     above = plan.above;
@@ -102,7 +102,7 @@ module _ (store : List Drawn) (time nonce : ℕ) where
     step = plan.step;
   }
 
-  pub within-planned : (stack : List (List Delta)) (given : List Drawn) (made : List Delta) (passed : ℕ) → IsPlanned store time nonce stack given made passed → passed < length stack
+  pub within-planned : (stack : List (List Delta)) (given : List ElementValue) (made : List Delta) (passed : ℕ) → IsPlanned store time nonce stack given made passed → passed < length stack
   within-planned stack given made passed plan =
       let long = ap length plan.topmost.split ∙ length-append plan.below (plan.parts ∷ plan.above) in
       omega (arith, long, plan.count)
@@ -127,7 +127,7 @@ module _ (store : List Drawn) (time nonce : ℕ) where
   topmost-own : (entry : List Delta) (stack : List (List Delta)) → IsSeen store entry → IsTopmostSeen store (stack ++ entry ∷ []) stack entry []
   topmost-own entry stack seen = record { split = refl; seen = seen; unseen = λ parts among. absurd (omega (arith, among.1)) }
 
-  pub planned-over : (entry : List Delta) (stack : List (List Delta)) (given : List Drawn) (made : List Delta) (passed : ℕ) → ¬ (IsSeen store entry) → IsPlanned store time nonce stack given made passed → IsPlanned store time nonce (stack ++ entry ∷ []) given made (passed + 1)
+  pub planned-over : (entry : List Delta) (stack : List (List Delta)) (given : List ElementValue) (made : List Delta) (passed : ℕ) → ¬ (IsSeen store entry) → IsPlanned store time nonce stack given made passed → IsPlanned store time nonce (stack ++ entry ∷ []) given made (passed + 1)
   planned-over entry stack given made passed not plan = record {
     below = plan.below;
     parts = plan.parts;
@@ -137,7 +137,7 @@ module _ (store : List Drawn) (time nonce : ℕ) where
     step = plan.step;
   }
 
-  pub planned-own : (entry : List Delta) (stack : List (List Delta)) (given : List Drawn) (made : List Delta) → IsSeen store entry → IsStep entry store time nonce given made → IsPlanned store time nonce (stack ++ entry ∷ []) given made 0
+  pub planned-own : (entry : List Delta) (stack : List (List Delta)) (given : List ElementValue) (made : List Delta) → IsSeen store entry → IsStep entry store time nonce given made → IsPlanned store time nonce (stack ++ entry ∷ []) given made 0
   planned-own entry stack given made seen step = record {
     below = stack;
     parts = entry;
@@ -183,7 +183,7 @@ module _ (store : List Drawn) (time nonce : ℕ) where
           some-same a b e = cc
       parted (y ∷ ys) (suc i) x at = ap (λ zs. y ∷ zs) (parted ys i x at)
 
-  pub planned-at : (stack : List (List Delta)) (i : ℕ) (given : List Drawn) (made entry : List Delta) (passed : ℕ) (is : IsSeenAt store stack i) → slice_get stack i ≡ Some entry → passed ≡ length (drop (i + 1) stack) → IsStep entry store time nonce given made → IsPlanned store time nonce stack given made passed
+  pub planned-at : (stack : List (List Delta)) (i : ℕ) (given : List ElementValue) (made entry : List Delta) (passed : ℕ) (is : IsSeenAt store stack i) → slice_get stack i ≡ Some entry → passed ≡ length (drop (i + 1) stack) → IsStep entry store time nonce given made → IsPlanned store time nonce stack given made passed
   planned-at stack i given made entry passed is at count step = record {
     below = take i stack;
     parts = is.parts;
@@ -209,10 +209,10 @@ module _ (store : List Drawn) (time nonce : ℕ) where
       same a b e = cc
 
   -- ---- what the plan of a step says
-  nothing-done : (given : List Drawn) → steps.Nothing ≡ steps.Done given → ⊥
+  nothing-done : (given : List ElementValue) → steps.Nothing ≡ steps.Done given → ⊥
   nothing-done given e = cc
 
-  done-same : (a b : List Drawn) → steps.Done a ≡ steps.Done b → a ≡ b
+  done-same : (a b : List ElementValue) → steps.Done a ≡ steps.Done b → a ≡ b
   done-same a b e = cc
 
   module _ (stacks : Stacks) (pending : List Delta) (undo : Bool) (plan : Option Plan) (r : HistoryStep × Step)
@@ -244,7 +244,7 @@ module _ (store : List Drawn) (time nonce : ℕ) where
       | Some p ↦ λ is. absurd (nothing-done p.given (ap (λ (x : HistoryStep × Step). x.1) (sym e ∙ some p is)))
     ] refl
 
-    pub done-planned : (step : HistoryStep) (given : List Drawn) → r ≡ (step, steps.Done given)
+    pub done-planned : (step : HistoryStep) (given : List ElementValue) → r ≡ (step, steps.Done given)
         → (p : Plan) × (p.given ≡ given) × (step ≡ record { pending = pending; made = Some p.made; undo = undo; passed = p.passed })
         × IsPlanned store time nonce (side undo (noted pending stacks)) p.given p.made p.passed
     done-planned step given e = elim plan as (λ o. plan ≡ o → (p : Plan) × (p.given ≡ given) × (step ≡ record { pending = pending; made = Some p.made; undo = undo; passed = p.passed }) × IsPlanned store time nonce (side undo (noted pending stacks)) p.given p.made p.passed) [
@@ -257,13 +257,13 @@ module _ (store : List Drawn) (time nonce : ℕ) where
       )
     ] refl
 
-  pub undone-planned : (stacks : Stacks) (pending : List Delta) (step : HistoryStep) (given : List Drawn) (p : Plan) → p.given ≡ given → step ≡ record { pending = pending; made = Some p.made; undo = true; passed = p.passed } → IsPlanned store time nonce (noted pending stacks).undo p.given p.made p.passed → HasUndone store time nonce given (noted pending stacks) (put_step step stacks)
+  pub undone-planned : (stacks : Stacks) (pending : List Delta) (step : HistoryStep) (given : List ElementValue) (p : Plan) → p.given ≡ given → step ≡ record { pending = pending; made = Some p.made; undo = true; passed = p.passed } → IsPlanned store time nonce (noted pending stacks).undo p.given p.made p.passed → HasUndone store time nonce given (noted pending stacks) (put_step step stacks)
   undone-planned stacks pending step given p same is plan =
       let old = noted pending stacks in
       subst₂ (λ (s : HistoryStep) g. HasUndone store time nonce g old (put_step s stacks)) (sym is) same
       (stepped-from old.undo old.redo p.given p.made p.passed plan)
 
-  pub redone-planned : (stacks : Stacks) (pending : List Delta) (step : HistoryStep) (given : List Drawn) (p : Plan) → p.given ≡ given → step ≡ record { pending = pending; made = Some p.made; undo = false; passed = p.passed } → IsPlanned store time nonce (noted pending stacks).redo p.given p.made p.passed → HasRedone store time nonce given (noted pending stacks) (put_step step stacks)
+  pub redone-planned : (stacks : Stacks) (pending : List Delta) (step : HistoryStep) (given : List ElementValue) (p : Plan) → p.given ≡ given → step ≡ record { pending = pending; made = Some p.made; undo = false; passed = p.passed } → IsPlanned store time nonce (noted pending stacks).redo p.given p.made p.passed → HasRedone store time nonce given (noted pending stacks) (put_step step stacks)
   redone-planned stacks pending step given p same is plan =
       let old = noted pending stacks in
       subst₂ (λ (s : HistoryStep) g. HasRedone store time nonce g old (put_step s stacks)) (sym is) same

@@ -7,17 +7,17 @@ use Rattle.scene_json.proofs.Collapsed.{bytes_eq-true, bytes_eq-same, bytes_eq-a
 use Rattle.elem.specs.declared.kind.Kind.{Kind}
 use Rattle.elem.specs.declared.kind.Kind.TheVariants.{Rectangle, Diamond, Ellipse, Arrow, Line, Freedraw, Text, Image, Frame, Magicframe, Iframe, Embeddable, Other}
 use Rattle.elem.specs.declared.parts.BoundRef.{BoundRef}
-use Rattle.elem.specs.Drawn.{Drawn}
+use Rattle.elem.specs.ElementValue.{ElementValue}
 use Rattle.elem.specs.Facts.{IsElement, is_header, names}
-use Rattle.elem.specs.Said.{IsWritten}
+use Rattle.elem.specs.Said.{HasValidTexts}
 use Rattle.delta.specs.declared.change.Change.TheVariants.{Scalar, Groups, Bound}
 use Rattle.delta.specs.Applied.{IsApplied, scalar_after, groups_after, bound_after}
 use Rattle.delta.specs.Delta.{Delta}
-use Rattle.delta.specs.Entries.{entries_same-exact, entries_same-same}
+use Rattle.delta.specs.Entries.{same_listing_entry-exact, same_listing_entry-same}
 use Rattle.delta.specs.Headers.{header_named, value_named, scalar_at, scalar_of}
-use Rattle.delta.specs.Joined.{are_same, joined, entries_same}
+use Rattle.delta.specs.Joined.{are_same, joined, same_listing_entry}
 use Rattle.delta.specs.Pairs.{Pair, IsPartOf}
-use Rattle.delta.specs.Parts.{change_of, scalar_change, groups_change, bound_change, scalars_same, is_list, StandsFor, inverted, inverse}
+use Rattle.delta.specs.Parts.{change_of, scalar_change, groups_change, bound_change, scalars_same, is_list, PartStandsFor, inverted, inverse}
 use Rattle.delta.specs.Undone.{undone_scalar, undone_list, IsUndone}
 use Rattle.delta.proofs.JoinLaws.{are_same-exact, are_same-same}
 use Rattle.delta.proofs.PartLaws.{turned, change-inverted, scalar-turned, groups-turned, bound-turned}
@@ -60,7 +60,7 @@ none-named kind n ms is free = not-named n ms (list_any-each (bytes_eq n) ms (ea
     each [] h = tt
     each (m ∷ ms) h = (bytes_eq-apart n m.name (λ e. false≢true (sym h.0 ∙ ap (is_header kind) (sym e) ∙ is)), each ms h.1)
 
-list-scalar : (e : Drawn) (n : List ℕ) → IsElement e → is_list n ≡ true → scalar_of e n ≡ None
+list-scalar : (e : ElementValue) (n : List ℕ) → IsElement e → is_list n ≡ true → scalar_of e n ≡ None
 list-scalar e n is l = elim (which-list n l) [
   | inl g ↦ ap (scalar_of e) g ∙ ap (scalar_at e (codes "groupIds")) (no-header e.kind).0 ∙ none-named e.kind (codes "groupIds") e.rest refl is.free
   | inr b ↦ ap (scalar_of e) b ∙ ap (scalar_at e (codes "boundElements")) (no-header e.kind).1 ∙ none-named e.kind (codes "boundElements") e.rest refl is.free
@@ -94,18 +94,18 @@ groups-back b a now =
     ap (λ s. groups_after (if s then None else Some (Groups a b)) now) (test-turned (are_same bytes_eq) (are_same-exact bytes_eq bytes_eq-true) (are_same-same bytes_eq bytes_eq-same) a b)
     ∙ elim (are_same bytes_eq b a) as (λ s. groups_after (if s then None else Some (Groups a b)) now ≡ (if s then now else joined bytes_eq a b now)) [ true ↦ refl | false ↦ refl ]
 
-bound-back : (b a now : List BoundRef) → bound_after (bound_change a b) now ≡ undone_list entries_same b a now
+bound-back : (b a now : List BoundRef) → bound_after (bound_change a b) now ≡ undone_list same_listing_entry b a now
 bound-back b a now =
-    ap (λ s. bound_after (if s then None else Some (Bound a b)) now) (test-turned (are_same entries_same) (are_same-exact entries_same entries_same-exact) (are_same-same entries_same entries_same-same) a b)
-    ∙ elim (are_same entries_same b a) as (λ s. bound_after (if s then None else Some (Bound a b)) now ≡ (if s then now else joined entries_same a b now)) [ true ↦ refl | false ↦ refl ]
+    ap (λ s. bound_after (if s then None else Some (Bound a b)) now) (test-turned (are_same same_listing_entry) (are_same-exact same_listing_entry same_listing_entry-exact) (are_same-same same_listing_entry same_listing_entry-same) a b)
+    ∙ elim (are_same same_listing_entry b a) as (λ s. bound_after (if s then None else Some (Bound a b)) now ≡ (if s then now else joined same_listing_entry a b now)) [ true ↦ refl | false ↦ refl ]
 
 groups-no_scalar : (a b : List (List ℕ)) (now : Option (List ℕ)) → scalar_after (groups_change a b) now ≡ now
 groups-no_scalar a b now = elim (are_same bytes_eq a b) as (λ s. scalar_after (if s then None else Some (Groups a b)) now ≡ now) [ true ↦ refl | false ↦ refl ]
 
 bound-no_scalar : (a b : List BoundRef) (now : Option (List ℕ)) → scalar_after (bound_change a b) now ≡ now
-bound-no_scalar a b now = elim (are_same entries_same a b) as (λ s. scalar_after (if s then None else Some (Bound a b)) now ≡ now) [ true ↦ refl | false ↦ refl ]
+bound-no_scalar a b now = elim (are_same same_listing_entry a b) as (λ s. scalar_after (if s then None else Some (Bound a b)) now ≡ now) [ true ↦ refl | false ↦ refl ]
 
-module _ (part : Delta) (before after : Drawn) (stands : StandsFor part before after) where
+module _ (part : Delta) (before after : ElementValue) (stands : PartStandsFor part before after) where
   groups-inverted : change_of (map inverted part.changes) (codes "groupIds") ≡ groups_change after.groups before.groups
   groups-inverted = change-inverted part.changes (codes "groupIds") ∙ ap turned stands.groups ∙ groups-turned before.groups after.groups
 
@@ -122,7 +122,7 @@ module _ (part : Delta) (before after : Drawn) (stands : StandsFor part before a
   ]
 
   -- an undone element is what the inverse of the part makes
-  pub applied-undone : (now result : Drawn) → IsElement now → IsElement result → IsUndone before after now result → IsApplied (inverse part) now result
+  pub applied-undone : (now result : ElementValue) → IsElement now → IsElement result → IsUndone before after now result → IsApplied (inverse part) now result
   applied-undone now result isnow isresult is = record {
     changed = λ kind.
         let undoes = is.undone (sym stands.kind ∙ kind) in
@@ -139,8 +139,8 @@ module _ (part : Delta) (before after : Drawn) (stands : StandsFor part before a
   }
 
 -- ---- a pair of elements, its part, and an element now
-module _ (part : Delta) (pair : Pair) (now : Drawn) (is : IsPartOf part pair) (of : IsOfElements pair) (are : IsElement now × IsWritten now) where
-  pub undone-is : IsElement (undone pair now) × IsWritten (undone pair now)
+module _ (part : Delta) (pair : Pair) (now : ElementValue) (is : IsPartOf part pair) (of : IsOfElements pair) (are : IsElement now × HasValidTexts now) where
+  pub undone-is : IsElement (undone pair now) × HasValidTexts (undone pair now)
   undone-is = undone-element pair now of is.changed.kind are.0 are.1
 
   pub undone-reverts : Reverts part now (undone pair now)
@@ -150,7 +150,7 @@ module _ (part : Delta) (pair : Pair) (now : Drawn) (is : IsPartOf part pair) (o
     applied = applied-undone part pair.before pair.after is.stands now (undone pair now) are.0 undone-is.0 (undone-undoes pair now of is.changed.kind are.0 are.1);
   }
 
-  pub reverts-once : (r : Drawn) → Reverts part now r → r ≡ undone pair now
+  pub reverts-once : (r : ElementValue) → Reverts part now r → r ≡ undone pair now
   reverts-once r reverts = reverts-undone pair now of is.changed.kind are.0 are.1 part r is.stands reverts.is_element reverts.kept reverts.applied
 
   pub differ-from : Differ now (undone pair now) → differ now (undone pair now) ≡ true

@@ -4,7 +4,7 @@ use Rattle.std.specs.Prelude.{◌==◌, nat_lt}
 use Rattle.std.specs.Option.{option_map}
 use Rattle.std.proofs.lemmas.Bool.{cond-true, cond-false, lt-ltb, or_left}
 use Rattle.std.proofs.lemmas.List.{reverse-append}
-use Rattle.elem.specs.Drawn.{Drawn}
+use Rattle.elem.specs.ElementValue.{ElementValue}
 use Rattle.elem.specs.Facts.{greatest_whole}
 use Rattle.elem.specs.Order.{text_less}
 use Rattle.elem.specs.Said.{AreElements}
@@ -60,7 +60,7 @@ split-turned below above parts =
     reverse-append below (parts ∷ above) ∙ ap (λ entries. entries ++ reverse below) (reverse-cons parts above)
     ∙ append_assoc (reverse above) (parts ∷ []) (reverse below)
 
-module _ (store : List Drawn) (are : AreElements store) where
+module _ (store : List ElementValue) (are : AreElements store) where
   -- what is sought of a stack of pairs stands for what a stack of parts has
   pub record IsFound (parts : List Delta) (left grown : List (List Delta)) (s : Sought) : Type 0 where
     pub entry : IsEntryOf parts s.entry
@@ -116,7 +116,7 @@ module _ (store : List Drawn) (are : AreElements store) where
         ∙ ap (λ o. Some (turn_unless o (turn_of store time nonce r.0))) (least-full store are stops.parts r.0.entry r.2.entry id stops.full)
 
     -- ---- what is given
-    module _ (early : time ≤ greatest_whole) (small : nonce ≤ greatest_whole) (parts : List Delta) (pairs : List Pair) (is : IsEntryOf parts pairs) (es : List Drawn) (top : List Delta) (step : IsStep parts store time nonce es top) where
+    module _ (early : time ≤ greatest_whole) (small : nonce ≤ greatest_whole) (parts : List Delta) (pairs : List Pair) (is : IsEntryOf parts pairs) (es : List ElementValue) (top : List Delta) (step : IsStep parts store time nonce es top) where
       abbrev same : given store time nonce pairs ≡ es
       same = given-same store are parts pairs is time nonce es step.gives
 
@@ -134,7 +134,7 @@ module _ (store : List Drawn) (are : AreElements store) where
       }
 
     -- a step
-    module _ (early : time ≤ greatest_whole) (small : nonce ≤ greatest_whole) (es : List Drawn) (from to below grown : List (List Delta)) (olds : List (List Pair)) (h : StackStandsFor from olds) (stepped : HasStepped store time nonce es from to below grown) where
+    module _ (early : time ≤ greatest_whole) (small : nonce ≤ greatest_whole) (es : List ElementValue) (from to below grown : List (List Delta)) (olds : List (List Pair)) (h : StackStandsFor from olds) (stepped : HasStepped store time nonce es from to below grown) where
       pub step-done : (others : List (List Pair)) → StackStandsFor to others → (turn : Turn) × (step store time nonce olds others ≡ Some (Ok turn)) × (turn.given ≡ es) × StackStandsFor below turn.from × StackStandsFor grown turn.to
       step-done others k =
           let r = sought-topmost from below stepped.parts stepped.above to olds others h k stepped.topmost in
@@ -156,12 +156,12 @@ module _ (store : List Drawn) (are : AreElements store) where
           elements-given early small stepped.parts r.0.entry r.2.entry es stepped.made stepped.step
 
 -- the id of what a step gives is stored, and it becomes stored
-pub step-taken : (store es : List Drawn) (time nonce : ℕ) (from to below grown : List (List Delta)) → HasStepped store time nonce es from to below grown → (e : Drawn) → Contains es e → IsSome (element_of store e.id) × (is_taken store e ≡ true)
+pub step-taken : (store es : List ElementValue) (time nonce : ℕ) (from to below grown : List (List Delta)) → HasStepped store time nonce es from to below grown → (e : ElementValue) → Contains es e → IsSome (element_of store e.id) × (is_taken store e ≡ true)
 step-taken store es time nonce from to below grown stepped e c =
     let own = stepped.step.gives.each e c in
     let now = own.1 in
     let stored : element_of store e.id ≡ Some now = ap (element_of store) (sym (came-id store time nonce own.0 now own.2 e own.3.stored own.4.kept own.6)) ∙ own.3.stored in
-    let version : e.version ≡ now.version + 1 = ap (λ (d : Drawn). d.version) own.6 ∙ ap (λ n. n + 1) own.4.kept.version in
+    let version : e.version ≡ now.version + 1 = ap (λ (d : ElementValue). d.version) own.6 ∙ ap (λ n. n + 1) own.4.kept.version in
     let newer : now.version < e.version = omega (arith, version) in (
       subst IsSome (sym stored) refl,
       ap (is_newer e) stored

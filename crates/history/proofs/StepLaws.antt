@@ -8,9 +8,9 @@ use Rattle.board_io.specs.declared.stop.Stop.{Stop}
 use Rattle.board_io.specs.declared.stop.Stop.TheVariants.{Fault, Memory}
 use Rattle.frac_keys.specs.Keys.{bytes_less}
 use Rattle.frac_keys.specs.Rising.{are_rising}
-use Rattle.elem.specs.Drawn.{Drawn}
-use Rattle.elem.specs.Order.{unstamped}
-use Rattle.elem_store.specs.Updates.{HasTaken, is_of, element_of, is_taken}
+use Rattle.elem.specs.ElementValue.{ElementValue}
+use Rattle.elem.specs.Order.{unstamped, has_id}
+use Rattle.elem_store.specs.Updates.{HasTaken, element_of, is_taken}
 use Rattle.elem_store.proofs.Ids.{same_id}
 use Rattle.elem_store.proofs.Lists.{find-Some, Contains-cons}
 use Rattle.elem_store.proofs.Rising.{less-other, less-less}
@@ -18,7 +18,7 @@ use Rattle.delta.specs.Applied.{KeepsStamp}
 use Rattle.delta.specs.Delta.{Delta}
 use Rattle.delta.specs.Facts.{part_ids}
 use Rattle.delta.specs.Pairs.{Pair, EntryStandsFor, pair_with, pairs_from}
-use Rattle.delta.specs.Parts.{StandsFor, inverse, inverses}
+use Rattle.delta.specs.Parts.{PartStandsFor, inverse, inverses}
 use Rattle.delta.specs.declared.stamping.VersionFull.{VersionFull}
 use Rattle.delta.proofs.PairLaws.{entry-more, entry-none}
 use Rattle.delta.proofs.PartLaws.{applied-apart}
@@ -36,7 +36,7 @@ reverse-Contains (y ∷ ys) x c =
     ]
 
 -- with no part nothing changes
-pub step-none : (store : List Drawn) (time nonce : ℕ) → IsStep [] store time nonce [] []
+pub step-none : (store : List ElementValue) (time nonce : ℕ) → IsStep [] store time nonce [] []
 step-none store time nonce = record {
   gives = record {
     ordered = refl;
@@ -48,12 +48,12 @@ step-none store time nonce = record {
 }
 
 -- the id of an element that comes of a part
-pub came-id : (store : List Drawn) (time nonce : ℕ) (part : Delta) (now reverted e : Drawn) → element_of store part.id ≡ Some now → KeepsStamp now reverted → e ≡ stamped time nonce reverted → part.id ≡ e.id
+pub came-id : (store : List ElementValue) (time nonce : ℕ) (part : Delta) (now reverted e : ElementValue) → element_of store part.id ≡ Some now → KeepsStamp now reverted → e ≡ stamped time nonce reverted → part.id ≡ e.id
 came-id store time nonce part now reverted e stored kept is =
-    same_id part.id now (find-Some (is_of part.id) store now stored).1 ∙ sym kept.id ∙ sym (ap (λ (d : Drawn). d.id) is)
+    same_id part.id now (find-Some (has_id part.id) store now stored).1 ∙ sym kept.id ∙ sym (ap (λ (d : ElementValue). d.id) is)
 
-module _ (store : List Drawn) (time nonce : ℕ) (parts : List Delta) (given : List Drawn) (made : List Delta) (part : Delta) (now : Drawn) (step : IsStep parts store time nonce given made) (rising : are_rising (part_ids (parts ++ part ∷ [])) ≡ true) (stored : element_of store part.id ≡ Some now) where
-  longer : (q : Delta) (x : Drawn) → IsNow parts store q x → IsNow (parts ++ part ∷ []) store q x
+module _ (store : List ElementValue) (time nonce : ℕ) (parts : List Delta) (given : List ElementValue) (made : List Delta) (part : Delta) (now : ElementValue) (step : IsStep parts store time nonce given made) (rising : are_rising (part_ids (parts ++ part ∷ [])) ≡ true) (stored : element_of store part.id ≡ Some now) where
+  longer : (q : Delta) (x : ElementValue) → IsNow parts store q x → IsNow (parts ++ part ∷ []) store q x
   longer q x is = record { among = Contains-append_left parts (part ∷ []) q is.among; stored = is.stored }
 
   own : IsNow (parts ++ part ∷ []) store part now
@@ -68,9 +68,9 @@ module _ (store : List Drawn) (time nonce : ℕ) (parts : List Delta) (given : L
   ]
 
   -- what a longer step says of each part
-  abbrev Comes : List Drawn → Delta → Type 0
+  abbrev Comes : List ElementValue → Delta → Type 0
   Comes es q =
-      (x : Drawn) × (reverted : Drawn) × IsNow (parts ++ part ∷ []) store q x × Reverts q x reverted
+      (x : ElementValue) × (reverted : ElementValue) × IsNow (parts ++ part ∷ []) store q x × Reverts q x reverted
       × ((unstamped x ≡ unstamped reverted) ⊎ Contains es (stamped time nonce reverted))
 
   -- the last part leaves its element as it is
@@ -89,8 +89,8 @@ module _ (store : List Drawn) (time nonce : ℕ) (parts : List Delta) (given : L
   }
 
   -- the last part changes its element
-  module _ (e : Drawn) (p : Delta) (came : ComesOf part now time nonce (Some e)) (difference : StandsFor p now e) where
-    given-less : (g : Drawn) → Contains given g → bytes_less g.id e.id ≡ true
+  module _ (e : ElementValue) (p : Delta) (came : ComesOf part now time nonce (Some e)) (difference : PartStandsFor p now e) where
+    given-less : (g : ElementValue) → Contains given g → bytes_less g.id e.id ≡ true
     given-less g c =
         let old = step.gives.each g c in
         subst₂ (λ a b. bytes_less a b ≡ true)
@@ -101,15 +101,15 @@ module _ (store : List Drawn) (time nonce : ℕ) (parts : List Delta) (given : L
     made-more : EntryStandsFor (made ++ p ∷ []) (pairs_from (element_of store) (given ++ e ∷ []))
     made-more =
         let pairs = pairs_from (element_of store) given in
-        let pair = λ (x : Drawn). pair_with (element_of store x.id) x in
+        let pair = λ (x : ElementValue). pair_with (element_of store x.id) x in
         let held : element_of store e.id ≡ Some now = ap (element_of store) (sym (came-id store time nonce part now came.0 e stored came.1.kept came.4)) ∙ stored in
         let less : (other : Pair) → Contains pairs other → bytes_less other.after.id e.id ≡ true = λ other c.
         let g = Contains-map pair given other c in subst (λ (o : Pair). bytes_less o.after.id e.id ≡ true) g.2 (given-less g.0 g.1) in
         subst (EntryStandsFor (made ++ p ∷ [])) (ap (λ o. pairs ++ pair_with o e ∷ []) (sym held) ∙ sym (map-append pair given (e ∷ [])))
         (entry-more made pairs (pair_with (Some now) e) step.undoes p less
         (record {
-          id = sym (same_id part.id now (find-Some (is_of part.id) store now stored).1) ∙ came-id store time nonce part now came.0 e stored came.1.kept came.4;
-          kind = sym (ap (λ (d : Drawn). d.kind) came.4 ∙ came.1.kept.kind);
+          id = sym (same_id part.id now (find-Some (has_id part.id) store now stored).1) ∙ came-id store time nonce part now came.0 e stored came.1.kept came.4;
+          kind = sym (ap (λ (d : ElementValue). d.kind) came.4 ∙ came.1.kept.kind);
           differ = λ same. came.2 (same ∙ ap unstamped came.4);
         })
         difference)
@@ -117,7 +117,7 @@ module _ (store : List Drawn) (time nonce : ℕ) (parts : List Delta) (given : L
     pub step-more : IsStep (parts ++ part ∷ []) store time nonce (given ++ e ∷ []) (made ++ p ∷ [])
     step-more = record {
       gives = record {
-        ordered = rising-push (λ (d : Drawn). d.id) given e given-less step.gives.ordered;
+        ordered = rising-push (λ (d : ElementValue). d.id) given e given-less step.gives.ordered;
         each = λ g c. elim (Contains-push_cases given e g c) [
           | inl earlier ↦ let old = step.gives.each g earlier in (old.0, old.1, old.2, longer old.0 old.1 old.3, old.4, old.5, old.6)
           | inr same ↦ (part, now, came.0, own, came.1, came.2, sym same ∙ came.4)
@@ -141,7 +141,7 @@ module _ (store : List Drawn) (time nonce : ℕ) (parts : List Delta) (given : L
     }
 
 -- where the parts before one stop nothing and it does, its id is the least
-pub least-full : (store : List Drawn) (before after : List Delta) (part : Delta) (now : Drawn) → are_rising (part_ids (before ++ part ∷ after)) ≡ true → ((id : List ℕ) → ¬ (IsFullId before store id)) → element_of store part.id ≡ Some now → IsFull part now → IsLeastFull (before ++ part ∷ after) store part.id
+pub least-full : (store : List ElementValue) (before after : List Delta) (part : Delta) (now : ElementValue) → are_rising (part_ids (before ++ part ∷ after)) ≡ true → ((id : List ℕ) → ¬ (IsFullId before store id)) → element_of store part.id ≡ Some now → IsFull part now → IsLeastFull (before ++ part ∷ after) store part.id
 least-full store before after part now rising none stored full = record {
   full = (part, now, record { among = Contains-append_right before (part ∷ after) part (0, omega arith, refl); stored = stored }, full, refl);
   least = λ other is. elim (cases_Bool (bytes_less other part.id)) [
@@ -179,13 +179,13 @@ OnFull-weaker (Fault full) P Q f h = f full.0 h
 OnFull-weaker Memory P Q f h = tt
 
 -- the ids of an entry's inverse are stored as its own
-inverses-stored : (store : List Drawn) (parts : List Delta) → HasStoredIds store parts → HasStoredIds store (inverses parts)
+inverses-stored : (store : List ElementValue) (parts : List Delta) → HasStoredIds store parts → HasStoredIds store (inverses parts)
 inverses-stored store parts stored part among =
     let of = Contains-map inverse parts part among in
     subst (λ (p : Delta). IsSome (element_of store p.id)) of.2 (stored of.0 of.1)
 
 -- a step keeps that the ids are stored
-pub ids-stored : (store given : List Drawn) (time nonce : ℕ) (from to below grown : List (List Delta)) → HasStepped store time nonce given from to below grown → HaveStoredIds store from → HaveStoredIds store to → HaveStoredIds store below × HaveStoredIds store grown
+pub ids-stored : (store given : List ElementValue) (time nonce : ℕ) (from to below grown : List (List Delta)) → HasStepped store time nonce given from to below grown → HaveStoredIds store from → HaveStoredIds store to → HaveStoredIds store below × HaveStoredIds store grown
 ids-stored store given time nonce from to below grown stepped before others = (
   λ parts among. within parts (Contains-append_left below (stepped.parts ∷ stepped.above) parts among),
   λ parts among. elim (Contains-append_cases to (map inverses (reverse stepped.above) ++ stepped.made ∷ []) parts (subst (λ stack. Contains stack parts) stepped.pushed among)) [
@@ -206,16 +206,16 @@ ids-stored store given time nonce from to below grown stepped before others = (
     made : HasStoredIds store stepped.made
     made p c =
         let of = stepped.step.undoes.each_part p c in
-        let g = Contains-map (λ (x : Drawn). pair_with (element_of store x.id) x) given of.0 of.1 in
+        let g = Contains-map (λ (x : ElementValue). pair_with (element_of store x.id) x) given of.0 of.1 in
         let own = stepped.step.gives.each g.0 g.1 in
         let id : own.0.id ≡ p.id =
         came-id store time nonce own.0 own.1 own.2 g.0 own.3.stored own.4.kept own.6 ∙ ap (λ (o : Pair). o.after.id) g.2 ∙ sym of.2.stands.id in
         subst (λ i. IsSome (element_of store i)) id (subst IsSome (sym own.3.stored) refl)
 
 -- storing an element keeps that the ids are stored
-pub ids-taken : (old new : List Drawn) (e : Drawn) (stack : List (List Delta)) → HasTaken old e new → HaveStoredIds old stack → HaveStoredIds new stack
+pub ids-taken : (old new : List ElementValue) (e : ElementValue) (stack : List (List Delta)) → HasTaken old e new → HaveStoredIds old stack → HaveStoredIds new stack
 ids-taken old new e stack taken stored parts inside part among =
-    subst IsSome (sym (taken.each part.id)) (either (is_of part.id e && is_taken old e))
+    subst IsSome (sym (taken.each part.id)) (either (has_id part.id e && is_taken old e))
   where
     either : (b : Bool) → IsSome (if b then Some e else element_of old part.id)
     either true = refl

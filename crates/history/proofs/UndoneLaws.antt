@@ -1,10 +1,10 @@
 -- What a step makes of the elements that its entry stands for.
 use Rattle.std.proofs.Common.{◌≡◌, ℕ, List, true, Option, Some, None, refl, sym, ap, ◌∙◌, subst, inl, inr}
 use Rattle.std.proofs.lemmas.Option.{same_Some}
-use Rattle.elem.specs.Drawn.{Drawn}
+use Rattle.elem.specs.ElementValue.{ElementValue}
 use Rattle.elem.specs.Facts.{IsElement}
-use Rattle.elem.specs.Order.{unstamped}
-use Rattle.elem_store.specs.Updates.{is_of, element_of}
+use Rattle.elem.specs.Order.{unstamped, has_id}
+use Rattle.elem_store.specs.Updates.{element_of}
 use Rattle.elem_store.proofs.Ids.{same_id}
 use Rattle.elem_store.proofs.Lists.{find-Some}
 use Rattle.delta.specs.Applied.{IsApplied}
@@ -14,13 +14,13 @@ use Rattle.delta.specs.Parts.{counted, inverse}
 use Rattle.delta.proofs.RisingIds.{Contains-to_map}
 use Rattle.delta.proofs.PartLaws.{undone-from, applied-back}
 use Rattle.history.specs.Steps.{stamped, AreGiven}
-use Rattle.history.specs.Undone.{AreElements, ArePairsOfElements, AreUndone, ComesBack}
+use Rattle.history.specs.Undone.{EachIsElement, ArePairsOfElements, AreUndone, ComesBack}
 
 -- a stored element is an element
-stored-is : (store : List Drawn) (id : List ℕ) (now : Drawn) → AreElements store → element_of store id ≡ Some now → IsElement now
-stored-is store id now are stored = are now (find-Some (is_of id) store now stored).0
+stored-is : (store : List ElementValue) (id : List ℕ) (now : ElementValue) → EachIsElement store → element_of store id ≡ Some now → IsElement now
+stored-is store id now are stored = are now (find-Some (has_id id) store now stored).0
 
-module _ (parts : List Delta) (store given : List Drawn) (time nonce : ℕ) (are : AreElements store) (gives : AreGiven parts store time nonce given) where
+module _ (parts : List Delta) (store given : List ElementValue) (time nonce : ℕ) (are : EachIsElement store) (gives : AreGiven parts store time nonce given) where
   pub undone-pairs : (pairs : List Pair) → EntryStandsFor parts pairs → ArePairsOfElements pairs → AreUndone pairs store time nonce given
   undone-pairs pairs stands elements = record {
     ordered = gives.ordered;
@@ -58,7 +58,7 @@ module _ (parts : List Delta) (store given : List Drawn) (time nonce : ℕ) (are
   }
 
   -- an element that isn't deleted any more is one too, and so is a deleted one
-  deleted-is : (e : Drawn) → IsElement e → IsElement (record e { deleted = true })
+  deleted-is : (e : ElementValue) → IsElement e → IsElement (record e { deleted = true })
   deleted-is e is = record {
     named = is.named;
     version = is.version;
@@ -74,21 +74,21 @@ module _ (parts : List Delta) (store given : List Drawn) (time nonce : ℕ) (are
     nest = is.nest;
   }
 
-  counted-is : (o : Option Drawn) (now : Drawn) → IsElement now → ((e : Drawn) → o ≡ Some e → IsElement e) → IsElement (counted o now)
+  counted-is : (o : Option ElementValue) (now : ElementValue) → IsElement now → ((e : ElementValue) → o ≡ Some e → IsElement e) → IsElement (counted o now)
   counted-is None now is each = deleted-is now is
   counted-is (Some e) now is each = each e refl
 
-  counted-id : (old : List Drawn) (now : Drawn) (o : Option Drawn) → element_of old now.id ≡ o → (counted o now).id ≡ now.id
+  counted-id : (old : List ElementValue) (now : ElementValue) (o : Option ElementValue) → element_of old now.id ≡ o → (counted o now).id ≡ now.id
   counted-id old now None h = refl
-  counted-id old now (Some e) h = sym (same_id now.id e (find-Some (is_of now.id) old e h).1)
+  counted-id old now (Some e) h = sym (same_id now.id e (find-Some (has_id now.id) old e h).1)
 
-  pub brought-back : (old : List Drawn) (now : Drawn) → EntryStandsFor parts (pairs_from (element_of old) store) → AreElements old → element_of store now.id ≡ Some now → (counted (element_of old now.id) now).kind ≡ now.kind → ComesBack given now (counted (element_of old now.id) now)
+  pub brought-back : (old : List ElementValue) (now : ElementValue) → EntryStandsFor parts (pairs_from (element_of old) store) → EachIsElement old → element_of store now.id ≡ Some now → (counted (element_of old now.id) now).kind ≡ now.kind → ComesBack given now (counted (element_of old now.id) now)
   brought-back old now stands olds stored kind =
       let before = counted (element_of old now.id) now in
       let is = stored-is store now.id now are stored in
       let is' = counted-is (element_of old now.id) now is (λ e h. stored-is old now.id e olds h) in
-      let pair = λ (x : Drawn). pair_with (element_of old x.id) x in
-      elim (stands.each_pair (pair now) (Contains-to_map pair store now (find-Some (is_of now.id) store now stored).0)) [
+      let pair = λ (x : ElementValue). pair_with (element_of old x.id) x in
+      elim (stands.each_pair (pair now) (Contains-to_map pair store now (find-Some (has_id now.id) store now stored).0)) [
         | inl same ↦ inl (sym (same kind))
         | inr of ↦
             let own = gives.all of.0 of.1 in
@@ -97,6 +97,6 @@ module _ (parts : List Delta) (store given : List Drawn) (time nonce : ℕ) (are
             applied-back of.0 before now is' is of.2.stands own.1 own.3.is_element (counted-id old now (element_of old now.id) refl) kind (subst (λ x. IsApplied (inverse of.0) x own.1) one own.3.applied) in
             elim own.4 [
               | inl same ↦ inl (ap unstamped (sym one) ∙ same ∙ back)
-              | inr among ↦ inr (stamped time nonce own.1, among, own.3.kept.id ∙ ap (λ (x : Drawn). x.id) one, back)
+              | inr among ↦ inr (stamped time nonce own.1, among, own.3.kept.id ∙ ap (λ (x : ElementValue). x.id) one, back)
             ]
       ]

@@ -2,7 +2,7 @@
 use Rattle.std.specs.Prelude.{◌≡◌, ℕ, ◌+◌, ◌-◌, ◌<◌, min, List, [], ◌∷◌, ◌++◌, Bool, true, false, Option, Some, None, IfSome, length, take, drop, map, reverse, Contains, IsSome}
 use Rattle.board_io.specs.declared.stop.Stop.{Stop}
 use Rattle.board_io.specs.declared.stop.Stop.TheVariants.{Fault, Memory}
-use Rattle.elem.specs.Drawn.{Drawn}
+use Rattle.elem.specs.ElementValue.{ElementValue}
 use Rattle.elem_store.specs.Updates.{element_of}
 use Rattle.delta.specs.Delta.{Delta}
 use Rattle.delta.specs.Parts.{inverses}
@@ -26,10 +26,10 @@ abbrev pub spare_in : ℕ → ℕ → ℕ → ℕ
 spare_in undo_room redo_room count = min undo_room redo_room - count
 
 -- Each id of an entry is stored, and of each entry of a stack.
-abbrev pub HasStoredIds : List Drawn → List Delta → Type 0
+abbrev pub HasStoredIds : List ElementValue → List Delta → Type 0
 HasStoredIds store parts = (part : Delta) → Contains parts part → IsSome (element_of store part.id)
 
-abbrev pub HaveStoredIds : List Drawn → List (List Delta) → Type 0
+abbrev pub HaveStoredIds : List ElementValue → List (List Delta) → Type 0
 HaveStoredIds store stack = (parts : List Delta) → Contains stack parts → HasStoredIds store parts
 
 -- An entry that isn't empty is the next one to undo, and nothing can be redone; an empty one changes nothing.
@@ -45,18 +45,18 @@ abbrev pub noted : List Delta → Stacks → Stacks
 noted entry stacks = record { undo = with_entry entry stacks.undo; redo = redo_left entry stacks.redo }
 
 -- None of these entries is seen on the store.
-abbrev pub AreUnseen : List Drawn → List (List Delta) → Type 0
+abbrev pub AreUnseen : List ElementValue → List (List Delta) → Type 0
 AreUnseen store stack = (parts : List Delta) → Contains stack parts → ¬ (IsSeen store parts)
 
 -- The topmost entry of a stack that is seen, what is below it and what is above it.
-pub record IsTopmostSeen (store : List Drawn) (stack below : List (List Delta)) (parts : List Delta) (above : List (List Delta)) : Type 0 where
+pub record IsTopmostSeen (store : List ElementValue) (stack below : List (List Delta)) (parts : List Delta) (above : List (List Delta)) : Type 0 where
   pub split : stack ≡ below ++ parts ∷ above
   pub seen : IsSeen store parts
   pub unseen : AreUnseen store above
 
 -- One step took the topmost entry that is seen from one stack. Those above it went to the other stack one after another,
 -- inverted, and on them one that takes the step back.
-pub record HasStepped (store : List Drawn) (time nonce : ℕ) (given : List Drawn) (from to below grown : List (List Delta)) : Type 0 where
+pub record HasStepped (store : List ElementValue) (time nonce : ℕ) (given : List ElementValue) (from to below grown : List (List Delta)) : Type 0 where
   pub parts : List Delta
   pub above : List (List Delta)
   pub made : List Delta
@@ -65,15 +65,15 @@ pub record HasStepped (store : List Drawn) (time nonce : ℕ) (given : List Draw
   pub step : IsStep parts store time nonce given made
 
 -- One undo, and one redo, from the stacks before to those after.
-abbrev pub HasUndone : List Drawn → ℕ → ℕ → List Drawn → Stacks → Stacks → Type 0
+abbrev pub HasUndone : List ElementValue → ℕ → ℕ → List ElementValue → Stacks → Stacks → Type 0
 HasUndone store time nonce given old new = HasStepped store time nonce given old.undo old.redo new.undo new.redo
 
-abbrev pub HasRedone : List Drawn → ℕ → ℕ → List Drawn → Stacks → Stacks → Type 0
+abbrev pub HasRedone : List ElementValue → ℕ → ℕ → List ElementValue → Stacks → Stacks → Type 0
 HasRedone store time nonce given old new = HasStepped store time nonce given old.redo old.undo new.redo new.undo
 
 -- The topmost entry of a stack that is seen would change the element of this id, which stands at the greatest version, and no
 -- lesser one.
-pub record StopsAt (store : List Drawn) (stack : List (List Delta)) (id : List ℕ) : Type 0 where
+pub record StopsAt (store : List ElementValue) (stack : List (List Delta)) (id : List ℕ) : Type 0 where
   pub below : List (List Delta)
   pub parts : List Delta
   pub above : List (List Delta)
@@ -118,7 +118,7 @@ abbrev pub FitsIn : HistoryStep → Stacks → Type 0
 FitsIn step stacks = IfSome step.made (λ made. step.passed < length (side step.undo (noted step.pending stacks)))
 
 -- what is planned for a stack: nothing where no entry is seen, or the step from the topmost one
-pub record IsPlanned (store : List Drawn) (time nonce : ℕ) (stack : List (List Delta)) (given : List Drawn) (made : List Delta) (passed : ℕ) : Type 0 where
+pub record IsPlanned (store : List ElementValue) (time nonce : ℕ) (stack : List (List Delta)) (given : List ElementValue) (made : List Delta) (passed : ℕ) : Type 0 where
   pub below : List (List Delta)
   pub parts : List Delta
   pub above : List (List Delta)

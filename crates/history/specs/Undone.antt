@@ -1,7 +1,7 @@
 -- What a step makes of the elements that its entry stands for. After Excalidraw's history.
 use Rattle.std.specs.Prelude.{◌≡◌, ◌⊎◌, ℕ, List, true, Some, Contains}
 use Rattle.frac_keys.specs.Rising.{are_rising}
-use Rattle.elem.specs.Drawn.{Drawn}
+use Rattle.elem.specs.ElementValue.{ElementValue}
 use Rattle.elem.specs.Facts.{IsElement}
 use Rattle.elem.specs.Order.{unstamped}
 use Rattle.elem_store.specs.Updates.{element_of, ids_of}
@@ -10,31 +10,31 @@ use Rattle.delta.specs.Undone.{IsUndone}
 use Rattle.history.specs.Steps.{stamped, Differ}
 
 -- Each of the list is an element; so are both of each pair.
-abbrev pub AreElements : List Drawn → Type 0
-AreElements elements = (e : Drawn) → Contains elements e → IsElement e
+abbrev pub EachIsElement : List ElementValue → Type 0
+EachIsElement elements = (e : ElementValue) → Contains elements e → IsElement e
 
 abbrev pub ArePairsOfElements : List Pair → Type 0
 ArePairsOfElements pairs = (pair : Pair) → Contains pairs pair → IsElement pair.before × IsElement pair.after
 
 -- Undoing the pair makes this element of the stored one of its id.
-pub record UndoesPair (pairs : List Pair) (store : List Drawn) (pair : Pair) (now undone : Drawn) : Type 0 where
+pub record UndoesPair (pairs : List Pair) (store : List ElementValue) (pair : Pair) (now undone : ElementValue) : Type 0 where
   pub among : Contains pairs pair
   pub stored : element_of store pair.after.id ≡ Some now
   pub undoes : IsUndone pair.before pair.after now undone
 
 -- The elements are those that undoing the pairs changes, stamped, in the order of their ids.
-pub record AreUndone (pairs : List Pair) (store : List Drawn) (time nonce : ℕ) (given : List Drawn) : Type 0 where
+pub record AreUndone (pairs : List Pair) (store : List ElementValue) (time nonce : ℕ) (given : List ElementValue) : Type 0 where
   pub ordered : are_rising (ids_of given) ≡ true
-  pub each : (e : Drawn) → Contains given e
-      → (pair : Pair) × (now : Drawn) × (undone : Drawn)
+  pub each : (e : ElementValue) → Contains given e
+      → (pair : Pair) × (now : ElementValue) × (undone : ElementValue)
       × UndoesPair pairs store pair now undone × Differ now undone × (e ≡ stamped time nonce undone)
   pub all : (pair : Pair) → Contains pairs pair
       → IsUnchanged pair
-      ⊎ ((now : Drawn) × (undone : Drawn) × UndoesPair pairs store pair now undone
+      ⊎ ((now : ElementValue) × (undone : ElementValue) × UndoesPair pairs store pair now undone
       × ((unstamped now ≡ unstamped undone) ⊎ Contains given (stamped time nonce undone)))
 
 -- Once these are stored, the stored element is this one but for the stamp.
-abbrev pub ComesBack : List Drawn → Drawn → Drawn → Type 0
+abbrev pub ComesBack : List ElementValue → ElementValue → ElementValue → Type 0
 ComesBack given now before =
     (unstamped now ≡ unstamped before)
-    ⊎ ((e : Drawn) × Contains given e × (e.id ≡ now.id) × (unstamped e ≡ unstamped before))
+    ⊎ ((e : ElementValue) × Contains given e × (e.id ≡ now.id) × (unstamped e ≡ unstamped before))

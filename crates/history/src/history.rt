@@ -1,7 +1,7 @@
 //! A history.
 
 ghost use Rattle.std.specs.Prelude.{◌≡◌, ◌↔◌, ◌≤◌, ◌<◌, List as Items, [], Ok, IsOk, length, IfOk, IfErr, OnOk, OnErr};
-ghost use Rattle.elem.specs.Drawn.{Drawn};
+ghost use Rattle.elem.specs.ElementValue.{ElementValue};
 ghost use Rattle.elem.specs.Facts.{greatest_whole};
 ghost use Rattle.history.specs.Stacks.{HasStoredIds, HaveStoredIds, AreUnseen, HasUndone, HasRedone, StopsAt, OnFull, FitsIn, noted, put_step};
 
@@ -96,7 +96,7 @@ impl History {
         requires pending { HasStoredIds store.now.elements pending }
         requires stored { HaveStoredIds store.now.elements self.now.stacks.undo }
 
-        ensures done { (step : HistoryStep) (given : Items Drawn) → result ≡ Ok (step, Step.Done given)
+        ensures done { (step : HistoryStep) (given : Items ElementValue) → result ≡ Ok (step, Step.Done given)
             → HasUndone store.now.elements time nonce given (noted pending self.now.stacks) (put_step step self.now.stacks) }
         ensures nothing { IfOk result (λ plan. (plan.1 ≡ Step.Nothing) ↔ AreUnseen store.now.elements (noted pending self.now.stacks).undo) }
         ensures nothing_kept { (step : HistoryStep) → result ≡ Ok (step, Step.Nothing) → put_step step self.now.stacks ≡ noted pending self.now.stacks }
@@ -120,7 +120,7 @@ impl History {
         requires nonce { nonce ≤ greatest_whole }
         requires stored { HaveStoredIds store.now.elements self.now.stacks.redo }
 
-        ensures done { (step : HistoryStep) (given : Items Drawn) → result ≡ Ok (step, Step.Done given)
+        ensures done { (step : HistoryStep) (given : Items ElementValue) → result ≡ Ok (step, Step.Done given)
             → HasRedone store.now.elements time nonce given (noted pending self.now.stacks) (put_step step self.now.stacks) }
         ensures nothing { IfOk result (λ plan. (plan.1 ≡ Step.Nothing) ↔ AreUnseen store.now.elements (noted pending self.now.stacks).redo) }
         ensures nothing_kept { (step : HistoryStep) → result ≡ Ok (step, Step.Nothing) → put_step step self.now.stacks ≡ noted pending self.now.stacks }
@@ -166,7 +166,7 @@ impl History {
         requires nonce { nonce ≤ greatest_whole }
         requires stored { HaveStoredIds store.now.elements self.old.stacks.undo }
 
-        ensures done { (given : Items Drawn) → result ≡ Ok (Step.Done given)
+        ensures done { (given : Items ElementValue) → result ≡ Ok (Step.Done given)
             → HasUndone store.now.elements time nonce given self.old.stacks self.new.stacks }
         ensures nothing { IfOk result (λ step. (step ≡ Step.Nothing) ↔ AreUnseen store.now.elements self.old.stacks.undo) }
         ensures full { IfErr result (λ stop. OnFull stop (StopsAt store.now.elements self.old.stacks.undo)) }
@@ -187,7 +187,7 @@ impl History {
         requires nonce { nonce ≤ greatest_whole }
         requires stored { HaveStoredIds store.now.elements self.old.stacks.redo }
 
-        ensures done { (given : Items Drawn) → result ≡ Ok (Step.Done given)
+        ensures done { (given : Items ElementValue) → result ≡ Ok (Step.Done given)
             → HasRedone store.now.elements time nonce given self.old.stacks self.new.stacks }
         ensures nothing { IfOk result (λ step. (step ≡ Step.Nothing) ↔ AreUnseen store.now.elements self.old.stacks.redo) }
         ensures full { IfErr result (λ stop. OnFull stop (StopsAt store.now.elements self.old.stacks.redo)) }

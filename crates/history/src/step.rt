@@ -1,12 +1,12 @@
 //! What taking an entry back comes to.
 
 ghost use Rattle.std.specs.Prelude.{◌≡◌, ◌≢◌, ◌⊎◌, ◌+◌, ◌<◌, ◌≤◌, ◌++◌, [], ◌∷◌, List as Items, Some, None, true, false, IfOk, IfErr, IfSome, OnOk};
-ghost use Rattle.elem.specs.Drawn.{Drawn};
+ghost use Rattle.elem.specs.ElementValue.{ElementValue};
 ghost use Rattle.elem.specs.Facts.{greatest_whole};
 ghost use Rattle.frac_keys.specs.Rising.{are_rising};
 ghost use Rattle.delta.specs.Delta.{Delta};
 ghost use Rattle.delta.specs.Facts.{part_ids};
-ghost use Rattle.delta.specs.Parts.{StandsFor};
+ghost use Rattle.delta.specs.Parts.{PartStandsFor};
 ghost use Rattle.elem_store.specs.Updates.{element_of};
 ghost use Rattle.history.specs.Places.{IsSeenAt};
 ghost use Rattle.history.specs.Stacks.{HasStoredIds, HaveStoredIds, AreUnseen, IsPlanned, StopsAt, OnFull, with_entry};
@@ -235,7 +235,7 @@ fn revert(
     requires id { part.now.id ≡ now.now.id }
     requires time { time ≤ greatest_whole }
     requires nonce { nonce ≤ greatest_whole }
-    ensures ok { (parts : Items Delta) (store : Items Drawn) → IsStep parts store time nonce given.old.items made.old.items
+    ensures ok { (parts : Items Delta) (store : Items ElementValue) → IsStep parts store time nonce given.old.items made.old.items
         → are_rising (part_ids (parts ++ part.now ∷ [])) ≡ true → element_of store part.now.id ≡ Some now.now
         → OnOk result (IsStep (parts ++ part.now ∷ []) store time nonce given.new.items made.new.items) }
     ensures full { IfErr result (λ stop. OnFull stop (λ id. (id ≡ part.now.id) × IsFull part.now now.now)) }
@@ -281,7 +281,7 @@ fn add(
     requires id { now.now.id ≡ e.id }
     requires kind { now.now.kind ≡ e.kind }
     ensures given { OnOk result (given.new.items ≡ given.old.items ++ e ∷ []) }
-    ensures made { OnOk result ((part : Delta) × (made.new.items ≡ made.old.items ++ part ∷ []) × StandsFor part now.now e) }
+    ensures made { OnOk result ((part : Delta) × (made.new.items ≡ made.old.items ++ part ∷ []) × PartStandsFor part now.now e) }
 {
     made.push(difference(alloc, Some(now), &e)?)?;
     given.push(e)?;

@@ -2,7 +2,7 @@
 use Rattle.std.proofs.Common.{◌≡◌, ℕ, zero, suc, Bool, true, false, cond, ◌&&◌, List, [], ◌∷◌, find, filter, map, Some, Contains, bytes_eq, refl, sym, ap, ◌∙◌, subst, inl, inr, arith}
 use Rattle.std.specs.List.{list_any, AllByRecursion, IsDistinct}
 use Rattle.std.proofs.lemmas.Bool.{both_ways, cases_Bool, cond-true, cond-false, false_from_ne_true}
-use Rattle.elem.specs.Drawn.{Drawn}
+use Rattle.elem.specs.ElementValue.{ElementValue}
 use Rattle.links.specs.Names.{id_of, HaveDistinctIds}
 use Rattle.links.proofs.Members.{list_any-same, Contains-head, Contains-cons}
 use Rattle.links.proofs.Tabled.{list_any-filter}
@@ -69,7 +69,7 @@ same-and true a b h = h refl
 same-and false a b h = refl
 
 -- ---- ids stay distinct
-apart-filter : (id : List ℕ) (p : Drawn → Bool) (es : List Drawn) → AllByRecursion (λ other. bytes_eq id other ≡ false) (map id_of es) → AllByRecursion (λ other. bytes_eq id other ≡ false) (map id_of (filter p es))
+apart-filter : (id : List ℕ) (p : ElementValue → Bool) (es : List ElementValue) → AllByRecursion (λ other. bytes_eq id other ≡ false) (map id_of es) → AllByRecursion (λ other. bytes_eq id other ≡ false) (map id_of (filter p es))
 apart-filter id p [] h = tt
 apart-filter id p (e ∷ es) h =
     elim (p e) as (λ b. AllByRecursion (λ other. bytes_eq id other ≡ false) (map id_of (cond b (e ∷ filter p es) (filter p es)))) [
@@ -77,7 +77,7 @@ apart-filter id p (e ∷ es) h =
       | false ↦ apart-filter id p es h.1
     ]
 
-pub distinct-among : (p : Drawn → Bool) (es : List Drawn) → HaveDistinctIds es → HaveDistinctIds (filter p es)
+pub distinct-among : (p : ElementValue → Bool) (es : List ElementValue) → HaveDistinctIds es → HaveDistinctIds (filter p es)
 unfolding IsDistinct
 distinct-among p [] h = tt
 distinct-among p (e ∷ es) h =

@@ -7,8 +7,8 @@ use Rattle.std.proofs.lemmas.Slice.Eq.{bytes_eq-Decides}
 use Rattle.elem.specs.declared.kind.Role.{Role}
 use Rattle.elem.specs.declared.kind.Role.TheVariants.{Arrow, Text}
 use Rattle.elem.specs.declared.parts.BoundRef.{BoundRef}
-use Rattle.links.specs.Entries.{same_role, same_entry, lists, first_occurrences}
-use Rattle.links.specs.Tables.{with_entry, with_entries}
+use Rattle.links.specs.Entries.{same_role, same_listing_entry, lists, first_occurrences}
+use Rattle.links.specs.Tables.{with_listing_entry, with_entries}
 
 -- ---- when entries are the same
 same_role-true : (r s : Role) → same_role r s ≡ true → r ≡ s
@@ -21,18 +21,18 @@ same_role-refl : (r : Role) → same_role r r ≡ true
 same_role-refl Arrow = refl
 same_role-refl Text = refl
 
-pub same_entry-true : (x y : BoundRef) → same_entry x y ≡ true → x ≡ y
-same_entry-true x y h =
+pub same_listing_entry-true : (x y : BoundRef) → same_listing_entry x y ≡ true → x ≡ y
+same_listing_entry-true x y h =
     let p = and_parts (same_role x.role y.role) (bytes_eq x.id y.id) h in
     let role = same_role-true x.role y.role p.0 in
     let id = (bytes_eq-Decides x.id y.id).0 p.1 in
     λ i. record { id = id i; role = role i }
 
-pub same_entry-refl : (x : BoundRef) → same_entry x x ≡ true
-same_entry-refl x = and_from (same_role x.role x.role) (bytes_eq x.id x.id) (same_role-refl x.role) ((bytes_eq-Decides x.id x.id).1 refl)
+pub same_listing_entry-refl : (x : BoundRef) → same_listing_entry x x ≡ true
+same_listing_entry-refl x = and_from (same_role x.role x.role) (bytes_eq x.id x.id) (same_role-refl x.role) ((bytes_eq-Decides x.id x.id).1 refl)
 
-same_entry-from : (x y : BoundRef) → x ≡ y → same_entry x y ≡ true
-same_entry-from x y e = ap (same_entry x) (sym e) ∙ same_entry-refl x
+same_listing_entry-from : (x y : BoundRef) → x ≡ y → same_listing_entry x y ≡ true
+same_listing_entry-from x y e = ap (same_listing_entry x) (sym e) ∙ same_listing_entry-refl x
 
 -- ---- lists and filters
 filter-filter : {X : Type 0} (p q : X → Bool) (xs : List X) → filter p (filter q xs) ≡ filter (λ x. q x && p x) xs
@@ -60,15 +60,15 @@ and-itself false = refl
 filter-twice : {X : Type 0} (p : X → Bool) (xs : List X) → filter p (filter p xs) ≡ filter p xs
 filter-twice p xs = filter-filter p p xs ∙ filter_agree (λ x. p x && p x) p (λ x. and-itself (p x)) xs
 
-abbrev is_other : BoundRef → BoundRef → Bool
-is_other x y = not (same_entry x y)
+abbrev is_other_entry : BoundRef → BoundRef → Bool
+is_other_entry x y = not (same_listing_entry x y)
 
 -- a test that fails at an entry fails at all that are the same
-skips : (p : BoundRef → Bool) (x : BoundRef) → p x ≡ false → (z : BoundRef) → (is_other x z && p z) ≡ p z
+skips : (p : BoundRef → Bool) (x : BoundRef) → p x ≡ false → (z : BoundRef) → (is_other_entry x z && p z) ≡ p z
 skips p x h z =
-    elim (cases_Bool (same_entry x z)) [
-      | inl t ↦ let fails : p z ≡ false = ap p (sym (same_entry-true x z t)) ∙ h in
-          ap (λ b. is_other x z && b) fails ∙ and_false (is_other x z) ∙ sym fails
+    elim (cases_Bool (same_listing_entry x z)) [
+      | inl t ↦ let fails : p z ≡ false = ap p (sym (same_listing_entry-true x z t)) ∙ h in
+          ap (λ b. is_other_entry x z && b) fails ∙ and_false (is_other_entry x z) ∙ sym fails
       | inr f ↦ ap (λ b. not b && p z) f
     ]
   where
@@ -82,31 +82,31 @@ first_occurrences-filter p [] = refl
 first_occurrences-filter p (x ∷ xs) =
     elim (cases_Bool (p x)) [
       | inl t ↦ ap first_occurrences (cond-true (p x) (x ∷ filter p xs) (filter p xs) t)
-          ∙ ap (λ ys. x ∷ filter (is_other x) ys) (first_occurrences-filter p xs)
-          ∙ ap (λ ys. x ∷ ys) (filter-comm (is_other x) p (first_occurrences xs))
-          ∙ sym (cond-true (p x) (x ∷ filter p (filter (is_other x) (first_occurrences xs))) _ t)
+          ∙ ap (λ ys. x ∷ filter (is_other_entry x) ys) (first_occurrences-filter p xs)
+          ∙ ap (λ ys. x ∷ ys) (filter-comm (is_other_entry x) p (first_occurrences xs))
+          ∙ sym (cond-true (p x) (x ∷ filter p (filter (is_other_entry x) (first_occurrences xs))) _ t)
       | inr f ↦ ap first_occurrences (cond-false (p x) (x ∷ filter p xs) (filter p xs) f)
           ∙ first_occurrences-filter p xs
-          ∙ sym (filter-filter p (is_other x) (first_occurrences xs) ∙ filter_agree (λ z. is_other x z && p z) p (skips p x f) (first_occurrences xs))
-          ∙ sym (cond-false (p x) _ (filter p (filter (is_other x) (first_occurrences xs))) f)
+          ∙ sym (filter-filter p (is_other_entry x) (first_occurrences xs) ∙ filter_agree (λ z. is_other_entry x z && p z) p (skips p x f) (first_occurrences xs))
+          ∙ sym (cond-false (p x) _ (filter p (filter (is_other_entry x) (first_occurrences xs))) f)
     ]
 
 pub first_occurrences-twice : (xs : List BoundRef) → first_occurrences (first_occurrences xs) ≡ first_occurrences xs
 first_occurrences-twice [] = refl
 first_occurrences-twice (x ∷ xs) =
-    ap (λ ys. x ∷ filter (is_other x) ys) (first_occurrences-filter (is_other x) (first_occurrences xs))
-    ∙ ap (λ ys. x ∷ ys) (filter-twice (is_other x) (first_occurrences (first_occurrences xs)))
-    ∙ ap (λ ys. x ∷ filter (is_other x) ys) (first_occurrences-twice xs)
+    ap (λ ys. x ∷ filter (is_other_entry x) ys) (first_occurrences-filter (is_other_entry x) (first_occurrences xs))
+    ∙ ap (λ ys. x ∷ ys) (filter-twice (is_other_entry x) (first_occurrences (first_occurrences xs)))
+    ∙ ap (λ ys. x ∷ filter (is_other_entry x) ys) (first_occurrences-twice xs)
 
 -- a test finds the same among first occurrences
-list_any-others : (p : BoundRef → Bool) (x : BoundRef) (xs : List BoundRef) → (p x || list_any p (filter (is_other x) xs)) ≡ (p x || list_any p xs)
+list_any-others : (p : BoundRef → Bool) (x : BoundRef) (xs : List BoundRef) → (p x || list_any p (filter (is_other_entry x) xs)) ≡ (p x || list_any p xs)
 list_any-others p x [] = refl
 list_any-others p x (y ∷ ys) =
-    elim (cases_Bool (same_entry x y)) [
-      | inl t ↦ ap (λ zs. p x || list_any p zs) (cond-false (is_other x y) (y ∷ filter (is_other x) ys) (filter (is_other x) ys) (not_from_true _ t))
-          ∙ list_any-others p x ys ∙ absorb (p x) (p y) (list_any p ys) (ap p (same_entry-true x y t))
-      | inr f ↦ ap (λ zs. p x || list_any p zs) (cond-true (is_other x y) (y ∷ filter (is_other x) ys) (filter (is_other x) ys) (not_from_false _ f))
-          ∙ swap' (p x) (p y) (list_any p (filter (is_other x) ys)) ∙ ap (λ b. p y || b) (list_any-others p x ys) ∙ sym (swap' (p x) (p y) (list_any p ys))
+    elim (cases_Bool (same_listing_entry x y)) [
+      | inl t ↦ ap (λ zs. p x || list_any p zs) (cond-false (is_other_entry x y) (y ∷ filter (is_other_entry x) ys) (filter (is_other_entry x) ys) (not_from_true _ t))
+          ∙ list_any-others p x ys ∙ absorb (p x) (p y) (list_any p ys) (ap p (same_listing_entry-true x y t))
+      | inr f ↦ ap (λ zs. p x || list_any p zs) (cond-true (is_other_entry x y) (y ∷ filter (is_other_entry x) ys) (filter (is_other_entry x) ys) (not_from_false _ f))
+          ∙ swap' (p x) (p y) (list_any p (filter (is_other_entry x) ys)) ∙ ap (λ b. p y || b) (list_any-others p x ys) ∙ sym (swap' (p x) (p y) (list_any p ys))
     ]
   where
     absorb : (a b d : Bool) → a ≡ b → (a || d) ≡ (a || (b || d))
@@ -125,39 +125,39 @@ list_any-first_occurrences p [] = refl
 list_any-first_occurrences p (x ∷ xs) = list_any-others p x (first_occurrences xs) ∙ ap (λ b. p x || b) (list_any-first_occurrences p xs)
 
 -- ---- one more entry
-lists-others : (x y : BoundRef) (xs : List BoundRef) → same_entry x y ≡ false → lists (filter (is_other y) xs) x ≡ lists xs x
+lists-others : (x y : BoundRef) (xs : List BoundRef) → same_listing_entry x y ≡ false → lists (filter (is_other_entry y) xs) x ≡ lists xs x
 lists-others x y xs f =
-    ap (λ b. b || lists (filter (is_other y) xs) x) (sym (apart f)) ∙ list_any-others (same_entry x) y xs ∙ ap (λ b. b || lists xs x) (apart f)
+    ap (λ b. b || lists (filter (is_other_entry y) xs) x) (sym (apart f)) ∙ list_any-others (same_listing_entry x) y xs ∙ ap (λ b. b || lists xs x) (apart f)
   where
-    apart : same_entry x y ≡ false → same_entry x y ≡ false
+    apart : same_listing_entry x y ≡ false → same_listing_entry x y ≡ false
     apart h = h
 
-same_entry-sym : (x y : BoundRef) → same_entry x y ≡ true → same_entry y x ≡ true
-same_entry-sym x y h = same_entry-from y x (sym (same_entry-true x y h))
+same_listing_entry-sym : (x y : BoundRef) → same_listing_entry x y ≡ true → same_listing_entry y x ≡ true
+same_listing_entry-sym x y h = same_listing_entry-from y x (sym (same_listing_entry-true x y h))
 
 filter-one : (p : BoundRef → Bool) (x : BoundRef) (xs : List BoundRef) (b : Bool) → p x ≡ b → filter p (xs ++ x ∷ []) ≡ filter p xs ++ cond b (x ∷ []) []
 filter-one p x xs b h = filter-append p xs (x ∷ []) ∙ ap (λ d. filter p xs ++ cond d (x ∷ []) []) h
 
-pub first_occurrences-push : (xs : List BoundRef) (x : BoundRef) → first_occurrences (xs ++ x ∷ []) ≡ with_entry (first_occurrences xs) x
+pub first_occurrences-push : (xs : List BoundRef) (x : BoundRef) → first_occurrences (xs ++ x ∷ []) ≡ with_listing_entry (first_occurrences xs) x
 first_occurrences-push [] x = refl
 first_occurrences-push (y ∷ xs) x =
-    ap (λ ys. y ∷ filter (is_other y) ys) (first_occurrences-push xs x)
-    ∙ elim (cases_Bool (same_entry x y)) [
+    ap (λ ys. y ∷ filter (is_other_entry y) ys) (first_occurrences-push xs x)
+    ∙ elim (cases_Bool (same_listing_entry x y)) [
       | inl t ↦
-          ap (λ ys. y ∷ ys) (elim (lists (first_occurrences xs) x) as (λ b. filter (is_other y) (cond b (first_occurrences xs) (first_occurrences xs ++ x ∷ [])) ≡ filter (is_other y) (first_occurrences xs)) [
+          ap (λ ys. y ∷ ys) (elim (lists (first_occurrences xs) x) as (λ b. filter (is_other_entry y) (cond b (first_occurrences xs) (first_occurrences xs ++ x ∷ [])) ≡ filter (is_other_entry y) (first_occurrences xs)) [
             | true ↦ refl
-            | false ↦ filter-one (is_other y) x (first_occurrences xs) false (not_from_true _ (same_entry-sym x y t)) ∙ append-nil (filter (is_other y) (first_occurrences xs))
+            | false ↦ filter-one (is_other_entry y) x (first_occurrences xs) false (not_from_true _ (same_listing_entry-sym x y t)) ∙ append-nil (filter (is_other_entry y) (first_occurrences xs))
           ])
-          ∙ sym (cond-true (lists (y ∷ filter (is_other y) (first_occurrences xs)) x) _ _ (or_left (same_entry x y) (lists (filter (is_other y) (first_occurrences xs)) x) t))
+          ∙ sym (cond-true (lists (y ∷ filter (is_other_entry y) (first_occurrences xs)) x) _ _ (or_left (same_listing_entry x y) (lists (filter (is_other_entry y) (first_occurrences xs)) x) t))
       | inr f ↦
-          let apart : is_other y x ≡ true = not_from_false _ (false_from_ne_true (same_entry y x) (λ h. both_ways (same_entry x y) f (same_entry-sym y x h))) in
-          let here : lists (y ∷ filter (is_other y) (first_occurrences xs)) x ≡ lists (first_occurrences xs) x = ap (λ b. b || lists (filter (is_other y) (first_occurrences xs)) x) f ∙ lists-others x y (first_occurrences xs) f in
-          (elim (lists (first_occurrences xs) x) as (λ b. y ∷ filter (is_other y) (cond b (first_occurrences xs) (first_occurrences xs ++ x ∷ []))
-          ≡ cond b (y ∷ filter (is_other y) (first_occurrences xs)) (y ∷ filter (is_other y) (first_occurrences xs) ++ x ∷ [])) [
+          let apart : is_other_entry y x ≡ true = not_from_false _ (false_from_ne_true (same_listing_entry y x) (λ h. both_ways (same_listing_entry x y) f (same_listing_entry-sym y x h))) in
+          let here : lists (y ∷ filter (is_other_entry y) (first_occurrences xs)) x ≡ lists (first_occurrences xs) x = ap (λ b. b || lists (filter (is_other_entry y) (first_occurrences xs)) x) f ∙ lists-others x y (first_occurrences xs) f in
+          (elim (lists (first_occurrences xs) x) as (λ b. y ∷ filter (is_other_entry y) (cond b (first_occurrences xs) (first_occurrences xs ++ x ∷ []))
+          ≡ cond b (y ∷ filter (is_other_entry y) (first_occurrences xs)) (y ∷ filter (is_other_entry y) (first_occurrences xs) ++ x ∷ [])) [
             | true ↦ refl
-            | false ↦ ap (λ ys. y ∷ ys) (filter-one (is_other y) x (first_occurrences xs) true apart)
+            | false ↦ ap (λ ys. y ∷ ys) (filter-one (is_other_entry y) x (first_occurrences xs) true apart)
           ])
-          ∙ ap (λ b. cond b (y ∷ filter (is_other y) (first_occurrences xs)) ((y ∷ filter (is_other y) (first_occurrences xs)) ++ x ∷ [])) (sym here)
+          ∙ ap (λ b. cond b (y ∷ filter (is_other_entry y) (first_occurrences xs)) ((y ∷ filter (is_other_entry y) (first_occurrences xs)) ++ x ∷ [])) (sym here)
     ]
 
 pub with_entries-first : (xs ys : List BoundRef) → with_entries (first_occurrences xs) ys ≡ first_occurrences (xs ++ ys)
@@ -166,9 +166,9 @@ with_entries-first xs (y ∷ ys) =
     ap (λ zs. with_entries zs ys) (sym (first_occurrences-push xs y)) ∙ with_entries-first (xs ++ y ∷ []) ys
     ∙ ap first_occurrences (append_assoc xs (y ∷ []) ys)
 
-pub with_entries-push : (entries xs : List BoundRef) (x : BoundRef) → with_entries entries (xs ++ x ∷ []) ≡ with_entry (with_entries entries xs) x
+pub with_entries-push : (entries xs : List BoundRef) (x : BoundRef) → with_entries entries (xs ++ x ∷ []) ≡ with_listing_entry (with_entries entries xs) x
 with_entries-push entries [] x = refl
-with_entries-push entries (y ∷ xs) x = with_entries-push (with_entry entries y) xs x
+with_entries-push entries (y ∷ xs) x = with_entries-push (with_listing_entry entries y) xs x
 
 -- entries that are listed add nothing
 pub with_entries-listed : (entries xs : List BoundRef) → list_all (lists entries) xs ≡ true → with_entries entries xs ≡ entries

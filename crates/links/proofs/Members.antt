@@ -7,7 +7,7 @@ use Rattle.std.proofs.lemmas.Option.{same_Some}
 use Rattle.std.proofs.lemmas.List.Folds.{list_any_at}
 use Rattle.std.proofs.lemmas.Map.Keys.{IsDistinct-head, IsDistinct-tail}
 use Rattle.std.proofs.lemmas.Slice.Eq.{bytes_eq-Decides}
-use Rattle.elem.specs.Drawn.{Drawn}
+use Rattle.elem.specs.ElementValue.{ElementValue}
 use Rattle.links.specs.Names.{id_of, HaveDistinctIds}
 
 pub same_bools : (a b : Bool) → (a ≡ true → b ≡ true) → (b ≡ true → a ≡ true) → a ≡ b
@@ -119,12 +119,12 @@ module _ {X : Type 0} (p : X → Bool) where
       fails false h = refl
 
 -- ---- elements of one id are one
-apart_at : (id : List ℕ) (xs : List Drawn) (y : Drawn) → AllByRecursion (λ other. bytes_eq id other ≡ false) (map id_of xs) → Contains xs y → bytes_eq id y.id ≡ false
+apart_at : (id : List ℕ) (xs : List ElementValue) (y : ElementValue) → AllByRecursion (λ other. bytes_eq id other ≡ false) (map id_of xs) → Contains xs y → bytes_eq id y.id ≡ false
 apart_at id [] y h c = absurd (omega (arith, c.1))
-apart_at id (x ∷ xs) y h (zero, l, e) = ap (λ (z : Drawn). bytes_eq id z.id) (sym e) ∙ h.0
+apart_at id (x ∷ xs) y h (zero, l, e) = ap (λ (z : ElementValue). bytes_eq id z.id) (sym e) ∙ h.0
 apart_at id (x ∷ xs) y h (suc k, l, e) = apart_at id xs y h.1 (k, omega arith, e)
 
-pub one_of_id : (xs : List Drawn) (x y : Drawn) → HaveDistinctIds xs → Contains xs x → Contains xs y → x.id ≡ y.id → x ≡ y
+pub one_of_id : (xs : List ElementValue) (x y : ElementValue) → HaveDistinctIds xs → Contains xs x → Contains xs y → x.id ≡ y.id → x ≡ y
 one_of_id [] x y apart c d same = absurd (omega (arith, c.1))
 one_of_id (z ∷ xs) x y apart (zero, l, e) (zero, m, f) same = sym e ∙ f
 one_of_id (z ∷ xs) x y apart (zero, l, e) (suc k, m, f) same =

@@ -4,7 +4,7 @@ use Rattle.std.specs.List.{list_any, AllByRecursion, IsDistinct}
 use Rattle.std.proofs.lemmas.List.Folds.{list_any-append}
 use Rattle.first_texts.specs.FirstOccurrences.{first_occurrences}
 use Rattle.first_texts.proofs.FirstLaws.{Contains-first_occurrences, IsDistinct-first_occurrences}
-use Rattle.elem.specs.Drawn.{Drawn}
+use Rattle.elem.specs.ElementValue.{ElementValue}
 use Rattle.links.specs.declared.rows.LinkRow.{LinkRow}
 use Rattle.links.specs.Names.{is_id, target_of}
 use Rattle.links.specs.Rows.{id_there, named_ids, rows_of, is_for, same_row}
@@ -29,7 +29,7 @@ or_assoc : (a b c : Bool) → (a || (b || c)) ≡ ((a || b) || c)
 or_assoc true b c = refl
 or_assoc false b c = refl
 
-pub rows_of-named : (e : Drawn) (id : List ℕ) → list_any (is_for id) (rows_of e) ≡ names_id id e
+pub rows_of-named : (e : ElementValue) (id : List ℕ) → list_any (is_for id) (rows_of e) ≡ names_id id e
 rows_of-named e id =
     let p = bytes_eq id in
     let container = id_there e.container in
@@ -55,5 +55,5 @@ unfolding IsDistinct
 distinct-rows namer [] h = tt
 distinct-rows namer (id ∷ ids) h = (apart-rows id namer ids h.0, distinct-rows namer ids h.1)
 
-pub rows_of-distinct : (e : Drawn) → IsDistinct same_row (rows_of e)
+pub rows_of-distinct : (e : ElementValue) → IsDistinct same_row (rows_of e)
 rows_of-distinct e = distinct-rows e.id (named_ids e) (IsDistinct-first_occurrences _)

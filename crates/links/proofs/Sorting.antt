@@ -9,7 +9,7 @@ use Rattle.std.proofs.lemmas.Bool.{both_ways, true_from_ne_false, not-true, not_
 use Rattle.std.proofs.lemmas.List.Elements.{filter_agree}
 use Rattle.std.proofs.lemmas.List.Sorted.{ranks_by, sorted_far}
 use Rattle.std.proofs.Math.Seq.{take-nil, drop-nil}
-use Rattle.elem.specs.Drawn.{Drawn}
+use Rattle.elem.specs.ElementValue.{ElementValue}
 use Rattle.elem.specs.declared.kind.Kind.TheVariants.{Rectangle}
 use Rattle.links.specs.declared.table.Row.{Row}
 use Rattle.links.specs.Tables.{is_under, row_less}
@@ -141,7 +141,7 @@ module _ (rows : List Row) (key : List ℕ) (a b : ℕ)
       (λ row h. before_is _ h) (λ row h k. at_is _ h k) (λ row h. behind_is _ h) (λ row h. less_is _ h) rows a b l start end'
 
 -- ---- rows of one id keep their order
-blank : Drawn
+blank : ElementValue
 blank = record {
   id = [];
   kind = Rectangle;

@@ -11,42 +11,43 @@ use Rattle.std.proofs.lemmas.List.Elements.{filter-append, filter_more}
 use Rattle.std.proofs.lemmas.Slice.Eq.{bytes_eq-Decides}
 use Rattle.elem.specs.declared.kind.Role.TheVariants.{Arrow}
 use Rattle.elem.specs.declared.parts.BoundRef.{BoundRef}
-use Rattle.elem.specs.Drawn.{Drawn}
+use Rattle.elem.specs.ElementValue.{ElementValue}
+use Rattle.elem.specs.Order.{has_id}
 use Rattle.links.specs.declared.table.Row.{Row}
 use Rattle.links.specs.Arrows.{is_bound_to, is_true_as, is_true_entry, arrow_entries, text_entries, listing}
 use Rattle.links.specs.Entries.{arrow_entry, first_occurrences}
-use Rattle.links.specs.Names.{has_id, id_of, is_arrow, is_id, can_hold_text, names_container, target_of, end_names, has_end_at, is_target}
-use Rattle.links.specs.Tables.{is_under, element_of, elements_under, Adds, IsTable, with_entry, with_entries}
+use Rattle.links.specs.Names.{id_of, is_arrow, is_id, can_hold_text, names_container, target_of, end_names, has_end_at, is_target}
+use Rattle.links.specs.Tables.{is_under, row_element, elements_under, Adds, IsTable, with_listing_entry, with_entries}
 use Rattle.links.specs.Texts.{is_for_text, is_text_entry, listed_text, first_text, text_of, is_text_of, keeps_container}
 use Rattle.links.proofs.EntryLaws.{first_occurrences-push, with_entries-first, with_entries-push}
 use Rattle.links.proofs.Sorting.{bytes_eq-cmp}
 
 pub elements_under-append : (key : List ℕ) (rows others : List Row) → elements_under key (rows ++ others) ≡ elements_under key rows ++ elements_under key others
 elements_under-append key rows others =
-    ap (map element_of) (filter-append (is_under key) rows others) ∙ map-append element_of (filter (is_under key) rows) (filter (is_under key) others)
+    ap (map row_element) (filter-append (is_under key) rows others) ∙ map-append row_element (filter (is_under key) rows) (filter (is_under key) others)
 
 -- what one row has under an id
-under_one : (key : List ℕ) (row : Row) (b : Bool) → is_under key row ≡ b → elements_under key (row ∷ []) ≡ cond b (element_of row ∷ []) []
-under_one key row true h = ap (map element_of) (cond-true (is_under key row) (row ∷ []) [] h)
-under_one key row false h = ap (map element_of) (cond-false (is_under key row) (row ∷ []) [] h)
+under_one : (key : List ℕ) (row : Row) (b : Bool) → is_under key row ≡ b → elements_under key (row ∷ []) ≡ cond b (row_element row ∷ []) []
+under_one key row true h = ap (map row_element) (cond-true (is_under key row) (row ∷ []) [] h)
+under_one key row false h = ap (map row_element) (cond-false (is_under key row) (row ∷ []) [] h)
 
-module _ (names : List ℕ → Drawn → Bool) (e : Drawn) (old new : List Row) where
-  pub Adds-one : (row : Row) → element_of row ≡ e → ((key : List ℕ) → names key e ≡ is_under key row) → new ≡ old ++ row ∷ [] → Adds names e old new
+module _ (names : List ℕ → ElementValue → Bool) (e : ElementValue) (old new : List Row) where
+  pub Adds-one : (row : Row) → row_element row ≡ e → ((key : List ℕ) → names key e ≡ is_under key row) → new ≡ old ++ row ∷ [] → Adds names e old new
   Adds-one row is same made = record {
     each = λ key. ap (elements_under key) made ∙ elements_under-append key old (row ∷ [])
         ∙ ap (λ more. elements_under key old ++ more)
-        (under_one key row (is_under key row) refl ∙ ap₂ (λ b (f : Drawn). cond b (f ∷ []) []) (sym (same key)) is);
+        (under_one key row (is_under key row) refl ∙ ap₂ (λ b (f : ElementValue). cond b (f ∷ []) []) (sym (same key)) is);
   }
 
   either_one : (b d : Bool) → (b ≡ true → d ≡ false) → (cond b (e ∷ []) [] ++ cond d (e ∷ []) []) ≡ cond (b || d) (e ∷ []) []
   either_one true d h = ap (λ x. e ∷ cond x (e ∷ []) []) (h refl)
   either_one false d h = refl
 
-  pub Adds-two : (row other : Row) → element_of row ≡ e → element_of other ≡ e → ((key : List ℕ) → names key e ≡ (is_under key row || is_under key other))
+  pub Adds-two : (row other : Row) → row_element row ≡ e → row_element other ≡ e → ((key : List ℕ) → names key e ≡ (is_under key row || is_under key other))
       → ((key : List ℕ) → is_under key row ≡ true → is_under key other ≡ false) → new ≡ (old ++ row ∷ []) ++ other ∷ [] → Adds names e old new
   Adds-two row other is is' same apart made = record {
     each = λ key.
-        let under = λ (r : Row) (i : element_of r ≡ e). under_one key r (is_under key r) refl ∙ ap (λ (f : Drawn). cond (is_under key r) (f ∷ []) []) i in
+        let under = λ (r : Row) (i : row_element r ≡ e). under_one key r (is_under key r) refl ∙ ap (λ (f : ElementValue). cond (is_under key r) (f ∷ []) []) i in
         ap (elements_under key) (made ∙ append_assoc old (row ∷ []) (other ∷ [])) ∙ elements_under-append key old (row ∷ other ∷ [])
         ∙ ap (λ more. elements_under key old ++ more)
         (elements_under-append key (row ∷ []) (other ∷ []) ∙ ap₂ (λ xs ys. xs ++ ys) (under row is) (under other is')
@@ -54,11 +55,11 @@ module _ (names : List ℕ → Drawn → Bool) (e : Drawn) (old new : List Row) 
   }
 
 -- rows under way: they have under each id the elements of a first part of the list that name it
-pub record HasUnder (names : List ℕ → Drawn → Bool) (list : List Drawn) (rows : List Row) : Type 0 where
+pub record HasUnder (names : List ℕ → ElementValue → Bool) (list : List ElementValue) (rows : List Row) : Type 0 where
   pub each : (key : List ℕ) → elements_under key rows ≡ filter (names key) list
 
 -- ---- the ends of an arrow that has both
-module _ (e : Drawn) (s t : List ℕ) (arrow : is_arrow e.kind ≡ true) (start : target_of e.start_binding ≡ Some s) (end' : target_of e.end_binding ≡ Some t) where
+module _ (e : ElementValue) (s t : List ℕ) (arrow : is_arrow e.kind ≡ true) (start : target_of e.start_binding ≡ Some s) (end' : target_of e.end_binding ≡ Some t) where
   pub has_end_at-both : (key : List ℕ) → has_end_at key e ≡ (bytes_eq key s || bytes_eq key t)
   has_end_at-both key =
       ap (λ b. b && (end_names key e.start_binding || end_names key e.end_binding)) arrow
@@ -94,64 +95,64 @@ find-filter p (x ∷ xs) =
     elim (p x) as (λ b. cond b (Some x) (find p xs) ≡ slice_get (cond b (x ∷ filter p xs) (filter p xs)) 0) [ true ↦ refl | false ↦ find-filter p xs ]
 
 -- q is what the rows are under
-module _ (q : Drawn → Bool) (rows : List Row) (list : List Drawn) (under : map element_of rows ≡ filter q list) where
-  pub any-under : (p : Drawn → Bool) → list_any (λ row. p (element_of row)) rows ≡ list_any (λ e. q e && p e) list
-  any-under p = sym (list_any-map element_of p rows) ∙ ap (list_any p) under ∙ list_any-filter q p list
+module _ (q : ElementValue → Bool) (rows : List Row) (list : List ElementValue) (under : map row_element rows ≡ filter q list) where
+  pub any-under : (p : ElementValue → Bool) → list_any (λ row. p (row_element row)) rows ≡ list_any (λ e. q e && p e) list
+  any-under p = sym (list_any-map row_element p rows) ∙ ap (list_any p) under ∙ list_any-filter q p list
 
-  pub first-under : option_map element_of (slice_get rows 0) ≡ find q list
+  pub first-under : option_map row_element (slice_get rows 0) ≡ find q list
   first-under = mapped rows ∙ ap (λ es. slice_get es 0) under ∙ sym (find-filter q list) where
-    mapped : (rows : List Row) → option_map element_of (slice_get rows 0) ≡ slice_get (map element_of rows) 0
+    mapped : (rows : List Row) → option_map row_element (slice_get rows 0) ≡ slice_get (map row_element rows) 0
     mapped [] = refl
     mapped (row ∷ rows) = refl
 
 -- ---- what the code looks up
-first_text-is : (list : List Drawn) (c : Drawn) (id : List ℕ) (rows : List Row) (r : Option (Bor Row))
-    → id ≡ c.id → map element_of rows ≡ filter (names_container id) list → option_copied r ≡ slice_get rows 0
+first_text-is : (list : List ElementValue) (c : ElementValue) (id : List ℕ) (rows : List Row) (r : Option (Bor Row))
+    → id ≡ c.id → map row_element rows ≡ filter (names_container id) list → option_copied r ≡ slice_get rows 0
     → option_map (λ (row : Bor Row). row.now.element.now.id) r ≡ first_text list c
 first_text-is list c id rows r is under first =
-    mapped r ∙ ap (λ o. option_map id_of (option_map element_of o)) first
+    mapped r ∙ ap (λ o. option_map id_of (option_map row_element o)) first
     ∙ ap (option_map id_of) (first-under (names_container id) rows list under ∙ ap (λ i. find (names_container i) list) is)
   where
-    mapped : (r : Option (Bor Row)) → option_map (λ (row : Bor Row). row.now.element.now.id) r ≡ option_map id_of (option_map element_of (option_copied r))
+    mapped : (r : Option (Bor Row)) → option_map (λ (row : Bor Row). row.now.element.now.id) r ≡ option_map id_of (option_map row_element (option_copied r))
     mapped None = refl
     mapped (Some row) = refl
 
-pub first_text-None : (list : List Drawn) (c : Drawn) (id : List ℕ) (rows : List Row) (r : Option (Bor Row))
-    → id ≡ c.id → map element_of rows ≡ filter (names_container id) list → option_copied r ≡ slice_get rows 0 → r ≡ None → first_text list c ≡ None
+pub first_text-None : (list : List ElementValue) (c : ElementValue) (id : List ℕ) (rows : List Row) (r : Option (Bor Row))
+    → id ≡ c.id → map row_element rows ≡ filter (names_container id) list → option_copied r ≡ slice_get rows 0 → r ≡ None → first_text list c ≡ None
 first_text-None list c id rows r is under first none =
     sym (first_text-is list c id rows r is under first) ∙ ap (option_map (λ (row : Bor Row). row.now.element.now.id)) none
 
-pub first_text-Some : (list : List Drawn) (c : Drawn) (id : List ℕ) (rows : List Row) (r : Option (Bor Row)) (row : Bor Row)
-    → id ≡ c.id → map element_of rows ≡ filter (names_container id) list → option_copied r ≡ slice_get rows 0 → r ≡ Some row → first_text list c ≡ Some row.now.element.now.id
+pub first_text-Some : (list : List ElementValue) (c : ElementValue) (id : List ℕ) (rows : List Row) (r : Option (Bor Row)) (row : Bor Row)
+    → id ≡ c.id → map row_element rows ≡ filter (names_container id) list → option_copied r ≡ slice_get rows 0 → r ≡ Some row → first_text list c ≡ Some row.now.element.now.id
 first_text-Some list c id rows r row is under first some =
     sym (first_text-is list c id rows r is under first) ∙ ap (option_map (λ (row : Bor Row). row.now.element.now.id)) some
 
-pub text_entry-is : (list : List Drawn) (c : Drawn) (id : List ℕ) (entry : BoundRef) → id ≡ c.id → is_for_text entry.role ≡ true
+pub text_entry-is : (list : List ElementValue) (c : ElementValue) (id : List ℕ) (entry : BoundRef) → id ≡ c.id → is_for_text entry.role ≡ true
     → list_any (λ e. has_id entry.id e && names_container id e) list ≡ is_text_entry list c entry
 text_entry-is list c id entry is for_text =
     ap (λ i. list_any (λ e. has_id entry.id e && names_container i e) list) is
     ∙ ap (λ b. b && list_any (λ e. has_id entry.id e && names_container c.id e) list) (sym for_text)
 
-pub keeps_container-is : (list : List Drawn) (e : Drawn) (rows : List Row) → IsTable (is_text_of list) list rows
-    → list_any (λ (container : Drawn). names_container container.id e) (elements_under e.id rows) ≡ keeps_container list e
+pub keeps_container-is : (list : List ElementValue) (e : ElementValue) (rows : List Row) → IsTable (is_text_of list) list rows
+    → list_any (λ (container : ElementValue). names_container container.id e) (elements_under e.id rows) ≡ keeps_container list e
 unfolding keeps_container
 keeps_container-is list e rows table =
-    ap (list_any (λ (container : Drawn). names_container container.id e)) (table.found e.id)
+    ap (list_any (λ (container : ElementValue). names_container container.id e)) (table.found e.id)
     ∙ list_any-filter (is_text_of list e.id) (λ container. names_container container.id e) list
 
 -- ---- the text of a container
-pub held : (list : List Drawn) (c : Drawn) → can_hold_text c.kind ≡ true → text_of list c ≡ option_or (listed_text list c) (first_text list c)
+pub held : (list : List ElementValue) (c : ElementValue) → can_hold_text c.kind ≡ true → text_of list c ≡ option_or (listed_text list c) (first_text list c)
 unfolding text_of
 held list c h = cond-true (can_hold_text c.kind) (option_or (listed_text list c) (first_text list c)) None h
 
-pub not_held : (list : List Drawn) (c : Drawn) → can_hold_text c.kind ≡ false → text_of list c ≡ None
+pub not_held : (list : List ElementValue) (c : ElementValue) → can_hold_text c.kind ≡ false → text_of list c ≡ None
 unfolding text_of
 not_held list c h = cond-false (can_hold_text c.kind) (option_or (listed_text list c) (first_text list c)) None h
 
-pub text_of-listed : (list : List Drawn) (c : Drawn) (id : List ℕ) → can_hold_text c.kind ≡ true → listed_text list c ≡ Some id → Some id ≡ text_of list c
+pub text_of-listed : (list : List ElementValue) (c : ElementValue) (id : List ℕ) → can_hold_text c.kind ≡ true → listed_text list c ≡ Some id → Some id ≡ text_of list c
 text_of-listed list c id h listed = sym (held list c h ∙ ap (λ o. option_or o (first_text list c)) listed)
 
-pub text_of-first : (list : List Drawn) (c : Drawn) → can_hold_text c.kind ≡ true → listed_text list c ≡ None → first_text list c ≡ text_of list c
+pub text_of-first : (list : List ElementValue) (c : ElementValue) → can_hold_text c.kind ≡ true → listed_text list c ≡ None → first_text list c ≡ text_of list c
 text_of-first list c h listed = sym (held list c h ∙ ap (λ o. option_or o (first_text list c)) listed)
 
 -- ---- arrows that are bound to an element
@@ -159,13 +160,13 @@ list_any-none : {X : Type 0} (p : X → Bool) (xs : List X) → ((x : X) → p x
 list_any-none p [] h = refl
 list_any-none p (x ∷ xs) h = ap (λ b. b || list_any p xs) (h x) ∙ list_any-none p xs h
 
-pub bound_arrow-is : (list : List Drawn) (e : Drawn) (id arrow : List ℕ) → id ≡ e.id → is_target e ≡ true
+pub bound_arrow-is : (list : List ElementValue) (e : ElementValue) (id arrow : List ℕ) → id ≡ e.id → is_target e ≡ true
     → list_any (λ a. has_id arrow a && has_end_at id a) list ≡ is_true_as Arrow list e arrow
 bound_arrow-is list e id arrow is target =
     ap (λ i. list_any (λ a. has_id arrow a && has_end_at i a) list) is
     ∙ ap (λ b. list_any (λ a. has_id arrow a && (b && has_end_at e.id a)) list) (sym target)
 
-pub bound_arrow-none : (list : List Drawn) (e : Drawn) (arrow : List ℕ) → is_target e ≡ false → false ≡ is_true_as Arrow list e arrow
+pub bound_arrow-none : (list : List ElementValue) (e : ElementValue) (arrow : List ℕ) → is_target e ≡ false → false ≡ is_true_as Arrow list e arrow
 bound_arrow-none list e arrow target =
     sym (list_any-none (λ a. has_id arrow a && is_bound_to e a) list (λ a. ap (λ b. has_id arrow a && (b && has_end_at e.id a)) target ∙ and_false (has_id arrow a)))
   where
@@ -177,38 +178,38 @@ filter-none : {X : Type 0} (xs : List X) → filter (λ _. false) xs ≡ []
 filter-none [] = refl
 filter-none (x ∷ xs) = filter-none xs
 
-pub arrow_entries-none : (list : List Drawn) (e : Drawn) → is_target e ≡ false → arrow_entries list e ≡ []
+pub arrow_entries-none : (list : List ElementValue) (e : ElementValue) → is_target e ≡ false → arrow_entries list e ≡ []
 arrow_entries-none list e target =
-    ap (λ b. map (λ (arrow : Drawn). arrow_entry arrow.id) (filter (λ a. b && has_end_at e.id a) list)) target
-    ∙ ap (map (λ (arrow : Drawn). arrow_entry arrow.id)) (filter-none list)
+    ap (λ b. map (λ (arrow : ElementValue). arrow_entry arrow.id) (filter (λ a. b && has_end_at e.id a) list)) target
+    ∙ ap (map (λ (arrow : ElementValue). arrow_entry arrow.id)) (filter-none list)
 
 -- ---- loops that add entries
 pub with_entries-row : (start : List BoundRef) (rows : List Row) (i : ℕ) (row : Row) (id : List ℕ) (entries new : List BoundRef) → i < length rows → row ≡ get_or rows i row
-    → id ≡ row.element.now.id → entries ≡ with_entries start (map (λ (e : Drawn). arrow_entry e.id) (map element_of (take i rows))) → new ≡ with_entry entries (arrow_entry id)
-    → new ≡ with_entries start (map (λ (e : Drawn). arrow_entry e.id) (map element_of (take (i + 1) rows)))
+    → id ≡ row.element.now.id → entries ≡ with_entries start (map (λ (e : ElementValue). arrow_entry e.id) (map row_element (take i rows))) → new ≡ with_listing_entry entries (arrow_entry id)
+    → new ≡ with_entries start (map (λ (e : ElementValue). arrow_entry e.id) (map row_element (take (i + 1) rows)))
 with_entries-row start rows i row id entries new l is same so_far added =
     let more : take (i + 1) rows ≡ take i rows ++ row ∷ [] = take_more rows i row l ∙ ap (λ r. take i rows ++ r ∷ []) (sym is) in
-    added ∙ ap₂ with_entry so_far (ap arrow_entry same)
-    ∙ sym (with_entries-push start (map (λ (e : Drawn). arrow_entry e.id) (map element_of (take i rows))) (arrow_entry row.element.now.id))
-    ∙ ap (with_entries start) (sym (ap (λ rs. map (λ (e : Drawn). arrow_entry e.id) (map element_of rs)) more
-    ∙ ap (map (λ (e : Drawn). arrow_entry e.id)) (map-append element_of (take i rows) (row ∷ []))
-    ∙ map-append (λ (e : Drawn). arrow_entry e.id) (map element_of (take i rows)) (element_of row ∷ [])))
+    added ∙ ap₂ with_listing_entry so_far (ap arrow_entry same)
+    ∙ sym (with_entries-push start (map (λ (e : ElementValue). arrow_entry e.id) (map row_element (take i rows))) (arrow_entry row.element.now.id))
+    ∙ ap (with_entries start) (sym (ap (λ rs. map (λ (e : ElementValue). arrow_entry e.id) (map row_element rs)) more
+    ∙ ap (map (λ (e : ElementValue). arrow_entry e.id)) (map-append row_element (take i rows) (row ∷ []))
+    ∙ map-append (λ (e : ElementValue). arrow_entry e.id) (map row_element (take i rows)) (row_element row ∷ [])))
 
 module _ (p : BoundRef → Bool) (xs : List BoundRef) (i : ℕ) (x : BoundRef) (entries new : List BoundRef) (l : i < length xs) (is : x ≡ get_or xs i x)
     (so_far : entries ≡ first_occurrences (filter p (take i xs))) where
   kept_more : filter p (take (i + 1) xs) ≡ filter p (take i xs) ++ cond (p x) (x ∷ []) []
   kept_more = filter_more p xs i x l ∙ ap (λ (y : BoundRef). filter p (take i xs) ++ cond (p y) (y ∷ []) []) (sym is)
 
-  pub first_occurrences-kept : p x ≡ true → new ≡ with_entry entries x → new ≡ first_occurrences (filter p (take (i + 1) xs))
+  pub first_occurrences-kept : p x ≡ true → new ≡ with_listing_entry entries x → new ≡ first_occurrences (filter p (take (i + 1) xs))
   first_occurrences-kept h added =
-      added ∙ ap (λ ys. with_entry ys x) so_far ∙ sym (first_occurrences-push (filter p (take i xs)) x)
+      added ∙ ap (λ ys. with_listing_entry ys x) so_far ∙ sym (first_occurrences-push (filter p (take i xs)) x)
       ∙ ap first_occurrences (sym (kept_more ∙ ap (λ b. filter p (take i xs) ++ cond b (x ∷ []) []) h))
 
   pub first_occurrences-left : p x ≡ false → entries ≡ first_occurrences (filter p (take (i + 1) xs))
   first_occurrences-left h =
       so_far ∙ ap first_occurrences (sym (kept_more ∙ ap (λ b. filter p (take i xs) ++ cond b (x ∷ []) []) h ∙ append-nil (filter p (take i xs))))
 
-pub listing-made : (list : List Drawn) (e : Drawn) (own entries : List BoundRef) → own ≡ first_occurrences (filter (is_true_entry list e) e.bound)
+pub listing-made : (list : List ElementValue) (e : ElementValue) (own entries : List BoundRef) → own ≡ first_occurrences (filter (is_true_entry list e) e.bound)
     → entries ≡ with_entries own (arrow_entries list e) → with_entries entries (text_entries (text_of list e)) ≡ listing list e
 unfolding listing
 listing-made list e own entries is made =

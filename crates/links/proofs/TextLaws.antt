@@ -5,8 +5,9 @@ use Rattle.std.specs.Option.{option_map, option_or}
 use Rattle.std.proofs.lemmas.Bool.{and_parts, and_from, cases_Bool, cond-true}
 use Rattle.std.proofs.lemmas.Slice.Eq.{bytes_eq-Decides}
 use Rattle.elem.specs.declared.parts.BoundRef.{BoundRef}
-use Rattle.elem.specs.Drawn.{Drawn}
-use Rattle.links.specs.Names.{has_id, id_of, is_text, is_id, can_hold_text, names_container, HaveDistinctIds}
+use Rattle.elem.specs.ElementValue.{ElementValue}
+use Rattle.elem.specs.Order.{has_id}
+use Rattle.links.specs.Names.{id_of, is_text, is_id, can_hold_text, names_container, HaveDistinctIds}
 use Rattle.links.specs.Texts.{is_for_text, is_text_entry, listed_text, first_text, text_of, is_text_of, keeps_container, with_settled_container, settled_texts}
 use Rattle.links.proofs.Members.{same_bools, bytes_eq-refl, map-same, map-map, find-map, list_any-from, list_any-found, list_any-same, list_any-and, find-Some, find-narrow, one_of_id}
 use Rattle.links.proofs.Tabled.{list_any-map, held, not_held}
@@ -19,14 +20,14 @@ pub is_id-true : (id : List ℕ) (o : Option (List ℕ)) → is_id id o ≡ true
 is_id-true id None h = cc
 is_id-true id (Some other) h = ap Some (sym ((bytes_eq-Decides id other).0 h))
 
-pub names-one : (e : Drawn) (a b : List ℕ) → names_container a e ≡ true → names_container b e ≡ true → a ≡ b
+pub names-one : (e : ElementValue) (a b : List ℕ) → names_container a e ≡ true → names_container b e ≡ true → a ≡ b
 names-one e a b h k =
     let first = is_id-true a e.container (and_parts (is_text e.kind) (is_id a e.container) h).1 in
     let second = is_id-true b e.container (and_parts (is_text e.kind) (is_id b e.container) k).1 in
     cc (sym first ∙ second)
 
 -- ---- the text of a container names it
-stands_from : (list : List Drawn) (c : Drawn) (id : List ℕ) (l : Option BoundRef) (f : Option Drawn) → find (is_text_entry list c) c.bound ≡ l → find (names_container c.id) list ≡ f
+stands_from : (list : List ElementValue) (c : ElementValue) (id : List ℕ) (l : Option BoundRef) (f : Option ElementValue) → find (is_text_entry list c) c.bound ≡ l → find (names_container c.id) list ≡ f
     → option_or (option_map (λ (entry : BoundRef). entry.id) l) (option_map id_of f) ≡ Some id → list_any (λ text. has_id id text && names_container c.id text) list ≡ true
 stands_from list c id (Some entry) f listed first is =
     let passes = (find-Some (is_text_entry list c) c.bound entry listed).1 in
@@ -38,7 +39,7 @@ stands_from list c id None (Some text) listed first is =
     (and_from (has_id id text) (names_container c.id text) ((bytes_eq-Decides id text.id).1 (cc)) found.1)
 stands_from list c id None None listed first is = cc
 
-pub text_of-stands : (list : List Drawn) (c : Drawn) (id : List ℕ) → text_of list c ≡ Some id → list_any (λ text. has_id id text && names_container c.id text) list ≡ true
+pub text_of-stands : (list : List ElementValue) (c : ElementValue) (id : List ℕ) → text_of list c ≡ Some id → list_any (λ text. has_id id text && names_container c.id text) list ≡ true
 text_of-stands list c id h =
     elim (cases_Bool (can_hold_text c.kind)) [
       | inl t ↦ stands_from list c id _ _ refl refl (sym (held list c t) ∙ h)
@@ -50,8 +51,8 @@ cond-none true o = refl
 cond-none false o = refl
 
 -- ---- a settled list of texts
-module _ (list : List Drawn) (distinct : HaveDistinctIds list) where
-  names-settled : (id : List ℕ) (e : Drawn) → names_container id (with_settled_container list e) ≡ (names_container id e && keeps_container list e)
+module _ (list : List ElementValue) (distinct : HaveDistinctIds list) where
+  names-settled : (id : List ℕ) (e : ElementValue) → names_container id (with_settled_container list e) ≡ (names_container id e && keeps_container list e)
   names-settled id e =
       elim (keeps_container list e) as (λ b. (is_text e.kind && is_id id (cond b e.container None)) ≡ ((is_text e.kind && is_id id e.container) && b)) [
         | true ↦ sym (and_true (is_text e.kind && is_id id e.container))
@@ -67,7 +68,7 @@ module _ (list : List Drawn) (distinct : HaveDistinctIds list) where
       and_false false = refl
 
   -- a text keeps a container of the list that it names exactly if it is that container's text
-  pub keeps-at : (c e : Drawn) → Contains list c → names_container c.id e ≡ true → keeps_container list e ≡ is_id e.id (text_of list c)
+  pub keeps-at : (c e : ElementValue) → Contains list c → names_container c.id e ≡ true → keeps_container list e ≡ is_id e.id (text_of list c)
   unfolding keeps_container
   keeps-at c e there named =
       same_bools _ _
@@ -89,10 +90,10 @@ module _ (list : List Drawn) (distinct : HaveDistinctIds list) where
   and_assoc true b d = refl
   and_assoc false b d = refl
 
-  entry-settled : (c : Drawn) (entry : BoundRef) → Contains list c
+  entry-settled : (c : ElementValue) (entry : BoundRef) → Contains list c
       → is_text_entry (settled_texts list) (with_settled_container list c) entry ≡ (is_text_entry list c entry && is_id entry.id (text_of list c))
   entry-settled c entry there =
-      let one = λ (t : Drawn). has_id entry.id t && names_container c.id t in
+      let one = λ (t : ElementValue). has_id entry.id t && names_container c.id t in
       let own = is_id entry.id (text_of list c) in
       ap (λ b. is_for_text entry.role && b)
       (list_any-map (with_settled_container list) (λ t. has_id entry.id t && names_container c.id t) list
@@ -107,7 +108,7 @@ module _ (list : List Drawn) (distinct : HaveDistinctIds list) where
   and_both a b h = (and_parts a b h).0
 
   -- so a container has the text that it had
-  module _ (c : Drawn) (there : Contains list c) (holds : can_hold_text c.kind ≡ true) where
+  module _ (c : ElementValue) (there : Contains list c) (holds : can_hold_text c.kind ≡ true) where
     listed-settled : find (is_text_entry (settled_texts list) (with_settled_container list c)) c.bound ≡ find (is_text_entry list c) c.bound
     listed-settled =
         find-narrow (is_text_entry list c) (is_text_entry (settled_texts list) (with_settled_container list c)) c.bound
@@ -119,7 +120,7 @@ module _ (list : List Drawn) (distinct : HaveDistinctIds list) where
 
     first-settled : find (is_text_entry list c) c.bound ≡ None → first_text (settled_texts list) (with_settled_container list c) ≡ first_text list c
     first-settled none =
-        let q = λ (t : Drawn). names_container c.id (with_settled_container list t) in
+        let q = λ (t : ElementValue). names_container c.id (with_settled_container list t) in
         let is_first : text_of list c ≡ first_text list c = held list c holds ∙ ap (λ o. option_or (option_map (λ (x : BoundRef). x.id) o) (first_text list c)) none in
         ap (option_map id_of) (find-map (names_container c.id) (with_settled_container list) list)
         ∙ same_id (find q list)
@@ -129,7 +130,7 @@ module _ (list : List Drawn) (distinct : HaveDistinctIds list) where
         names-settled c.id t ∙ and_from (names_container c.id t) (keeps_container list t) found.1
         (keeps-at c t there found.1 ∙ is_id-from t.id (text_of list c) (is_first ∙ ap (option_map id_of) h))))
       where
-        same_id : (o : Option Drawn) → option_map id_of (option_map (with_settled_container list) o) ≡ option_map id_of o
+        same_id : (o : Option ElementValue) → option_map id_of (option_map (with_settled_container list) o) ≡ option_map id_of o
         same_id None = refl
         same_id (Some t) = refl
 
@@ -144,7 +145,7 @@ module _ (list : List Drawn) (distinct : HaveDistinctIds list) where
         ap (λ o. option_or (option_map id o) (first_text (settled_texts list) (with_settled_container list c))) (listed-settled ∙ is)
         ∙ first-settled is ∙ sym (ap (λ o. option_or (option_map id o) (first_text list c)) is)
 
-  pub text_of-settled : (c : Drawn) → Contains list c → text_of (settled_texts list) (with_settled_container list c) ≡ text_of list c
+  pub text_of-settled : (c : ElementValue) → Contains list c → text_of (settled_texts list) (with_settled_container list c) ≡ text_of list c
   text_of-settled c there =
       elim (cases_Bool (can_hold_text c.kind)) [
         | inl t ↦ held (settled_texts list) (with_settled_container list c) t ∙ settled_from c there t _ refl ∙ sym (held list c t)
@@ -152,7 +153,7 @@ module _ (list : List Drawn) (distinct : HaveDistinctIds list) where
       ]
 
   -- a text that keeps its container still does
-  keeps-settled : (e : Drawn) → keeps_container list e ≡ true → keeps_container (settled_texts list) (with_settled_container list e) ≡ true
+  keeps-settled : (e : ElementValue) → keeps_container list e ≡ true → keeps_container (settled_texts list) (with_settled_container list e) ≡ true
   unfolding keeps_container
   keeps-settled e keeps =
       let found = list_any-found (λ container. is_text_of list e.id container && names_container container.id e) list keeps in
@@ -162,7 +163,7 @@ module _ (list : List Drawn) (distinct : HaveDistinctIds list) where
       (and_from _ _ (ap (is_id e.id) (text_of-settled found.0 found.1) ∙ parts.0)
       (names-settled found.0.id e ∙ and_from (names_container found.0.id e) (keeps_container list e) parts.1 keeps))
 
-  container-settled : (e : Drawn) → (b : Bool) → keeps_container list e ≡ b
+  container-settled : (e : ElementValue) → (b : Bool) → keeps_container list e ≡ b
       → cond (keeps_container (settled_texts list) (with_settled_container list e)) (cond b e.container None) None ≡ cond b e.container None
   container-settled e true keeps = cond-true (keeps_container (settled_texts list) (with_settled_container list e)) e.container None (keeps-settled e keeps)
   container-settled e false keeps = cond-none (keeps_container (settled_texts list) (with_settled_container list e)) None

@@ -12,8 +12,8 @@ same_role Text Arrow = false
 same_role Text Text = true
 
 -- whether two entries are the same
-abbrev pub same_entry : BoundRef → BoundRef → Bool
-same_entry entry other = same_role entry.role other.role && bytes_eq entry.id other.id
+abbrev pub same_listing_entry : BoundRef → BoundRef → Bool
+same_listing_entry entry other = same_role entry.role other.role && bytes_eq entry.id other.id
 
 -- the entry of an arrow, and that of a text
 abbrev pub arrow_entry : List ℕ → BoundRef
@@ -24,9 +24,9 @@ text_entry id = record { id = id; role = Text }
 
 -- whether entries have this one
 abbrev pub lists : List BoundRef → BoundRef → Bool
-lists entries entry = list_any (same_entry entry) entries
+lists entries entry = list_any (same_listing_entry entry) entries
 
 -- the first occurrences of entries, in their order: an entry, and those behind it that are other ones
 abbrev pub first_occurrences : List BoundRef → List BoundRef
 first_occurrences [] = []
-first_occurrences (entry ∷ entries) = entry ∷ filter (λ other. not (same_entry entry other)) (first_occurrences entries)
+first_occurrences (entry ∷ entries) = entry ∷ filter (λ other. not (same_listing_entry entry other)) (first_occurrences entries)

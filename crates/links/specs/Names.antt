@@ -5,17 +5,13 @@ use Rattle.std.specs.List.{IsDistinct}
 use Rattle.elem.specs.declared.kind.Kind.{Kind}
 use Rattle.elem.specs.declared.kind.Kind.TheVariants.{Rectangle, Diamond, Ellipse, Arrow, Line, Freedraw, Text, Image, Frame, Magicframe, Iframe, Embeddable, Other}
 use Rattle.elem.specs.declared.parts.Binding.{Binding}
-use Rattle.elem.specs.Drawn.{Drawn}
+use Rattle.elem.specs.ElementValue.{ElementValue}
 
--- whether an element is of an id, and the id of an element
-abbrev pub has_id : List ℕ → Drawn → Bool
-has_id id e = bytes_eq id e.id
-
-abbrev pub id_of : Drawn → List ℕ
+abbrev pub id_of : ElementValue → List ℕ
 id_of e = e.id
 
 -- no two elements have one id
-abbrev pub HaveDistinctIds : List Drawn → Type 0
+abbrev pub HaveDistinctIds : List ElementValue → Type 0
 HaveDistinctIds elements = IsDistinct bytes_eq (map id_of elements)
 
 abbrev pub is_text : Kind → Bool
@@ -87,7 +83,7 @@ is_id id None = false
 is_id id (Some other) = bytes_eq id other
 
 -- whether an element is a text that names one of this id as its container
-abbrev pub names_container : List ℕ → Drawn → Bool
+abbrev pub names_container : List ℕ → ElementValue → Bool
 names_container id e = is_text e.kind && is_id id e.container
 
 -- what an end is bound to, and whether that is an element of this id
@@ -99,9 +95,9 @@ abbrev pub end_names : List ℕ → Option Binding → Bool
 end_names id end' = is_id id (target_of end')
 
 -- whether an element is an arrow with an end that names one of this id
-abbrev pub has_end_at : List ℕ → Drawn → Bool
+abbrev pub has_end_at : List ℕ → ElementValue → Bool
 has_end_at id e = is_arrow e.kind && (end_names id e.start_binding || end_names id e.end_binding)
 
 -- Whether an element is a bindable target: its kind may be bound to, and it has no container, as a text may.
-abbrev pub is_target : Drawn → Bool
+abbrev pub is_target : ElementValue → Bool
 is_target e = can_be_bound_to e.kind && is_none e.container

@@ -3,7 +3,7 @@ use Rattle.std.specs.Prelude.{◌≡◌, ℕ, ◌-◌, ◌<◌, ◌≤◌, min, 
 use Rattle.std.specs.List.{list_any}
 use Rattle.frac_keys.specs.Keys.{bytes_less}
 use Rattle.first_texts.specs.FirstOccurrences.{first_occurrences}
-use Rattle.elem.specs.Drawn.{Drawn}
+use Rattle.elem.specs.ElementValue.{ElementValue}
 use Rattle.links.specs.declared.rows.LinkRow.{LinkRow}
 use Rattle.links.specs.Names.{target_of}
 
@@ -13,14 +13,14 @@ id_there None = []
 id_there (Some id) = id ∷ []
 
 -- the ids that an element names: its container's, its frame's and those that its ends are bound to, each once
-abbrev pub named_ids : Drawn → List (List ℕ)
+abbrev pub named_ids : ElementValue → List (List ℕ)
 named_ids e = first_occurrences (id_there e.container ++ (id_there e.frame ++ (id_there (target_of e.start_binding) ++ id_there (target_of e.end_binding))))
 
 -- the row of an id that an element names, and the rows of all of them
-abbrev pub row_of : Drawn → List ℕ → LinkRow
+abbrev pub row_of : ElementValue → List ℕ → LinkRow
 row_of e id = record { named = id; namer = e.id }
 
-abbrev pub rows_of : Drawn → List LinkRow
+abbrev pub rows_of : ElementValue → List LinkRow
 rows_of e = map (row_of e) (named_ids e)
 
 -- whether two rows are the same, and whether rows have one

@@ -1,22 +1,23 @@
 -- How elements stand apart by who names whom. This project's own.
 use Rattle.std.specs.Prelude.{ℕ, zero, suc, List, Bool, ◌&&◌, ◌||◌, filter}
 use Rattle.std.specs.List.{list_any}
-use Rattle.elem.specs.Drawn.{Drawn}
-use Rattle.links.specs.Names.{has_id, is_id, end_names}
+use Rattle.elem.specs.ElementValue.{ElementValue}
+use Rattle.elem.specs.Order.{has_id}
+use Rattle.links.specs.Names.{is_id, end_names}
 
 -- whether an element's container, its frame or one of its ends names this id
-abbrev pub names_id : List ℕ → Drawn → Bool
+abbrev pub names_id : List ℕ → ElementValue → Bool
 names_id id e = (is_id id e.container || is_id id e.frame) || (end_names id e.start_binding || end_names id e.end_binding)
 
 -- whether two elements are one step of naming apart: one of them names the other
-abbrev pub is_one_step : Drawn → Drawn → Bool
+abbrev pub is_one_step : ElementValue → ElementValue → Bool
 is_one_step e other = names_id other.id e || names_id e.id other
 
 -- whether an element is of this id, or at most so many steps of naming from the element of the list that is
-unfoldable pub is_within : ℕ → List Drawn → List ℕ → Drawn → Bool
+unfoldable pub is_within : ℕ → List ElementValue → List ℕ → ElementValue → Bool
 is_within zero list id e = has_id id e
 is_within (suc n) list id e = is_within n list id e || list_any (λ other. is_within n list id other && is_one_step other e) list
 
 -- the elements of the list at most three steps of naming from an id
-abbrev pub near : List Drawn → List ℕ → List Drawn
+abbrev pub near : List ElementValue → List ℕ → List ElementValue
 near list id = filter (is_within 3 list id) list

@@ -3,42 +3,43 @@
 use Rattle.std.specs.Prelude.{◌≡◌, ℕ, List, [], ◌∷◌, ◌++◌, Bool, None, filter, map, bytes_eq, if◌then◌else◌}
 use Rattle.std.specs.List.Sorted.{IsSortedBy}
 use Rattle.frac_keys.specs.Keys.{bytes_less}
-use Rattle.elem.specs.Drawn.{Drawn}
+use Rattle.elem.specs.ElementValue.{ElementValue}
 use Rattle.std.specs.BTreeSet.{BTreeSet}
 use Rattle.std.specs.Cmp.Lexicographic.{slice_cmp}
 use Rattle.std.specs.List.{list_any}
 use Rattle.std.specs.Ordering.{is_eq, nat_cmp}
 use Rattle.elem.specs.declared.parts.BoundRef.{BoundRef}
+use Rattle.elem.specs.Order.{has_id}
 use Rattle.links.specs.declared.arrows.Links.{Links}
 use Rattle.links.specs.declared.table.Row.{Row}
 use Rattle.links.specs.Arrows.{names_target, listing}
 use Rattle.links.specs.Entries.{lists, arrow_entry, text_entry}
-use Rattle.links.specs.Names.{has_id, target_of, names_container, has_end_at}
+use Rattle.links.specs.Names.{target_of, names_container, has_end_at}
 
 abbrev pub is_under : List ℕ → Row → Bool
 is_under key row = bytes_eq key row.key.now
 
-abbrev pub element_of : Row → Drawn
-element_of row = row.element.now
+abbrev pub row_element : Row → ElementValue
+row_element row = row.element.now
 
 abbrev pub row_less : Row → Row → Bool
 row_less row other = bytes_less row.key.now other.key.now
 
 -- the elements under an id
-abbrev pub elements_under : List ℕ → List Row → List Drawn
-elements_under key rows = map element_of (filter (is_under key) rows)
+abbrev pub elements_under : List ℕ → List Row → List ElementValue
+elements_under key rows = map row_element (filter (is_under key) rows)
 
 -- The new rows have one more element, under each id that it names.
-pub record Adds (names : List ℕ → Drawn → Bool) (e : Drawn) (old new : List Row) : Type 0 where
+pub record Adds (names : List ℕ → ElementValue → Bool) (e : ElementValue) (old new : List Row) : Type 0 where
   pub each : (key : List ℕ) → elements_under key new ≡ elements_under key old ++ (if names key e then e ∷ [] else [])
 
 -- These rows have under each id the elements of the list that name it, in the list's order.
-pub record IsTable (names : List ℕ → Drawn → Bool) (list : List Drawn) (rows : List Row) : Type 0 where
+pub record IsTable (names : List ℕ → ElementValue → Bool) (list : List ElementValue) (rows : List Row) : Type 0 where
   pub ordered : IsSortedBy row_less rows
   pub found : (key : List ℕ) → elements_under key rows ≡ filter (names key) list
 
 -- the tables of a list: its elements by their ids, its texts by their containers, its arrows by what their ends name
-pub record AreTables (list : List Drawn) (by_id by_container by_end : List Row) : Type 0 where
+pub record AreTables (list : List ElementValue) (by_id by_container by_end : List Row) : Type 0 where
   pub ids : IsTable has_id list by_id
   pub texts : IsTable names_container list by_container
   pub arrows : IsTable has_end_at list by_end
@@ -48,12 +49,12 @@ abbrev pub has_seen : BTreeSet (List ℕ) → List ℕ → Bool
 has_seen seen id = list_any (λ key. is_eq (slice_cmp nat_cmp id key)) seen.keys
 
 -- entries and one more, which is added where it is missing
-abbrev pub with_entry : List BoundRef → BoundRef → List BoundRef
-with_entry entries entry = if lists entries entry then entries else entries ++ entry ∷ []
+abbrev pub with_listing_entry : List BoundRef → BoundRef → List BoundRef
+with_listing_entry entries entry = if lists entries entry then entries else entries ++ entry ∷ []
 
 abbrev pub with_entries : List BoundRef → List BoundRef → List BoundRef
 with_entries entries [] = entries
-with_entries entries (entry ∷ others) = with_entries (with_entry entries entry) others
+with_entries entries (entry ∷ others) = with_entries (with_listing_entry entries entry) others
 
 -- The ids that were seen are those of the entries.
 pub record AreSeen (entries : List BoundRef) (arrows texts : BTreeSet (List ℕ)) : Type 0 where
@@ -61,7 +62,7 @@ pub record AreSeen (entries : List BoundRef) (arrows texts : BTreeSet (List ℕ)
   pub text_ids : (id : List ℕ) → has_seen texts id ≡ lists entries (text_entry id)
 
 -- what settling an element's links changes: which ends it keeps, and its listing
-abbrev pub links_of : List Drawn → Drawn → Links
+abbrev pub links_of : List ElementValue → ElementValue → Links
 links_of list e = record {
   keeps_start = names_target list (target_of e.start_binding);
   keeps_end = names_target list (target_of e.end_binding);
@@ -69,10 +70,10 @@ links_of list e = record {
 }
 
 -- the element with its container or without, and with these links
-abbrev pub with_container : Drawn → Bool → Drawn
+abbrev pub with_container : ElementValue → Bool → ElementValue
 with_container e keeps = record e { container = if keeps then e.container else None }
 
-abbrev pub with_links : Drawn → Links → Drawn
+abbrev pub with_links : ElementValue → Links → ElementValue
 with_links e links = record e {
   start_binding = if links.keeps_start then e.start_binding else None;
   end_binding = if links.keeps_end then e.end_binding else None;

@@ -1,9 +1,10 @@
 //! Laws on settled links, for all lists of elements. They do nothing when they run.
 
 ghost use Rattle.std.specs.Prelude.{◌≡◌, ℕ, List, Bool, All, Contains, IsTrue, find, filter, map};
-ghost use Rattle.elem.specs.Drawn.{Drawn};
+ghost use Rattle.elem.specs.ElementValue.{ElementValue};
+ghost use Rattle.elem.specs.Order.{has_id};
 ghost use Rattle.links.specs.Arrows.{settled_arrows};
-ghost use Rattle.links.specs.Names.{has_id, HaveDistinctIds};
+ghost use Rattle.links.specs.Names.{HaveDistinctIds};
 ghost use Rattle.links.specs.Settled.{unlinked, unplaced, settled_links, ArrowsAgree, TextsAgree, HaveOneText, NameTargets};
 ghost use Rattle.links.specs.Steps.{is_within, near};
 ghost use Rattle.links.specs.Texts.{settled_texts};
@@ -12,41 +13,41 @@ ghost use Rattle.links.specs.Texts.{settled_texts};
 /// container exactly if the container lists it, an element lists one text at most, and each binding names a bindable
 /// target of the list.
 pub fn settled_links_agree()
-    ensures arrows { (list : List Drawn) → HaveDistinctIds list → ArrowsAgree (settled_links list) }
-    ensures texts { (list : List Drawn) → HaveDistinctIds list → TextsAgree (settled_links list) }
-    ensures one_text { (list : List Drawn) → HaveOneText (settled_links list) }
-    ensures targets { (list : List Drawn) → NameTargets (settled_links list) }
+    ensures arrows { (list : List ElementValue) → HaveDistinctIds list → ArrowsAgree (settled_links list) }
+    ensures texts { (list : List ElementValue) → HaveDistinctIds list → TextsAgree (settled_links list) }
+    ensures one_text { (list : List ElementValue) → HaveOneText (settled_links list) }
+    ensures targets { (list : List ElementValue) → NameTargets (settled_links list) }
 {}
 
 /// Elements that are settled and settled again stay as they are.
 pub fn settled_links_stay()
-    ensures texts { (list : List Drawn) → HaveDistinctIds list → settled_texts (settled_links list) ≡ settled_links list }
-    ensures arrows { (list : List Drawn) → settled_arrows (settled_links list) ≡ settled_links list }
-    ensures both { (list : List Drawn) → HaveDistinctIds list → settled_links (settled_links list) ≡ settled_links list }
+    ensures texts { (list : List ElementValue) → HaveDistinctIds list → settled_texts (settled_links list) ≡ settled_links list }
+    ensures arrows { (list : List ElementValue) → settled_arrows (settled_links list) ≡ settled_links list }
+    ensures both { (list : List ElementValue) → HaveDistinctIds list → settled_links (settled_links list) ≡ settled_links list }
 {}
 
 /// Settling changes listings, containers and bindings alone: order, ids, kinds, keys, stamps and all other parts stay.
 pub fn other_parts_stay()
-    ensures { (list : List Drawn) → map unlinked (settled_links list) ≡ map unlinked list }
+    ensures { (list : List ElementValue) → map unlinked (settled_links list) ≡ map unlinked list }
 {}
 
 /// Settling looks at ids, kinds, listings, containers and bindings alone: with other keys, stamps, groups, frames and
 /// further members it leaves the same.
 pub fn other_parts_play_no_part()
-    ensures { (list : List Drawn) → settled_links (map unplaced list) ≡ map unplaced (settled_links list) }
+    ensures { (list : List ElementValue) → settled_links (map unplaced list) ≡ map unplaced (settled_links list) }
 {}
 
 /// What settling makes of an element rests on the elements at most three steps of naming from it alone: where these are
 /// among the elements that are settled, it makes the same of it.
 pub fn three_steps_are_enough()
-    ensures { (list : List Drawn) (among : Drawn → Bool) (id : List ℕ)
+    ensures { (list : List ElementValue) (among : ElementValue → Bool) (id : List ℕ)
         → HaveDistinctIds list → All (λ e. IsTrue (among e)) (near list id)
         → find (has_id id) (settled_links (filter among list)) ≡ find (has_id id) (settled_links list) }
 {}
 
 /// Steps of naming lead back: an element is as near another one as that is to it.
 pub fn steps_lead_back()
-    ensures { (list : List Drawn) (n : ℕ) (e other : Drawn)
+    ensures { (list : List ElementValue) (n : ℕ) (e other : ElementValue)
         → HaveDistinctIds list → Contains list e → Contains list other
         → is_within n list e.id other ≡ is_within n list other.id e }
 {}

@@ -1,7 +1,7 @@
 //! A listing under way: entries, each once.
 
 ghost use Rattle.std.specs.Prelude.{◌≡◌, ℕ, List as Items, [], ◌∷◌, ◌++◌, not, ◌||◌, bytes_eq, IfOk, OnOk};
-ghost use Rattle.links.specs.Tables.{has_seen, with_entry, AreSeen};
+ghost use Rattle.links.specs.Tables.{has_seen, with_listing_entry, AreSeen};
 
 use elem::{BoundRef, Role};
 use scene_json::Text;
@@ -32,7 +32,7 @@ impl Listing {
     /// Adds an entry where it is missing.
     pub(crate) fn add(&mut self, id: &Text, role: Role) -> Result<(), AllocError>
         requires { AreSeen self.old.entries.items self.old.arrows self.old.texts }
-        ensures entries { OnOk result (self.new.entries.items ≡ with_entry self.old.entries.items (record { id = id.now; role = role })) }
+        ensures entries { OnOk result (self.new.entries.items ≡ with_listing_entry self.old.entries.items (record { id = id.now; role = role })) }
         ensures seen { OnOk result (AreSeen self.new.entries.items self.new.arrows self.new.texts) }
     {
         match role {

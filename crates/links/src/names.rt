@@ -2,8 +2,9 @@
 
 ghost use Rattle.std.specs.Prelude.{◌≡◌, filter, map, OnOk, IfOk};
 ghost use Rattle.std.specs.Option.{option_copied};
+ghost use Rattle.elem.specs.Order.{has_id};
 ghost use Rattle.links.specs.Names as words;
-ghost use Rattle.links.specs.Tables.{element_of, Adds};
+ghost use Rattle.links.specs.Tables.{row_element, Adds};
 
 use crate::parts::{container_of, id_of, is_arrow, is_text};
 use crate::table::{Row, rows_under, sorted};
@@ -23,10 +24,10 @@ pub(crate) struct Names<'a> {
 
 impl<'a> Model for Names<'a> {
     ghost use Rattle.std.specs.Prelude.{List as Items};
-    ghost use Rattle.elem.specs.Drawn.{Drawn};
+    ghost use Rattle.elem.specs.ElementValue.{ElementValue};
     ghost use Rattle.links.specs.Tables.{AreTables};
 
-    ghost Value = { Items Drawn };
+    ghost Value = { Items ElementValue };
 
     ghost view = { λ n. n.list.now.items };
 
@@ -63,21 +64,21 @@ impl<'a> Names<'a> {
 
     /// The elements of this id.
     pub(crate) fn of_id(&self, id: &Text) -> &[Row<'a>]
-        ensures { map element_of result.now ≡ filter (words.has_id id.now) self.now }
+        ensures { map row_element result.now ≡ filter (has_id id.now) self.now }
     {
         rows_under(&self.by_id, id)
     }
 
     /// The texts that name an element of this id as their container.
     pub(crate) fn in_container(&self, id: &Text) -> &[Row<'a>]
-        ensures { map element_of result.now ≡ filter (words.names_container id.now) self.now }
+        ensures { map row_element result.now ≡ filter (words.names_container id.now) self.now }
     {
         rows_under(&self.by_container, id)
     }
 
     /// The arrows that have an end at an element of this id.
     pub(crate) fn with_end_at(&self, id: &Text) -> &[Row<'a>]
-        ensures { map element_of result.now ≡ filter (words.has_end_at id.now) self.now }
+        ensures { map row_element result.now ≡ filter (words.has_end_at id.now) self.now }
     {
         rows_under(&self.by_end, id)
     }
@@ -85,7 +86,7 @@ impl<'a> Names<'a> {
 
 /// Adds an element under its id.
 fn add_id<'a>(rows: &mut Vec<Row<'a>>, element: &'a Element) -> Result<(), AllocError>
-    ensures { OnOk result (Adds words.has_id element.now rows.old.items rows.new.items) }
+    ensures { OnOk result (Adds has_id element.now rows.old.items rows.new.items) }
 {
     let key = id_of(element);
     rows.push(Row { key, element })?;

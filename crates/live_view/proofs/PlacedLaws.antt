@@ -9,7 +9,7 @@ use Rattle.std.specs.List.{list_all}
 use Rattle.frac_keys.specs.Rising.{is_key_or_none}
 use Rattle.index_repair.specs.Repair.{repaired}
 use Rattle.index_repair.proofs.RepairLaws.{repaired-law}
-use Rattle.elem.specs.Drawn.{Drawn}
+use Rattle.elem.specs.ElementValue.{ElementValue}
 use Rattle.elem_store.specs.Updates.{ids_of}
 use Rattle.view.specs.Settled.{unsettled, settled}
 use Rattle.view.specs.Shown.{in_scene_order, index_of, keyed, placed, shown, bare, without_index, HaveDistinctIds, HaveKeysOrNone}
@@ -17,12 +17,12 @@ use Rattle.view.proofs.SceneOrder.{IsPermutation-in_scene_order}
 use Rattle.view.proofs.SettledLaws.{map-less, unsettled-settled}
 use Rattle.view.proofs.ShownLaws.{shown-is}
 
-pub shown-distinct : (live : List Drawn) → HaveDistinctIds live → HaveKeysOrNone live → HaveDistinctIds (shown live)
+pub shown-distinct : (live : List ElementValue) → HaveDistinctIds live → HaveKeysOrNone live → HaveDistinctIds (shown live)
 shown-distinct live apart h =
     IsDistinct-IsPermutation bytes_eq nat_list_eq_equiv.symm (ids_of live) (ids_of (shown live)) (shown-is live h).ids apart
 
 -- there are as many keys as elements
-pub keys-count : (live : List Drawn) → HaveKeysOrNone live → length (repaired (map index_of (in_scene_order live))) ≡ length (in_scene_order live)
+pub keys-count : (live : List ElementValue) → HaveKeysOrNone live → length (repaired (map index_of (in_scene_order live))) ≡ length (in_scene_order live)
 keys-count live h =
     let ordered = in_scene_order live in
     let moved = IsPermutation-map index_of live ordered (IsPermutation-in_scene_order live) in
@@ -30,13 +30,13 @@ keys-count live h =
     (All-permutation (λ x. is_key_or_none x ≡ true) (map index_of live) (map index_of ordered) moved (AllPass-from_list_all is_key_or_none (map index_of live) h)) in
     (repaired-law (map index_of ordered) keys).count ∙ length-map ordered index_of
 
-pub others-keyed : (es : List Drawn) (keys : List (List ℕ)) → length keys ≡ length es → map without_index (keyed es keys) ≡ map without_index es
+pub others-keyed : (es : List ElementValue) (keys : List (List ℕ)) → length keys ≡ length es → map without_index (keyed es keys) ≡ map without_index es
 others-keyed [] keys h = refl
 others-keyed (e ∷ es) [] h = absurd (omega arith)
 others-keyed (e ∷ es) (key ∷ keys) h = ap (λ others. without_index e ∷ others) (others-keyed es keys (omega arith))
 
 -- what is shown of a live element is that element but for what settling and repair change
-pub bare-shown : (live : List Drawn) → HaveKeysOrNone live → map bare (shown live) ≡ map bare (in_scene_order live)
+pub bare-shown : (live : List ElementValue) → HaveKeysOrNone live → map bare (shown live) ≡ map bare (in_scene_order live)
 unfolding placed shown
 bare-shown live h =
     let ordered = in_scene_order live in

@@ -1,7 +1,7 @@
 //! A view that is kept.
 
 ghost use Rattle.std.specs.Prelude.{◌≡◌, List as Items, [], map, IsPermutation};
-ghost use Rattle.elem.specs.Drawn.{Drawn};
+ghost use Rattle.elem.specs.ElementValue.{ElementValue};
 ghost use Rattle.elem_store.specs.Updates.{ids_of};
 ghost use Rattle.view.specs.Settled.{AreSettled};
 ghost use Rattle.view.specs.Shown.{live_elements, shown, bare, HaveRisingKeys, IsSceneOrder};
@@ -23,10 +23,10 @@ pub struct LiveView {
 
 impl Model for LiveView {
     ghost use Rattle.std.specs.Prelude.{List as Items};
-    ghost use Rattle.elem.specs.Drawn.{Drawn};
+    ghost use Rattle.elem.specs.ElementValue.{ElementValue};
     ghost use Rattle.view.specs.Shown.{IsView};
 
-    ghost Value = { Items Drawn };
+    ghost Value = { Items ElementValue };
 
     ghost view = { λ v. v.live.items };
 
@@ -49,13 +49,13 @@ impl LiveView {
     pub fn elements(&self) -> &[Element]
         ensures exact { result.now ≡ shown self.now }
         ensures keys { HaveRisingKeys result.now }
-        ensures order { (ordered : Items Drawn) × IsSceneOrder self.now ordered × (ids_of result.now ≡ ids_of ordered) }
+        ensures order { (ordered : Items ElementValue) × IsSceneOrder self.now ordered × (ids_of result.now ≡ ids_of ordered) }
         ensures ids { IsPermutation (ids_of self.now) (ids_of result.now) }
         ensures others { IsPermutation (map bare self.now) (map bare result.now) }
         ensures settled { AreSettled result.now }
 
         // The view of these elements, in any order, is this view.
-        ensures again { (stored : Items Drawn) → IsPermutation result.now stored → shown (live_elements stored) ≡ result.now }
+        ensures again { (stored : Items ElementValue) → IsPermutation result.now stored → shown (live_elements stored) ≡ result.now }
     {
         self.shown.as_slice()
     }

@@ -4,8 +4,9 @@ use Rattle.std.specs.List.{cons_option, AllByRecursion}
 use Rattle.std.proofs.lemmas.Bool.{cases_Bool, and_parts, and_from, cond-true, cond-false}
 use Rattle.std.proofs.lemmas.Option.{none-some, same_Some}
 use Rattle.frac_keys.specs.Rising.{ends_rise, rise_between, are_rising}
-use Rattle.elem.specs.Drawn.{Drawn}
-use Rattle.elem_store.specs.Updates.{is_of, element_of, ids_of}
+use Rattle.elem.specs.ElementValue.{ElementValue}
+use Rattle.elem.specs.Order.{has_id}
+use Rattle.elem_store.specs.Updates.{element_of, ids_of}
 use Rattle.elem_store.proofs.Ids.{same_id}
 use Rattle.elem_store.proofs.Lists.{Contains-head, Contains-cons, Contains-cases, find-Some, filter-Contains}
 use Rattle.delta.specs.Pairs.{Pair, pair_with, pairs_from, exchanged}
@@ -27,22 +28,22 @@ abbrev pub AreOrdered : List (List Pair) → Type 0
 AreOrdered stack = AllByRecursion IsOrdered stack
 
 -- ---- elements with those before
-counted-id : (olds : List Drawn) (new : Drawn) (o : Option Drawn) → element_of olds new.id ≡ o → (counted o new).id ≡ new.id
+counted-id : (olds : List ElementValue) (new : ElementValue) (o : Option ElementValue) → element_of olds new.id ≡ o → (counted o new).id ≡ new.id
 counted-id olds new None found = refl
-counted-id olds new (Some old) found = sym (same_id new.id old (find-Some (is_of new.id) olds old found).1)
+counted-id olds new (Some old) found = sym (same_id new.id old (find-Some (has_id new.id) olds old found).1)
 
-pairs-same : (olds news : List Drawn) (pair : Pair) → Contains (pairs_from (element_of olds) news) pair → pair.before.id ≡ pair.after.id
+pairs-same : (olds news : List ElementValue) (pair : Pair) → Contains (pairs_from (element_of olds) news) pair → pair.before.id ≡ pair.after.id
 pairs-same olds news pair c =
-    let of = Contains-map (λ (e : Drawn). pair_with (element_of olds e.id) e) news pair c in
+    let of = Contains-map (λ (e : ElementValue). pair_with (element_of olds e.id) e) news pair c in
     subst (λ (p : Pair). p.before.id ≡ p.after.id) of.2 (counted-id olds of.0 (element_of olds of.0.id) refl)
 
-pairs-ordered : (olds news : List Drawn) → are_rising (ids_of news) ≡ true → IsOrdered (pairs_from (element_of olds) news)
+pairs-ordered : (olds news : List ElementValue) → are_rising (ids_of news) ≡ true → IsOrdered (pairs_from (element_of olds) news)
 pairs-ordered olds news rise = record {
   same = pairs-same olds news;
   rise = ap are_rising (ids-from (element_of olds) news) ∙ rise;
 }
 
-pub pending-ordered : (snapshot stored : List Drawn) → are_rising (ids_of stored) ≡ true → IsOrdered (pending snapshot stored)
+pub pending-ordered : (snapshot stored : List ElementValue) → are_rising (ids_of stored) ≡ true → IsOrdered (pending snapshot stored)
 pending-ordered snapshot stored rise = record {
   same = λ pair c. pairs-same snapshot stored pair (filter-Contains is_changed (pairs_from (element_of snapshot) stored) pair c).0;
   rise = pending-rise snapshot stored rise;
@@ -68,7 +69,7 @@ record AreSoughtOrdered (s : Sought) : Type 0 where
   below : AreOrdered s.below
   to : AreOrdered s.to
 
-sought-ordered : (stored : List Drawn) (stack to : List (List Pair)) (s : Sought) → AreOrdered stack → AreOrdered to → sought stored stack to ≡ Some s → AreSoughtOrdered s
+sought-ordered : (stored : List ElementValue) (stack to : List (List Pair)) (s : Sought) → AreOrdered stack → AreOrdered to → sought stored stack to ≡ Some s → AreSoughtOrdered s
 sought-ordered stored [] to s are are' h = absurd (none-some s h)
 sought-ordered stored (entry ∷ stack) to s are are' h =
     let here : Sought = record { entry = entry; below = stack; to = to } in
@@ -82,27 +83,27 @@ sought-ordered stored (entry ∷ stack) to s are are' h =
     ]
 
 -- ---- what a step gives
-module _ (stored : List Drawn) (time nonce : ℕ) where
-  now-id : (pairs : List Pair) (e : Drawn) (gives : IsGiven stored time nonce pairs e) → gives.now.id ≡ gives.pair.after.id
-  now-id pairs e gives = sym (same_id gives.pair.after.id gives.now (find-Some (is_of gives.pair.after.id) stored gives.now gives.found).1)
+module _ (stored : List ElementValue) (time nonce : ℕ) where
+  now-id : (pairs : List Pair) (e : ElementValue) (gives : IsGiven stored time nonce pairs e) → gives.now.id ≡ gives.pair.after.id
+  now-id pairs e gives = sym (same_id gives.pair.after.id gives.now (find-Some (has_id gives.pair.after.id) stored gives.now gives.found).1)
 
-  own-id : (pairs : List Pair) (e : Drawn) (gives : IsGiven stored time nonce pairs e) → e.id ≡ gives.now.id
-  own-id pairs e gives = ap (λ (x : Drawn). x.id) gives.is ∙ (undone-stamp gives.pair gives.now).id
+  own-id : (pairs : List Pair) (e : ElementValue) (gives : IsGiven stored time nonce pairs e) → e.id ≡ gives.now.id
+  own-id pairs e gives = ap (λ (x : ElementValue). x.id) gives.is ∙ (undone-stamp gives.pair gives.now).id
 
   -- it is one version on from the stored one of its id, and has the nonce
-  pub given-found : (pairs : List Pair) (e : Drawn) (gives : IsGiven stored time nonce pairs e) → element_of stored e.id ≡ Some gives.now
+  pub given-found : (pairs : List Pair) (e : ElementValue) (gives : IsGiven stored time nonce pairs e) → element_of stored e.id ≡ Some gives.now
   given-found pairs e gives = ap (element_of stored) (own-id pairs e gives ∙ now-id pairs e gives) ∙ gives.found
 
-  pub given-version : (pairs : List Pair) (e : Drawn) (gives : IsGiven stored time nonce pairs e) → e.version ≡ gives.now.version + 1
-  given-version pairs e gives = ap (λ (x : Drawn). x.version) gives.is ∙ ap (λ v. v + 1) (undone-stamp gives.pair gives.now).version
+  pub given-version : (pairs : List Pair) (e : ElementValue) (gives : IsGiven stored time nonce pairs e) → e.version ≡ gives.now.version + 1
+  given-version pairs e gives = ap (λ (x : ElementValue). x.version) gives.is ∙ ap (λ v. v + 1) (undone-stamp gives.pair gives.now).version
 
-  pub given-nonce : (pairs : List Pair) (e : Drawn) (gives : IsGiven stored time nonce pairs e) → e.nonce ≡ nonce
-  given-nonce pairs e gives = ap (λ (x : Drawn). x.nonce) gives.is
+  pub given-nonce : (pairs : List Pair) (e : ElementValue) (gives : IsGiven stored time nonce pairs e) → e.nonce ≡ nonce
+  given-nonce pairs e gives = ap (λ (x : ElementValue). x.nonce) gives.is
 
   -- what comes of a pair has its id
-  given-id : (pair : Pair) (e : Drawn) → given_of stored time nonce pair ≡ Some e → e.id ≡ pair.after.id
+  given-id : (pair : Pair) (e : ElementValue) → given_of stored time nonce pair ≡ Some e → e.id ≡ pair.after.id
   given-id pair e is =
-      let among : Contains (given stored time nonce (pair ∷ [])) e = subst (λ (o : Option Drawn). Contains (cons_option o []) e) (sym is) (Contains-head e []) in
+      let among : Contains (given stored time nonce (pair ∷ [])) e = subst (λ (o : Option ElementValue). Contains (cons_option o []) e) (sym is) (Contains-head e []) in
       let gives = given-each stored time nonce (pair ∷ []) e among in
       elim (Contains-cases pair [] gives.pair gives.among) [
         | inl same ↦ own-id (pair ∷ []) e gives ∙ now-id (pair ∷ []) e gives ∙ ap (λ (p : Pair). p.after.id) (sym same)
@@ -115,7 +116,7 @@ module _ (stored : List Drawn) (time nonce : ℕ) where
       let parts = and_parts (ends_rise a (Some pair.after.id)) (rise_between (Some pair.after.id) None (pair_ids pairs)) rise in
       go parts.0 (given-rising (Some pair.after.id) pairs parts.1) (given_of stored time nonce pair) refl
     where
-      go : ends_rise a (Some pair.after.id) ≡ true → rise_between (Some pair.after.id) None (ids_of (given stored time nonce pairs)) ≡ true → (o : Option Drawn) → given_of stored time nonce pair ≡ o
+      go : ends_rise a (Some pair.after.id) ≡ true → rise_between (Some pair.after.id) None (ids_of (given stored time nonce pairs)) ≡ true → (o : Option ElementValue) → given_of stored time nonce pair ≡ o
           → rise_between a None (ids_of (cons_option o (given stored time nonce pairs))) ≡ true
       go first rest None is = rise-lower a pair.after.id (ids_of (given stored time nonce pairs)) first rest
       go first rest (Some e) is =
@@ -126,7 +127,7 @@ module _ (stored : List Drawn) (time nonce : ℕ) where
   -- it gives elements in the order of their ids, of pairs of an entry, and leaves ordered entries
   pub record IsOrderedTurn (turn : Turn) : Type 0 where
     pub pairs : List Pair
-    pub gives : (e : Drawn) → Contains turn.given e → IsGiven stored time nonce pairs e
+    pub gives : (e : ElementValue) → Contains turn.given e → IsGiven stored time nonce pairs e
     pub rise : are_rising (ids_of turn.given) ≡ true
     pub from : AreOrdered turn.from
     pub to : AreOrdered turn.to

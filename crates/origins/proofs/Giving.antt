@@ -3,7 +3,7 @@
 use Rattle.std.proofs.Common.{◌≡◌, ℕ, ◌+◌, ◌<◌, true, List, [], ◌∷◌, ◌++◌, Option, Some, None, Result, Ok, Err, Contains, inl, inr, refl, sym, ap, ◌∙◌, subst, arith}
 use Rattle.std.proofs.lemmas.Option.{none-some, same_Some}
 use Rattle.frac_keys.specs.Rising.{are_rising}
-use Rattle.elem.specs.Drawn.{Drawn}
+use Rattle.elem.specs.ElementValue.{ElementValue}
 use Rattle.elem_store.specs.Updates.{element_of, ids_of, stored_of, AreStored}
 use Rattle.delta.specs.Pairs.{Pair}
 use Rattle.reconcile.specs.Ids.{free_elements}
@@ -25,12 +25,12 @@ use Rattle.session.proofs.SeatLaws.{outcome-stored, undo-stored, redo-stored}
 use Rattle.origins.proofs.Entries.{IsOrdered, AreOrdered, pending-ordered, given-found, given-version, given-nonce, IsOrderedTurn, turn-ordered}
 
 -- the ids of the elements rise, each has the nonce, and each is of a higher version than the stored one of its id
-pub record IsFresh (stored : List Drawn) (nonce : ℕ) (given : List Drawn) : Type 0 where
+pub record IsFresh (stored : List ElementValue) (nonce : ℕ) (given : List ElementValue) : Type 0 where
   pub rise : are_rising (ids_of given) ≡ true
-  pub nonces : (e : Drawn) → Contains given e → e.nonce ≡ nonce
-  pub newer : (e old : Drawn) → Contains given e → element_of stored e.id ≡ Some old → old.version < e.version
+  pub nonces : (e : ElementValue) → Contains given e → e.nonce ≡ nonce
+  pub newer : (e old : ElementValue) → Contains given e → element_of stored e.id ≡ Some old → old.version < e.version
 
-none-fresh : (stored : List Drawn) (nonce : ℕ) → IsFresh stored nonce []
+none-fresh : (stored : List ElementValue) (nonce : ℕ) → IsFresh stored nonce []
 none-fresh stored nonce = record {
   rise = refl;
   nonces = λ e c. absurd (omega (arith, c.1));
@@ -38,16 +38,16 @@ none-fresh stored nonce = record {
 }
 
 -- ---- a command
-module _ (stored shown : List Drawn) (command : Command) (time nonce : ℕ) where
-  created-nonce : (command : Command) (e : Drawn) → created shown command time nonce ≡ Some e → e.nonce ≡ nonce
-  created-nonce (commands.Create element spot) e is = ap (λ (d : Drawn). d.nonce) (sym (same_Some (created_at shown element spot time nonce) e is))
+module _ (stored shown : List ElementValue) (command : Command) (time nonce : ℕ) where
+  created-nonce : (command : Command) (e : ElementValue) → created shown command time nonce ≡ Some e → e.nonce ≡ nonce
+  created-nonce (commands.Create element spot) e is = ap (λ (d : ElementValue). d.nonce) (sym (same_Some (created_at shown element spot time nonce) e is))
   created-nonce command e is = absurd (none-some e is)
 
-  outcome-fresh : (given : List Drawn) → are_rising (ids_of stored) ≡ true → outcome stored shown command time nonce ≡ Ok given → IsFresh stored nonce given
+  outcome-fresh : (given : List ElementValue) → are_rising (ids_of stored) ≡ true → outcome stored shown command time nonce ≡ Ok given → IsFresh stored nonce given
   outcome-fresh given rise told = record {
     rise = given-rise stored shown command time nonce given told rise;
     nonces = λ e c. elim (given-cases stored shown command time nonce given told rise e c) [
-      | inl change ↦ ap (λ (d : Drawn). d.nonce) change.is
+      | inl change ↦ ap (λ (d : ElementValue). d.nonce) change.is
       | inr new ↦ created-nonce command e new.is
     ];
     newer = λ e old c found.
@@ -66,7 +66,7 @@ pub fresh-ready : IsReady fresh
 unfolding stored_of
 fresh-ready = record { stores = record { ordered = refl; each = λ id. refl }; undo = tt; redo = tt }
 
-pub delivered-ready : (list : List Drawn) (s : Seat) → IsReady s → IsReady (delivered list s)
+pub delivered-ready : (list : List ElementValue) (s : Seat) → IsReady s → IsReady (delivered list s)
 unfolding delivered
 delivered-ready list s ready = record {
   stores = taken_all-stored s.taken s.state.stored (free_elements s.state.held list) ready.stores;
@@ -107,14 +107,14 @@ acted-ready s nonce act ready own = record {
 
 module _ (s : State) (time nonce : ℕ) (rise : are_rising (ids_of s.stored) ≡ true) (are : AreStacksOrdered s) where
   -- ---- a change
-  answer-ordered : (capture : Capture) (answer : Result (List Drawn) Refusal) → AreStacksOrdered (after_outcome capture answer s)
+  answer-ordered : (capture : Capture) (answer : Result (List ElementValue) Refusal) → AreStacksOrdered (after_outcome capture answer s)
   answer-ordered Now (Ok given) =
       captured-ordered (stored_with given s) (taken_all-rising s.stored given rise) (record { undo = are.undo; redo = are.redo })
   answer-ordered Later (Ok given) = record { undo = are.undo; redo = are.redo }
   answer-ordered Never (Ok given) = record { undo = are.undo; redo = are.redo }
   answer-ordered capture (Err refusal) = are
 
-  answer-fresh : (command : Command) (answer : Result (List Drawn) Refusal) → outcome_on command time nonce s ≡ answer → IsFresh s.stored nonce (given_of (of_command answer))
+  answer-fresh : (command : Command) (answer : Result (List ElementValue) Refusal) → outcome_on command time nonce s ≡ answer → IsFresh s.stored nonce (given_of (of_command answer))
   answer-fresh command (Ok given) told = outcome-fresh s.stored (shown (live_elements s.stored)) command time nonce given rise told
   answer-fresh command (Err refusal) told = none-fresh s.stored nonce
 
@@ -137,7 +137,7 @@ module _ (s : State) (time nonce : ℕ) (rise : are_rising (ids_of s.stored) ≡
     newer = λ e old c found.
         let gives = own.gives e c in
         let same = same_Some gives.now old (sym (given-found s.stored time nonce own.pairs e gives) ∙ found) in
-        let next = given-version s.stored time nonce own.pairs e gives ∙ ap (λ (d : Drawn). d.version + 1) same in
+        let next = given-version s.stored time nonce own.pairs e gives ∙ ap (λ (d : ElementValue). d.version + 1) same in
         omega (arith, next);
   }
 

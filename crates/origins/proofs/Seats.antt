@@ -3,7 +3,7 @@ use Rattle.std.proofs.Common.{◌≡◌, ℕ, zero, suc, ◌<◌, List, [], ◌�
 use Rattle.std.proofs.lemmas.Grind.{flat_map-append}
 use Rattle.std.proofs.lemmas.List.{length-replicate}
 use Rattle.std.proofs.lemmas.List.Elements.{Contains-append_left, Contains-append_right}
-use Rattle.elem.specs.Drawn.{Drawn}
+use Rattle.elem.specs.ElementValue.{ElementValue}
 use Rattle.reconcile.specs.Ids.{free_elements}
 use Rattle.session_text.specs.declared.event.Event.{Event}
 use Rattle.session_text.specs.declared.event.Event.TheVariants.{Change, Update, Deliver, Hold, Release, Undo, Redo}
@@ -41,17 +41,17 @@ numbered (x ∷ seats) s (suc k, l, is) =
 -- ---- what is taken
 -- what each replica took in the one world it took in the other
 abbrev pub Keeps : World → World → Type 0
-Keeps w new = (at : ℕ) (e : Drawn) → Contains (seat_at w at).taken e → Contains (seat_at new at).taken e
+Keeps w new = (at : ℕ) (e : ElementValue) → Contains (seat_at w at).taken e → Contains (seat_at new at).taken e
 
-pub seat-keeps : (w : World) (at : ℕ) (s : Seat) → ((e : Drawn) → Contains (seat_at w at).taken e → Contains s.taken e) → Keeps w (after_seat at s w)
-seat-keeps w at s keeps = at-set (λ (i : ℕ) (t : Seat). (e : Drawn) → Contains (seat_at w i).taken e → Contains t.taken e) w.seats at s keeps (λ i e c. c)
+pub seat-keeps : (w : World) (at : ℕ) (s : Seat) → ((e : ElementValue) → Contains (seat_at w at).taken e → Contains s.taken e) → Keeps w (after_seat at s w)
+seat-keeps w at s keeps = at-set (λ (i : ℕ) (t : Seat). (e : ElementValue) → Contains (seat_at w i).taken e → Contains t.taken e) w.seats at s keeps (λ i e c. c)
 
 pub act-keeps : (w : World) (at : ℕ) (act : Act) → Keeps w (after_act at act w)
 act-keeps w at act =
-    at-set (λ (i : ℕ) (t : Seat). (e : Drawn) → Contains (seat_at w i).taken e → Contains t.taken e) w.seats at (acted act (seat_at w at))
+    at-set (λ (i : ℕ) (t : Seat). (e : ElementValue) → Contains (seat_at w i).taken e → Contains t.taken e) w.seats at (acted act (seat_at w at))
     (λ e c. Contains-append_left (seat_at w at).taken (given_of act.outcome) e c) (λ i e c. c)
 
-pub delivered-keeps : (list : List Drawn) (s : Seat) (e : Drawn) → Contains s.taken e → Contains (delivered list s).taken e
+pub delivered-keeps : (list : List ElementValue) (s : Seat) (e : ElementValue) → Contains s.taken e → Contains (delivered list s).taken e
 unfolding delivered
 delivered-keeps list s e c = Contains-append_left s.taken (free_elements s.state.held list) e c
 
@@ -87,18 +87,18 @@ pub opened-seats : (session : Session) → length (opened session).seats ≡ ses
 opened-seats session = length-replicate session.replicas (delivered (opening_elements session) fresh)
 
 -- ---- what is delivered
-free-all : (list : List Drawn) → free_elements [] list ≡ list
+free-all : (list : List ElementValue) → free_elements [] list ≡ list
 free-all [] = refl
 free-all (e ∷ list) = ap (λ es. e ∷ es) (free-all list)
 
-pub delivered-takes : (list : List Drawn) (s : Seat) → s.state.held ≡ [] → (e : Drawn) → Contains list e → Contains (delivered list s).taken e
+pub delivered-takes : (list : List ElementValue) (s : Seat) → s.state.held ≡ [] → (e : ElementValue) → Contains list e → Contains (delivered list s).taken e
 unfolding delivered
 delivered-takes list s none e c =
     Contains-append_right s.taken (free_elements s.state.held list) e
     (subst (λ es. Contains es e) (sym (ap (λ ids. free_elements ids list) none ∙ free-all list)) c)
 
 -- each replica begins with the opening elements
-pub opened-takes : (session : Session) (at : ℕ) → at < session.replicas → (e : Drawn) → Contains (opening_elements session) e → Contains (seat_at (opened session) at).taken e
+pub opened-takes : (session : Session) (at : ℕ) → at < session.replicas → (e : ElementValue) → Contains (opening_elements session) e → Contains (seat_at (opened session) at).taken e
 opened-takes session at l e c =
     at-within (λ (t : Seat). Contains t.taken e) session.replicas (delivered (opening_elements session) fresh)
     (delivered-takes (opening_elements session) fresh refl e c) at l
@@ -108,6 +108,6 @@ pub put-there : (seats : List Seat) (at : ℕ) (s : Seat) → at < length seats 
 put-there seats at s l = get_or-set_same seats at s fresh l
 
 -- ---- one message more
-pub flat-more : (messages : List (List Drawn)) (message : List Drawn) → flat (messages ++ message ∷ []) ≡ flat messages ++ message
+pub flat-more : (messages : List (List ElementValue)) (message : List ElementValue) → flat (messages ++ message ∷ []) ≡ flat messages ++ message
 flat-more messages message =
-    flat_map-append (λ (m : List Drawn). m) messages (message ∷ []) ∙ ap (λ es. flat messages ++ es) (append-nil message)
+    flat_map-append (λ (m : List ElementValue). m) messages (message ∷ []) ∙ ap (λ es. flat messages ++ es) (append-nil message)

@@ -2,7 +2,7 @@
 use Rattle.std.proofs.Common.{◌≡◌, ℕ, zero, suc, ◌+◌, ◌<◌, List, [], ◌∷◌, ◌++◌, length, get_or, Contains, inl, inr, refl, sym, ap, ◌∙◌, subst, length-append, arith}
 use Rattle.std.specs.List.{AllByRecursion}
 use Rattle.std.proofs.lemmas.List.Elements.{Contains-append_left, Contains-append_right, Contains-append_cases}
-use Rattle.elem.specs.Drawn.{Drawn}
+use Rattle.elem.specs.ElementValue.{ElementValue}
 use Rattle.elem_store.specs.Updates.{HaveSameUpdates}
 use Rattle.elem_store.proofs.Lists.{Contains-cases}
 use Rattle.session_text.specs.Sessions.{messages_of, made_after}
@@ -23,7 +23,7 @@ use Rattle.origins.proofs.Seats.{at-set, at-replicated, numbered, events-keep, e
 abbrev HoldNothing : World → Type 0
 HoldNothing w = (at : ℕ) → (state_at w at).held ≡ []
 
-delivered-held : (list : List Drawn) (s : Seat) → (delivered list s).state.held ≡ s.state.held
+delivered-held : (list : List ElementValue) (s : Seat) → (delivered list s).state.held ≡ s.state.held
 unfolding delivered
 delivered-held list s = refl
 
@@ -70,14 +70,14 @@ events-made (event ∷ events) w made is =
     events-made events (after_event event w) (made + messages_of event) (event-made event w ∙ ap (λ n. n + messages_of event) is)
 
 -- ---- what is in messages, and what is picked
-in-message : (messages : List (List Drawn)) (e : Drawn) → Contains (flat messages) e → (message : ℕ) × (message < length messages) × Contains (get_or messages message []) e
+in-message : (messages : List (List ElementValue)) (e : ElementValue) → Contains (flat messages) e → (message : ℕ) × (message < length messages) × Contains (get_or messages message []) e
 in-message [] e c = absurd (omega (arith, c.1))
 in-message (message ∷ messages) e c = elim (Contains-append_cases message (flat messages) e c) [
   | inl here ↦ (zero, omega arith, here)
   | inr later ↦ let there = in-message messages e later in (suc there.0, omega (arith, there.1), there.2)
 ]
 
-in-picked : (messages : List (List Drawn)) (picks : List Pick) (message : ℕ) (e : Drawn) → Contains picks (All message) → Contains (get_or messages message []) e → Contains (all_picked messages picks) e
+in-picked : (messages : List (List ElementValue)) (picks : List Pick) (message : ℕ) (e : ElementValue) → Contains picks (All message) → Contains (get_or messages message []) e → Contains (all_picked messages picks) e
 in-picked messages [] message e among c = absurd (omega (arith, among.1))
 in-picked messages (pick ∷ picks) message e among c = elim (Contains-cases pick picks (All message) among) [
   | inl same ↦
@@ -109,7 +109,7 @@ deliveries-messages : (events : List Event) (w : World) → AllByRecursion IsDel
 deliveries-messages [] w all = refl
 deliveries-messages (event ∷ events) w all = deliveries-messages events (after_event event w) all.1 ∙ delivery-messages event w all.0
 
-module _ (at : ℕ) (picks : List Pick) (message : ℕ) (e : Drawn) (whole : Contains picks (All message)) where
+module _ (at : ℕ) (picks : List Pick) (message : ℕ) (e : ElementValue) (whole : Contains picks (All message)) where
   delivery-tells : (w : World) → HoldNothing w → at < length w.seats → Contains (get_or w.messages message []) e → Contains (seat_at (after_event (Deliver at picks) w) at).taken e
   delivery-tells w none l c =
       let seat : Seat = delivered (all_picked w.messages picks) (seat_at w at) in
@@ -127,7 +127,7 @@ module _ (at : ℕ) (picks : List Pick) (message : ℕ) (e : Drawn) (whole : Con
     | inr later ↦
         let seats = events-seats (event ∷ []) w in
         deliveries-tell events (after_event event w) all.1 (event-holds_none event w (delivery-free event all.0) none) (omega (arith, seats)) later
-        (subst (λ (ms : List (List Drawn)). Contains (get_or ms message []) e) (sym (delivery-messages event w all.0)) c)
+        (subst (λ (ms : List (List ElementValue)). Contains (get_or ms message []) e) (sym (delivery-messages event w all.0)) c)
   ]
 
 -- ---- all is taken
@@ -154,13 +154,13 @@ module _ (session : Session) (free : HasNoHolds session) (told : IsToldAll sessi
   before-made : length before.messages ≡ made_after 0 told.first
   before-made = events-made told.first (opened session) 0 refl
 
-  message-taken : (at : ℕ) → at < session.replicas → (e : Drawn) → Contains (flat (after_events told.last before).messages) e → Contains (seat_at (after_events told.last before) at).taken e
+  message-taken : (at : ℕ) → at < session.replicas → (e : ElementValue) → Contains (flat (after_events told.last before).messages) e → Contains (seat_at (after_events told.last before) at).taken e
   message-taken at l e c =
       let there = in-message before.messages e (subst (λ ms. Contains (flat ms) e) (deliveries-messages told.last before told.deliveries) c) in
       let own = told.told at there.0 l (omega (arith, there.1, before-made)) in
       deliveries-tell at own.picks there.0 e own.whole told.last before told.deliveries before-holds_none (omega (arith, l, before-seats)) own.delivery there.2
 
-  all-taken : (at : ℕ) → at < session.replicas → (e : Drawn) → Contains (all_elements session (last_world session)) e → Contains (seat_at (last_world session) at).taken e
+  all-taken : (at : ℕ) → at < session.replicas → (e : ElementValue) → Contains (all_elements session (last_world session)) e → Contains (seat_at (last_world session) at).taken e
   all-taken at l e c = elim (Contains-append_cases (opening_elements session) (flat (last_world session).messages) e c) [
     | inl opening ↦ events-keep session.events (opened session) at e (opened-takes session at l e opening)
     | inr later ↦

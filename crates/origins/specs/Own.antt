@@ -5,15 +5,15 @@ use Rattle.session_text.specs.declared.event.Event.TheVariants.{Change, Update, 
 use Rattle.session_text.specs.declared.session.Session.{Session}
 
 -- The event brings no update from elsewhere.
-abbrev pub IsOwn : Event → Type 0
-IsOwn (Change at time capture command) = Unit {0}
-IsOwn (Update elements) = ⊥
-IsOwn (Deliver to picks) = Unit {0}
-IsOwn (Hold at id) = Unit {0}
-IsOwn (Release at id) = Unit {0}
-IsOwn (Undo at time) = Unit {0}
-IsOwn (Redo at time) = Unit {0}
+abbrev pub IsOwnEvent : Event → Type 0
+IsOwnEvent (Change at time capture command) = Unit {0}
+IsOwnEvent (Update elements) = ⊥
+IsOwnEvent (Deliver to picks) = Unit {0}
+IsOwnEvent (Hold at id) = Unit {0}
+IsOwnEvent (Release at id) = Unit {0}
+IsOwnEvent (Undo at time) = Unit {0}
+IsOwnEvent (Redo at time) = Unit {0}
 
 -- None of the session's events does.
 abbrev pub HasOwnUpdates : Session → Type 0
-HasOwnUpdates session = AllByRecursion IsOwn session.events
+HasOwnUpdates session = AllByRecursion IsOwnEvent session.events

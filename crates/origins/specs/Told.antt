@@ -33,7 +33,7 @@ IsDelivery (Undo at time) = ⊥
 IsDelivery (Redo at time) = ⊥
 
 -- One of the events delivers the message with this number, whole, to the replica with that one.
-pub record IsTold (events : List Event) (at message : ℕ) : Type 0 where
+pub record IsDelivered (events : List Event) (at message : ℕ) : Type 0 where
   pub picks : List Pick
   pub delivery : Contains events (Deliver at picks)
   pub whole : Contains picks (All message)
@@ -44,4 +44,4 @@ pub record IsToldAll (session : Session) : Type 0 where
   pub last : List Event
   pub events : session.events ≡ first ++ last
   pub deliveries : AllByRecursion IsDelivery last
-  pub told : (at message : ℕ) → at < session.replicas → message < made_after 0 first → IsTold last at message
+  pub told : (at message : ℕ) → at < session.replicas → message < made_after 0 first → IsDelivered last at message

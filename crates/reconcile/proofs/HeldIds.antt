@@ -9,7 +9,7 @@ use Rattle.scene_json.specs.Compact.{Member as Pair}
 use Rattle.scene_json.specs.Named.{value_at}
 use Rattle.scene_json.specs.Parts.{names_of}
 use Rattle.scene_json.proofs.Lookups.{rising_same}
-use Rattle.reconcile.specs.Ids.{is_held, AreRising, HasAdded, HasDropped}
+use Rattle.reconcile.specs.Ids.{is_held, AreStrictlySorted, HasAdded, HasDropped}
 
 -- a look-up by the order is one by the bytes
 pub held-ordered : (id : List ℕ) (ids : List (List ℕ)) → list_any (is_at (slice_cmp nat_cmp id)) ids ≡ is_held ids id
@@ -35,14 +35,14 @@ and-cond : (b c : Bool) → cond b false c ≡ (not b && c)
 and-cond true c = refl
 and-cond false c = refl
 
-pub HasAdded-new : (old : List (List ℕ)) (id : List ℕ) (new : List (List ℕ)) → AreRising new → Updates true old id new → HasAdded old id new
+pub HasAdded-new : (old : List (List ℕ)) (id : List ℕ) (new : List (List ℕ)) → AreStrictlySorted new → Updates true old id new → HasAdded old id new
 HasAdded-new old id new rise updates = record { ordered = rise; each = λ q. updated true old id new updates q ∙ or-cond (bytes_eq q id) (is_held old q) }
 
-pub HasDropped-old : (old : List (List ℕ)) (id : List ℕ) (new : List (List ℕ)) → AreRising new → Updates false old id new → HasDropped old id new
+pub HasDropped-old : (old : List (List ℕ)) (id : List ℕ) (new : List (List ℕ)) → AreStrictlySorted new → Updates false old id new → HasDropped old id new
 HasDropped-old old id new rise updates = record { ordered = rise; each = λ q. updated false old id new updates q ∙ and-cond (bytes_eq q id) (is_held old q) }
 
 -- an id that is held is added by nothing
-pub HasAdded-held : (ids : List (List ℕ)) (id : List ℕ) → AreRising ids → is_held ids id ≡ true → HasAdded ids id ids
+pub HasAdded-held : (ids : List (List ℕ)) (id : List ℕ) → AreStrictlySorted ids → is_held ids id ≡ true → HasAdded ids id ids
 HasAdded-held ids id rise held = record { ordered = rise; each = each }
   where
     each : (q : List ℕ) → is_held ids q ≡ (bytes_eq q id || is_held ids q)
@@ -69,7 +69,7 @@ value-bare id [] = refl
 value-bare id (other ∷ ids) =
     elim (bytes_eq id other) as (λ b. cond b (Some []) (value_at id (bare ids)) ≡ found (b || is_held ids id)) [ true ↦ refl | false ↦ value-bare id ids ]
 
-pub held-unique : (ids others : List (List ℕ)) → AreRising ids → AreRising others → ((id : List ℕ) → is_held ids id ≡ is_held others id) → ids ≡ others
+pub held-unique : (ids others : List (List ℕ)) → AreStrictlySorted ids → AreStrictlySorted others → ((id : List ℕ) → is_held ids id ≡ is_held others id) → ids ≡ others
 held-unique ids others rise also same =
     sym (names-bare ids)
     ∙ ap names_of (rising_same (bare ids) (bare others) (rw names-bare rise) (rw names-bare also)

@@ -1,7 +1,7 @@
 //! Ids that are held.
 
 ghost use Rattle.std.specs.Prelude.{◌≡◌, [], OnOk, OnErr, IsOk, IsTrue};
-ghost use Rattle.reconcile.specs.Ids.{is_held, AreRising, HasAdded, HasDropped};
+ghost use Rattle.reconcile.specs.Ids.{is_held, AreStrictlySorted, HasAdded, HasDropped};
 
 use scene_json::Text;
 use std::alloc::{AllocError, Global};
@@ -16,13 +16,13 @@ pub struct Held {
 
 impl Model for Held {
     ghost use Rattle.std.specs.Prelude.{List, ℕ};
-    ghost use Rattle.reconcile.specs.Ids.{AreRising};
+    ghost use Rattle.reconcile.specs.Ids.{AreStrictlySorted};
 
     ghost Value = { List (List ℕ) };
 
     ghost view = { λ h. h.ids.keys };
 
-    ghost invariant = { λ h. AreRising h.ids.keys };
+    ghost invariant = { λ h. AreStrictlySorted h.ids.keys };
 }
 
 impl Held {
@@ -58,7 +58,7 @@ impl Held {
     /// Whether the id is held. It takes no memory.
     pub fn has(&self, id: &Text) -> bool
         ensures exact { result ≡ is_held self.now id.now }
-        ensures ordered { AreRising self.now }
+        ensures ordered { AreStrictlySorted self.now }
     {
         self.ids.contains(id)
     }

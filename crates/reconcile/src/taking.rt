@@ -1,7 +1,7 @@
 //! Taking a list into a store.
 
 ghost use Rattle.std.specs.Prelude.{◌≡◌, List as Items, ◌++◌, length, IfOk, OnOk, OnErr};
-ghost use Rattle.elem.specs.Drawn.{Drawn};
+ghost use Rattle.elem.specs.ElementValue.{ElementValue};
 ghost use Rattle.elem_store.specs.Updates.{AreStored};
 ghost use Rattle.reconcile.specs.Ids.{free_elements};
 
@@ -20,7 +20,7 @@ pub fn reconcile(
     held: &Held,
 ) -> Result<u64, AllocError>
     // What is stored of a list of updates is then stored of the list with these elements at its end.
-    ensures stored { OnOk result ((updates : Items Drawn) → AreStored updates store.old.elements
+    ensures stored { OnOk result ((updates : Items ElementValue) → AreStored updates store.old.elements
         → AreStored (updates ++ free_elements held.now list.now) store.new.elements) }
 
     ensures count { IfOk result (λ count. count ≡ length (free_elements held.now list.now)) }

@@ -2,11 +2,11 @@
 use Rattle.std.proofs.Common.{◌≡◌, ℕ, Bool, true, false, cond, List, ◌++◌, filter, Option, Some, None, bytes_eq, if◌then◌else◌, inl, inr, refl, sym, ap, ◌∙◌}
 use Rattle.std.proofs.lemmas.Bool.{cases_Bool, false≢true}
 use Rattle.scene_json.proofs.Collapsed.{bytes_eq-true, bytes_eq-same}
-use Rattle.elem.specs.Drawn.{Drawn}
+use Rattle.elem.specs.ElementValue.{ElementValue}
 use Rattle.elem.specs.Order.{unstamped}
-use Rattle.delta.specs.Entries.{entries_same-exact, entries_same-same}
+use Rattle.delta.specs.Entries.{same_listing_entry-exact, same_listing_entry-same}
 use Rattle.delta.specs.Headers.{scalar_of}
-use Rattle.delta.specs.Joined.{are_same, joined, stays, is_gained, first_occurrences, entries_same}
+use Rattle.delta.specs.Joined.{are_same, joined, stays, is_gained, first_occurrences, same_listing_entry}
 use Rattle.delta.specs.Pairs.{Pair, IsChanged}
 use Rattle.delta.specs.Parts.{scalars_same}
 use Rattle.delta.specs.Undone.{undone_scalar, undone_list}
@@ -42,7 +42,7 @@ module _ {T : Type 0} (same : T → T → Bool) (exact : (a b : T) → same a b 
 
 -- ---- the undone element
 -- the stamp plays no part in it
-undone-unstamped : (pair : Pair) (now : Drawn) → unstamped (undone pair now) ≡ unstamped (undone pair (unstamped now))
+undone-unstamped : (pair : Pair) (now : ElementValue) → unstamped (undone pair now) ≡ unstamped (undone pair (unstamped now))
 unfolding undone
 undone-unstamped pair now =
     elim (same_kind pair.after.kind now.kind) as (λ b. unstamped (cond b (undone_in pair now) now) ≡ unstamped (cond b (undone_in pair (unstamped now)) (unstamped now))) [
@@ -59,8 +59,8 @@ module _ (pair : Pair) (of : IsOfElements pair) (changed : IsChanged pair) where
       (λ n. undoes.scalars n ∙ scalar-back (scalar_of pair.before n) (scalar_of pair.after n))
       (undoes.stamp.id ∙ sym changed.id)
       (undoes.groups ∙ list-back bytes_eq bytes_eq-true bytes_eq-same pair.before.groups pair.after.groups)
-      (undoes.bound ∙ list-back entries_same entries_same-exact entries_same-same pair.before.bound pair.after.bound)
+      (undoes.bound ∙ list-back same_listing_entry same_listing_entry-exact same_listing_entry-same pair.before.bound pair.after.bound)
 
-  pub undone-back : (now : Drawn) → unstamped now ≡ unstamped pair.after → unstamped (undone pair now) ≡ unstamped pair.before
+  pub undone-back : (now : ElementValue) → unstamped now ≡ unstamped pair.after → unstamped (undone pair now) ≡ unstamped pair.before
   undone-back now same =
       undone-unstamped pair now ∙ ap (λ e. unstamped (undone pair e)) same ∙ sym (undone-unstamped pair pair.after) ∙ after-back

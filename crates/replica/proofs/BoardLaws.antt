@@ -2,9 +2,9 @@
 use Rattle.std.proofs.Common.{◌≡◌, true, List, [], ◌∷◌, IsSome, refl, sym, ap, ◌∙◌, subst, inl, inr, arith}
 use Rattle.std.proofs.lemmas.List.Elements.{All-nil, Contains-append_cases}
 use Rattle.frac_keys.specs.Rising.{are_rising}
-use Rattle.elem.specs.Drawn.{Drawn}
+use Rattle.elem.specs.ElementValue.{ElementValue}
 use Rattle.elem.specs.Facts.{IsElement}
-use Rattle.elem.specs.Said.{IsWritten, AreElements}
+use Rattle.elem.specs.Said.{HasValidTexts, AreElements}
 use Rattle.elem_store.specs.Updates.{element_of, ids_of, takings}
 use Rattle.elem_store.proofs.Lists.{filter-Contains, Contains-cases}
 use Rattle.delta.specs.Delta.{Delta}
@@ -26,7 +26,7 @@ use Rattle.replica.specs.State.{State}
 use Rattle.replica.proofs.StoredLaws.{ids-kept, stack-kept, carried-known, takings-elements, element-some}
 
 -- a board whose parts are these
-pub told-is : (t : Told) (stored view snapshot : List Drawn) (stacks : Stacks) → t.stored ≡ stored → t.view ≡ view → t.snapshot ≡ snapshot → t.stacks ≡ stacks
+pub told-is : (t : Told) (stored view snapshot : List ElementValue) (stacks : Stacks) → t.stored ≡ stored → t.view ≡ view → t.snapshot ≡ snapshot → t.stacks ≡ stacks
     → (let u : Told = record { stored = stored; view = view; snapshot = snapshot; stacks = stacks } in t ≡ u)
 told-is t stored view snapshot stacks p q r u = λ i. record { stored = p i; view = q i; snapshot = r i; stacks = u i }
 
@@ -43,8 +43,8 @@ nothing-told = (
     view = refl;
     stored_rise = refl;
     snapshot_rise = refl;
-    stored_elements = All-nil (λ e. IsElement e × IsWritten e);
-    snapshot_elements = All-nil (λ e. IsElement e × IsWritten e);
+    stored_elements = All-nil (λ e. IsElement e × HasValidTexts e);
+    snapshot_elements = All-nil (λ e. IsElement e × HasValidTexts e);
     known = λ id some. some;
     undo_ids = λ parts c. absurd (omega (arith, c.1));
     redo_ids = λ parts c. absurd (omega (arith, c.1));
@@ -53,20 +53,20 @@ nothing-told = (
 )
 
 -- ---- what is pending
-pub pending-is : (snapshot stored : List Drawn) (entry : List Delta) → AreElements snapshot → AreElements stored → are_rising (ids_of stored) ≡ true → EntryStandsFor entry (pending snapshot stored) → IsEntryOf entry (pending snapshot stored)
+pub pending-is : (snapshot stored : List ElementValue) (entry : List Delta) → AreElements snapshot → AreElements stored → are_rising (ids_of stored) ≡ true → EntryStandsFor entry (pending snapshot stored) → IsEntryOf entry (pending snapshot stored)
 pending-is snapshot stored entry are are' rise stands = record { stands = stands; entry = pending-entry snapshot stored are are' rise }
 
 -- its ids are stored
-pub pending-ids : (snapshot stored : List Drawn) (entry : List Delta) → are_rising (ids_of stored) ≡ true → EntryStandsFor entry (pending snapshot stored) → HasStoredIds stored entry
+pub pending-ids : (snapshot stored : List ElementValue) (entry : List Delta) → are_rising (ids_of stored) ≡ true → EntryStandsFor entry (pending snapshot stored) → HasStoredIds stored entry
 pending-ids snapshot stored entry rise stands part c =
     let of = stands.each_part part c in
     let among = (filter-Contains is_changed (pairs_from (element_of snapshot) stored) of.0 of.1).0 in
-    let own = Contains-map (λ (e : Drawn). pair_with (element_of snapshot e.id) e) stored of.0 among in
+    let own = Contains-map (λ (e : ElementValue). pair_with (element_of snapshot e.id) e) stored of.0 among in
     let same : own.0.id ≡ part.id = ap (λ (pair : Pair). pair.after.id) own.2 ∙ sym of.2.stands.id in
     subst (λ id. IsSome (element_of stored id)) same (element-some stored own.0 rise own.1)
 
 -- ---- an entry that is noted
-noted-ids : (stored : List Drawn) (entry : List Delta) (stack : List (List Delta)) → HasStoredIds stored entry → HaveStoredIds stored stack → HaveStoredIds stored (with_entry entry stack)
+noted-ids : (stored : List ElementValue) (entry : List Delta) (stack : List (List Delta)) → HasStoredIds stored entry → HaveStoredIds stored stack → HaveStoredIds stored (with_entry entry stack)
 noted-ids stored [] stack own ids entry c = ids entry c
 noted-ids stored (part ∷ parts) stack own ids entry c =
     elim (Contains-append_cases stack ((part ∷ parts) ∷ []) entry c) [
@@ -77,7 +77,7 @@ noted-ids stored (part ∷ parts) stack own ids entry c =
       ]
     ]
 
-left-ids : (stored : List Drawn) (entry : List Delta) (stack : List (List Delta)) → HaveStoredIds stored stack → HaveStoredIds stored (redo_left entry stack)
+left-ids : (stored : List ElementValue) (entry : List Delta) (stack : List (List Delta)) → HaveStoredIds stored stack → HaveStoredIds stored (redo_left entry stack)
 left-ids stored [] stack ids entry c = ids entry c
 left-ids stored (part ∷ parts) stack ids entry c = absurd (omega (arith, c.1))
 
@@ -114,8 +114,8 @@ captured-sound t entry view rise are undo redo stands = record {
 }
 
 -- ---- updates that were taken
-module _ (old : Told) (list : List Drawn) (sound : IsSound old) (are : AreElements list) where
-  abbrev stored' : List Drawn
+module _ (old : Told) (list : List ElementValue) (sound : IsSound old) (are : AreElements list) where
+  abbrev stored' : List ElementValue
   stored' = taken_all list old.stored
 
   pub stored-rise : are_rising (ids_of stored') ≡ true
@@ -175,7 +175,7 @@ pub record Becomes (old new : Told) (after : State → State) : Type 0 where
 pub Becomes-told : (old new : Told) (after : State → State) → IsTold old → Becomes old new after → IsTold new
 Becomes-told old new after is b = (b.sound, (after is.1.0, b.stands is.1.0 is.1.1))
 
-pub taken-becomes : (old : Told) (list : List Drawn) (new : Told) → IsSound old → HasTakenAll old list new → Becomes old new (state.stored_with list)
+pub taken-becomes : (old : Told) (list : List ElementValue) (new : Told) → IsSound old → HasTakenAll old list new → Becomes old new (state.stored_with list)
 taken-becomes old list new sound h =
     let same = sym (told-is new (taken_all list old.stored) (live_elements (taken_all list old.stored)) old.snapshot old.stacks h.stored h.view h.snapshot h.stacks) in
     subst (λ t. Becomes old t (state.stored_with list)) same (record {
@@ -183,7 +183,7 @@ taken-becomes old list new sound h =
       stands = taken-stands old list sound h.elements;
     })
 
-pub carried-becomes : (old : Told) (list : List Drawn) (new : Told) → IsSound old → HasCarriedAll old list new → Becomes old new (state.carried_with list)
+pub carried-becomes : (old : Told) (list : List ElementValue) (new : Told) → IsSound old → HasCarriedAll old list new → Becomes old new (state.carried_with list)
 carried-becomes old list new sound h =
     let same = sym (told-is new (taken_all list old.stored) (live_elements (taken_all list old.stored)) (carried_all (takings old.stored list) old.snapshot) old.stacks h.stored h.view h.snapshot h.stacks) in
     subst (λ t. Becomes old t (state.carried_with list)) same (record {
@@ -191,7 +191,7 @@ carried-becomes old list new sound h =
       stands = carried-stands old list sound h.elements;
     })
 
-pub captured-becomes : (old : Told) (list : List Drawn) (new : Told) → IsSound old → HasCaptured old list new → Becomes old new (λ s. state.captured (state.stored_with list s))
+pub captured-becomes : (old : Told) (list : List ElementValue) (new : Told) → IsSound old → HasCaptured old list new → Becomes old new (λ s. state.captured (state.stored_with list s))
 captured-becomes old list new sound h =
     let t : Told = record { stored = taken_all list old.stored; view = live_elements (taken_all list old.stored); snapshot = old.snapshot; stacks = old.stacks } in
     let was = taken-sound old list sound h.elements in
@@ -201,7 +201,7 @@ captured-becomes old list new sound h =
       stands = λ s st. captured-stands t (state.stored_with list s) h.entry was.snapshot_elements was.stored_elements was.stored_rise h.stands (taken-stands old list sound h.elements s st);
     })
 
-pub given-becomes : (capture : Capture) (old : Told) (given : List Drawn) (new : Told) → IsSound old → HasStoredGiven capture old given new → Becomes old new (state.after_given capture given)
+pub given-becomes : (capture : Capture) (old : Told) (given : List ElementValue) (new : Told) → IsSound old → HasStoredGiven capture old given new → Becomes old new (state.after_given capture given)
 given-becomes Now old given new sound h = captured-becomes old given new sound h
 given-becomes Later old given new sound h = taken-becomes old given new sound h
 given-becomes Never old given new sound h = carried-becomes old given new sound h

@@ -4,10 +4,10 @@ use Rattle.std.specs.Option.{option_map}
 use Rattle.std.proofs.lemmas.Bool.{cases_Bool, false≢true, both_ways}
 use Rattle.std.proofs.lemmas.Option.{none-some, same_Some}
 use Rattle.frac_keys.specs.Rising.{are_rising}
-use Rattle.elem.specs.Drawn.{Drawn}
-use Rattle.elem.specs.Order.{unstamped}
+use Rattle.elem.specs.ElementValue.{ElementValue}
+use Rattle.elem.specs.Order.{unstamped, has_id}
 use Rattle.elem.specs.Said.{AreElements}
-use Rattle.elem_store.specs.Updates.{is_of, element_of, ids_of}
+use Rattle.elem_store.specs.Updates.{element_of, ids_of}
 use Rattle.elem_store.proofs.Ids.{same_id}
 use Rattle.elem_store.proofs.Lists.{Contains-head, Contains-filter, filter-Contains, find-Some}
 use Rattle.elem_store.proofs.Rising.{member}
@@ -19,19 +19,19 @@ use Rattle.undoing.specs.Differing.{is_changed, pending}
 use Rattle.undoing.specs.Entries.{IsEntry}
 use Rattle.undoing.proofs.DifferingLaws.{changed-is, changed-false, found-is, pairs-elements, pending-entry}
 use Rattle.undoing.proofs.TakenLaws.{taken_all-elements, taken_all-rising}
-use Rattle.replica.specs.Back.{AgreesWith, Alters, IsChange, changed}
+use Rattle.replica.specs.Back.{AgreesWith, Alters, IsStoredChange, changed}
 use Rattle.replica.specs.Sound.{AreStoredAlike}
 use Rattle.replica.specs.State.{State, noted, stored_with}
 use Rattle.replica.proofs.Leading.{SameAs, bare_of, some-bare, none-bare, Meets, Leads, IsApart, IsVisible}
 use Rattle.replica.proofs.TakenAt.{taken-at, taken-else}
 
 -- ---- the pairs between a snapshot and what is stored
-module _ (snap stored : List Drawn) (are : AreElements snap) (are' : AreElements stored) (rise : are_rising (ids_of stored) ≡ true) (alike : AreStoredAlike snap stored) where
+module _ (snap stored : List ElementValue) (are : AreElements snap) (are' : AreElements stored) (rise : are_rising (ids_of stored) ≡ true) (alike : AreStoredAlike snap stored) where
   -- a pending pair is one of these
-  pending-of : (pair : Pair) → Contains (pending snap stored) pair → (a : Drawn) × Contains stored a × (pair_with (element_of snap a.id) a ≡ pair) × (is_changed pair ≡ true)
+  pending-of : (pair : Pair) → Contains (pending snap stored) pair → (a : ElementValue) × Contains stored a × (pair_with (element_of snap a.id) a ≡ pair) × (is_changed pair ≡ true)
   pending-of pair c =
       let own = filter-Contains is_changed (pairs_from (element_of snap) stored) pair c in
-      let of = Contains-map (λ (e : Drawn). pair_with (element_of snap e.id) e) stored pair own.0 in
+      let of = Contains-map (λ (e : ElementValue). pair_with (element_of snap e.id) e) stored pair own.0 in
       (of.0, of.1, of.2, own.1)
 
   after-stored : (pair : Pair) → Contains (pending snap stored) pair → element_of stored pair.after.id ≡ Some pair.after
@@ -39,31 +39,31 @@ module _ (snap stored : List Drawn) (are : AreElements snap) (are' : AreElements
       let of = pending-of pair c in
       subst (λ (p : Pair). element_of stored p.after.id ≡ Some p.after) of.2 (member None None stored of.0 rise of.1)
 
-  pub pending-meets : (n : List Drawn) → AgreesWith stored n → Meets (pending snap stored) n
+  pub pending-meets : (n : List ElementValue) → AgreesWith stored n → Meets (pending snap stored) n
   pending-meets n agrees pair c =
       let own = agrees.each pair.after.id pair.after (after-stored pair c) in
       record { now = own.0; found = own.1; same = own.2 }
 
-  among : (a : Drawn) → Contains stored a → Contains (pairs_from (element_of snap) stored) (pair_with (element_of snap a.id) a)
-  among a c = Contains-to_map (λ (e : Drawn). pair_with (element_of snap e.id) e) stored a c
+  among : (a : ElementValue) → Contains stored a → Contains (pairs_from (element_of snap) stored) (pair_with (element_of snap a.id) a)
+  among a c = Contains-to_map (λ (e : ElementValue). pair_with (element_of snap e.id) e) stored a c
 
-  kind-before : (a : Drawn) → Contains stored a → (o : Option Drawn) → element_of snap a.id ≡ o → (counted o a).kind ≡ a.kind
+  kind-before : (a : ElementValue) → Contains stored a → (o : Option ElementValue) → element_of snap a.id ≡ o → (counted o a).kind ≡ a.kind
   kind-before a c None h = refl
   kind-before a c (Some b) h =
       let own = alike a.id b h in
-      sym own.2 ∙ ap (λ (e : Drawn). e.kind) (same_Some own.0 a (sym own.1 ∙ member None None stored a rise c))
+      sym own.2 ∙ ap (λ (e : ElementValue). e.kind) (same_Some own.0 a (sym own.1 ∙ member None None stored a rise c))
 
   -- where its pair isn't changed, no pending pair is of an element's id
-  unchanged-apart : (a : Drawn) → Contains stored a → is_changed (pair_with (element_of snap a.id) a) ≡ false → IsApart (pending snap stored) a.id
+  unchanged-apart : (a : ElementValue) → Contains stored a → is_changed (pair_with (element_of snap a.id) a) ≡ false → IsApart (pending snap stored) a.id
   unchanged-apart a c f pair d same =
       let of = pending-of pair d in
       let id : of.0.id ≡ a.id = ap (λ (p : Pair). p.after.id) of.2 ∙ same in
       let here : of.0 ≡ a = same_Some of.0 a (sym (member None None stored of.0 rise of.1) ∙ ap (element_of stored) id ∙ member None None stored a rise c) in
       both_ways (is_changed (pair_with (element_of snap a.id) a)) f
-      (ap (λ (x : Drawn). is_changed (pair_with (element_of snap x.id) x)) (sym here) ∙ ap is_changed of.2 ∙ of.3)
+      (ap (λ (x : ElementValue). is_changed (pair_with (element_of snap x.id) x)) (sym here) ∙ ap is_changed of.2 ∙ of.3)
 
-  module _ (n m : List Drawn) (agrees : AgreesWith stored n) (leads : Leads (pending snap stored) n m) where
-    led : (a : Drawn) → Contains stored a → bare_of m a.id ≡ Some (unstamped (counted (element_of snap a.id) a))
+  module _ (n m : List ElementValue) (agrees : AgreesWith stored n) (leads : Leads (pending snap stored) n m) where
+    led : (a : ElementValue) → Contains stored a → bare_of m a.id ≡ Some (unstamped (counted (element_of snap a.id) a))
     led a c =
         let pair : Pair = pair_with (element_of snap a.id) a in
         elim (cases_Bool (is_changed pair)) [
@@ -77,9 +77,9 @@ module _ (snap stored : List Drawn) (are : AreElements snap) (are' : AreElements
               ∙ ap Some (sym (changed-false pair of f (kind-before a c (element_of snap a.id) refl)))
         ]
 
-    led-at : (id : List ℕ) (a : Drawn) → element_of stored id ≡ Some a → bare_of m id ≡ Some (unstamped (counted (element_of snap id) a))
+    led-at : (id : List ℕ) (a : ElementValue) → element_of stored id ≡ Some a → bare_of m id ≡ Some (unstamped (counted (element_of snap id) a))
     led-at id a h =
-        let found = find-Some (is_of id) stored a h in
+        let found = find-Some (has_id id) stored a h in
         subst (λ k. bare_of m k ≡ Some (unstamped (counted (element_of snap k) a))) (sym (same_id id a found.1)) (led a found.0)
 
     pub leads-before : AgreesWith snap m
@@ -90,18 +90,18 @@ module _ (snap stored : List Drawn) (are : AreElements snap) (are' : AreElements
       others = λ id e none some. gone id e none some (element_of stored id) refl;
     }
       where
-        gone : (id : List ℕ) (e : Drawn) → element_of snap id ≡ None → element_of m id ≡ Some e → (o : Option Drawn) → element_of stored id ≡ o → e.deleted ≡ true
+        gone : (id : List ℕ) (e : ElementValue) → element_of snap id ≡ None → element_of m id ≡ Some e → (o : Option ElementValue) → element_of stored id ≡ o → e.deleted ≡ true
         gone id e none some (Some a) h =
             let same : unstamped e ≡ unstamped (record a { deleted = true }) =
             same_Some (unstamped e) (unstamped (record a { deleted = true })) (sym (ap (option_map unstamped) some) ∙ led-at id a h ∙ ap (λ o. Some (unstamped (counted o a))) none) in
-            ap (λ (x : Drawn). x.deleted) same
+            ap (λ (x : ElementValue). x.deleted) same
         gone id e none some None h =
             let apart : IsApart (pending snap stored) id = λ pair c same. none-some pair.after (sym h ∙ ap (element_of stored) (sym same) ∙ after-stored pair c) in
             let was = some-bare (element_of n id) (unstamped e) (leads.others id apart ∙ ap (option_map unstamped) some) in
-            sym (ap (λ (x : Drawn). x.deleted) was.2) ∙ agrees.others id was.0 h was.1
+            sym (ap (λ (x : ElementValue). x.deleted) was.2) ∙ agrees.others id was.0 h was.1
 
 -- ---- a change
-first-of : (xs : List Drawn) → (xs ≡ [] → ⊥) → (x : Drawn) × Contains xs x
+first-of : (xs : List ElementValue) → (xs ≡ [] → ⊥) → (x : ElementValue) × Contains xs x
 first-of [] h = absurd (h refl)
 first-of (x ∷ xs) h = (x, Contains-head x xs)
 
@@ -109,9 +109,9 @@ noted-some : (entry : List Pair) (pair : Pair) (s : State) → Contains entry pa
 noted-some [] pair s c = absurd (omega (arith, c.1))
 noted-some (first ∷ entry) pair s c = refl
 
-module _ (s : State) (given : List Drawn) (change : IsChange s.stored given) (rise : are_rising (ids_of s.stored) ≡ true)
+module _ (s : State) (given : List ElementValue) (change : IsStoredChange s.stored given) (rise : are_rising (ids_of s.stored) ≡ true)
     (are : AreElements s.stored) (are' : AreElements s.snapshot) (same : SameAs s.snapshot s.stored) where
-  new-at : (e : Drawn) → Contains given e → element_of (taken_all given s.stored) e.id ≡ Some e
+  new-at : (e : ElementValue) → Contains given e → element_of (taken_all given s.stored) e.id ≡ Some e
   new-at e c = taken-at s.stored given e rise change.ordered change.taken c
 
   pub new-elements : AreElements (taken_all given s.stored)
@@ -121,37 +121,37 @@ module _ (s : State) (given : List Drawn) (change : IsChange s.stored given) (ri
   new-rising = taken_all-rising s.stored given rise
 
   -- what is stored of the id of an element of the snapshot
-  stored-was : (id : List ℕ) (b : Drawn) → element_of s.snapshot id ≡ Some b → (o : Drawn) × (element_of s.stored id ≡ Some o) × (unstamped o ≡ unstamped b)
+  stored-was : (id : List ℕ) (b : ElementValue) → element_of s.snapshot id ≡ Some b → (o : ElementValue) × (element_of s.stored id ≡ Some o) × (unstamped o ≡ unstamped b)
   stored-was id b h = some-bare (element_of s.stored id) (unstamped b) (sym (same id) ∙ ap (option_map unstamped) h)
 
   pub new-alike : AreStoredAlike s.snapshot (taken_all given s.stored)
   new-alike id b h = go (element_of given id) refl
     where
-      was : (o : Drawn) × (element_of s.stored id ≡ Some o) × (unstamped o ≡ unstamped b)
+      was : (o : ElementValue) × (element_of s.stored id ≡ Some o) × (unstamped o ≡ unstamped b)
       was = stored-was id b h
 
-      go : (o : Option Drawn) → element_of given id ≡ o → (other : Drawn) × (element_of (taken_all given s.stored) id ≡ Some other) × (other.kind ≡ b.kind)
+      go : (o : Option ElementValue) → element_of given id ≡ o → (other : ElementValue) × (element_of (taken_all given s.stored) id ≡ Some other) × (other.kind ≡ b.kind)
       go None none = (
         was.0,
         taken-else s.stored given id rise (λ e c is. none-some e (sym none ∙ ap (element_of given) (sym is) ∙ member None None given e change.ordered c)) ∙ was.1,
-        ap (λ (x : Drawn). x.kind) was.2,
+        ap (λ (x : ElementValue). x.kind) was.2,
       )
       go (Some e) some =
-          let found = find-Some (is_of id) given e some in
+          let found = find-Some (has_id id) given e some in
           let named : id ≡ e.id = same_id id e found.1 in
           let own : Alters (Some was.0) e = subst (λ o. Alters o e) (ap (element_of s.stored) (sym named) ∙ was.1) (change.alters e found.0) in
-          (e, ap (element_of (taken_all given s.stored)) named ∙ new-at e found.0, sym own.1 ∙ ap (λ (x : Drawn). x.kind) was.2)
+          (e, ap (element_of (taken_all given s.stored)) named ∙ new-at e found.0, sym own.1 ∙ ap (λ (x : ElementValue). x.kind) was.2)
 
   pub new-entry : IsEntry (pending s.snapshot (taken_all given s.stored))
   new-entry = pending-entry s.snapshot (taken_all given s.stored) are' new-elements new-rising
 
   -- the pair of a given element is changed, and one of it is live
-  given-changed : (e : Drawn) → Contains given e → (o : Option Drawn) → element_of s.snapshot e.id ≡ o
+  given-changed : (e : ElementValue) → Contains given e → (o : Option ElementValue) → element_of s.snapshot e.id ≡ o
       → IsChanged (pair_with o e) × (((pair_with o e).before.deleted ≡ false) ⊎ (e.deleted ≡ false))
   given-changed e c None h =
       let none = none-bare (element_of s.stored e.id) (sym (same e.id) ∙ ap (option_map unstamped) h) in
       let own : Alters None e = subst (λ o. Alters o e) none (change.alters e c) in (
-        record { id = refl; kind = refl; differ = λ alike. false≢true (sym own ∙ sym (ap (λ (x : Drawn). x.deleted) alike)) },
+        record { id = refl; kind = refl; differ = λ alike. false≢true (sym own ∙ sym (ap (λ (x : ElementValue). x.deleted) alike)) },
         inr own,
       )
   given-changed e c (Some b) h =
@@ -159,10 +159,10 @@ module _ (s : State) (given : List Drawn) (change : IsChange s.stored given) (ri
       let own : Alters (Some was.0) e = subst (λ o. Alters o e) was.1 (change.alters e c) in (
         record {
           id = (found-is s.snapshot e.id b are' h).1;
-          kind = sym (ap (λ (x : Drawn). x.kind) was.2) ∙ own.1;
+          kind = sym (ap (λ (x : ElementValue). x.kind) was.2) ∙ own.1;
           differ = λ alike. own.2 (was.2 ∙ alike);
         },
-        inl (sym (ap (λ (x : Drawn). x.deleted) was.2) ∙ own.0),
+        inl (sym (ap (λ (x : ElementValue). x.deleted) was.2) ∙ own.0),
       )
 
   pub new-visible : IsVisible (pending s.snapshot (taken_all given s.stored))
@@ -171,8 +171,8 @@ module _ (s : State) (given : List Drawn) (change : IsChange s.stored given) (ri
       let e = first.0 in
       let pair : Pair = pair_with (element_of s.snapshot e.id) e in
       let own = given-changed e first.1 (element_of s.snapshot e.id) refl in
-      let there = (find-Some (is_of e.id) (taken_all given s.stored) e (new-at e first.1)).0 in
-      let c = Contains-to_map (λ (x : Drawn). pair_with (element_of s.snapshot x.id) x) (taken_all given s.stored) e there in
+      let there = (find-Some (has_id e.id) (taken_all given s.stored) e (new-at e first.1)).0 in
+      let c = Contains-to_map (λ (x : ElementValue). pair_with (element_of s.snapshot x.id) x) (taken_all given s.stored) e there in
       let of = (pairs-elements s.snapshot are' (taken_all given s.stored) new-elements pair c).0 in (
         pair,
         Contains-filter is_changed (pairs_from (element_of s.snapshot) (taken_all given s.stored)) pair c (changed-is pair of own.0),

@@ -2,7 +2,7 @@
 use Rattle.std.proofs.Common.{◌≡◌, true, List, [], ◌∷◌, ◌++◌, inl, inr, refl, sym, ap, ◌∙◌}
 use Rattle.std.proofs.lemmas.Bool.{cases_Bool, cond-true, cond-false}
 use Rattle.frac_keys.specs.Rising.{are_rising}
-use Rattle.elem.specs.Drawn.{Drawn}
+use Rattle.elem.specs.ElementValue.{ElementValue}
 use Rattle.elem_store.specs.Updates.{Taking, stored_of, ids_of, is_newer, is_taken, takings, AreStored}
 use Rattle.elem_store.proofs.StoreLaws.{AreStored-itself, AreStored-push}
 use Rattle.reconcile.specs.Ids.{free_elements}
@@ -13,7 +13,7 @@ use Rattle.replica.specs.State.{State, after_delivery}
 some-not_none : {X : Type 0} (x : X) (xs ys : List X) → ys ≡ x ∷ xs → ys ≡ [] → ⊥
 some-not_none x xs ys some none = absurd (cc)
 
-none-taken : (updates stored list : List Drawn) → AreStored updates stored → takings updates list ≡ [] → taken_all list stored ≡ stored
+none-taken : (updates stored list : List ElementValue) → AreStored updates stored → takings updates list ≡ [] → taken_all list stored ≡ stored
 none-taken updates stored [] are none = refl
 none-taken updates stored (e ∷ list) are none =
     let newer = is_newer e (stored_of updates e.id) in
@@ -28,7 +28,7 @@ none-taken updates stored (e ∷ list) are none =
           ∙ stays
     ]
 
-pub empty-stays : (s : State) (list : List Drawn) → are_rising (ids_of s.stored) ≡ true → takings s.stored (free_elements s.held list) ≡ [] → after_delivery list s ≡ s
+pub empty-stays : (s : State) (list : List ElementValue) → are_rising (ids_of s.stored) ≡ true → takings s.stored (free_elements s.held list) ≡ [] → after_delivery list s ≡ s
 empty-stays s list rise none =
     let same = none-taken s.stored s.stored (free_elements s.held list) (AreStored-itself s.stored rise) none in
     λ i. record s { stored = same i; snapshot = carried_all (none i) s.snapshot }

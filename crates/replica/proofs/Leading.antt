@@ -5,7 +5,7 @@ use Rattle.std.proofs.lemmas.Bool.{true_from_ne_false, both_ways, and_from, or_l
 use Rattle.std.proofs.lemmas.Option.{none-some, same_Some}
 use Rattle.scene_json.proofs.Collapsed.{bytes_eq-true, bytes_eq-same}
 use Rattle.frac_keys.specs.Rising.{are_rising}
-use Rattle.elem.specs.Drawn.{Drawn}
+use Rattle.elem.specs.ElementValue.{ElementValue}
 use Rattle.elem.specs.Order.{unstamped}
 use Rattle.elem.specs.Said.{AreElements}
 use Rattle.elem_store.specs.Updates.{element_of, ids_of}
@@ -25,35 +25,35 @@ use Rattle.replica.proofs.TakenAt.{taken-at, taken-else}
 
 -- ---- elements that are the same but for stamps
 -- what is found of an id without its stamp
-abbrev pub bare_of : List Drawn → List ℕ → Option Drawn
+abbrev pub bare_of : List ElementValue → List ℕ → Option ElementValue
 bare_of elements id = option_map unstamped (element_of elements id)
 
 -- Both have the same elements but for stamps.
-abbrev pub SameAs : List Drawn → List Drawn → Type 0
+abbrev pub SameAs : List ElementValue → List ElementValue → Type 0
 SameAs a b = (id : List ℕ) → bare_of a id ≡ bare_of b id
 
-pub some-bare : (o : Option Drawn) (u : Drawn) → option_map unstamped o ≡ Some u → (e : Drawn) × (o ≡ Some e) × (unstamped e ≡ u)
+pub some-bare : (o : Option ElementValue) (u : ElementValue) → option_map unstamped o ≡ Some u → (e : ElementValue) × (o ≡ Some e) × (unstamped e ≡ u)
 some-bare None u h = absurd (none-some u h)
 some-bare (Some e) u h = (e, refl, same_Some (unstamped e) u h)
 
-pub none-bare : (o : Option Drawn) → option_map unstamped o ≡ None → o ≡ None
+pub none-bare : (o : Option ElementValue) → option_map unstamped o ≡ None → o ≡ None
 none-bare None h = refl
 none-bare (Some e) h = absurd (none-some (unstamped e) (sym h))
 
 -- ---- where an entry leads
 -- The element of the pair's id is as after it, but for the stamp.
-pub record IsMet (elements : List Drawn) (pair : Pair) : Type 0 where
-  pub now : Drawn
+pub record IsMet (elements : List ElementValue) (pair : Pair) : Type 0 where
+  pub now : ElementValue
   pub found : element_of elements pair.after.id ≡ Some now
   pub same : unstamped now ≡ unstamped pair.after
 
-abbrev pub Meets : List Pair → List Drawn → Type 0
+abbrev pub Meets : List Pair → List ElementValue → Type 0
 Meets pairs elements = (pair : Pair) → Contains pairs pair → IsMet elements pair
 
 -- The element of the pair's id is as after it in the one list, and as before it in the other.
-pub record Turns (pair : Pair) (a b : List Drawn) : Type 0 where
-  pub old : Drawn
-  pub new : Drawn
+pub record Turns (pair : Pair) (a b : List ElementValue) : Type 0 where
+  pub old : ElementValue
+  pub new : ElementValue
   pub was : element_of a pair.after.id ≡ Some old
   pub is : element_of b pair.after.id ≡ Some new
   pub from : unstamped old ≡ unstamped pair.after
@@ -63,7 +63,7 @@ abbrev pub IsApart : List Pair → List ℕ → Type 0
 IsApart pairs id = (pair : Pair) → Contains pairs pair → pair.after.id ≡ id → ⊥
 
 -- Undoing the entry leads from the one list to the other, but for stamps.
-pub record Leads (pairs : List Pair) (a b : List Drawn) : Type 0 where
+pub record Leads (pairs : List Pair) (a b : List ElementValue) : Type 0 where
   pub each : (pair : Pair) → Contains pairs pair → Turns pair a b
   pub others : (id : List ℕ) → IsApart pairs id → bare_of a id ≡ bare_of b id
 
@@ -82,7 +82,7 @@ pair-or_none pairs id = go (find (is_its id) pairs) refl
         (ap (bytes_eq pair.after.id) (sym same) ∙ bytes_eq-same pair.after.id))
 
 -- it leads to one list, but for stamps
-pub leads-once : (pairs : List Pair) (a b c : List Drawn) → Leads pairs a b → Leads pairs a c → SameAs b c
+pub leads-once : (pairs : List Pair) (a b c : List ElementValue) → Leads pairs a b → Leads pairs a c → SameAs b c
 leads-once pairs a b c p q id = elim (pair-or_none pairs id) [
   | inl own ↦
       let one = p.each own.0 own.1 in
@@ -93,12 +93,12 @@ leads-once pairs a b c p q id = elim (pair-or_none pairs id) [
 ]
 
 -- from lists that are the same but for stamps
-pub met-same : (pair : Pair) (a b : List Drawn) → SameAs a b → IsMet a pair → IsMet b pair
+pub met-same : (pair : Pair) (a b : List ElementValue) → SameAs a b → IsMet a pair → IsMet b pair
 met-same pair a b same met =
     let own = some-bare (element_of b pair.after.id) (unstamped met.now) (sym (same pair.after.id) ∙ ap (option_map unstamped) met.found) in
     record { now = own.0; found = own.1; same = own.2 ∙ met.same }
 
-pub leads-from : (pairs : List Pair) (a b c : List Drawn) → SameAs a b → Leads pairs b c → Leads pairs a c
+pub leads-from : (pairs : List Pair) (a b c : List ElementValue) → SameAs a b → Leads pairs b c → Leads pairs a c
 leads-from pairs a b c same leads = record {
   each = λ pair d.
       let own = leads.each pair d in
@@ -112,8 +112,8 @@ leads-from pairs a b c same leads = record {
 abbrev pub IsVisible : List Pair → Type 0
 IsVisible pairs = (pair : Pair) × Contains pairs pair × ((pair.before.deleted ≡ false) ⊎ (pair.after.deleted ≡ false))
 
-module _ (stored : List Drawn) (pairs : List Pair) (are : AreElements stored) (entry : IsEntry pairs) (meets : Meets pairs stored) where
-  module _ (pair : Pair) (c : Contains pairs pair) (now : Drawn) (found : element_of stored pair.after.id ≡ Some now) (same : unstamped now ≡ unstamped pair.after) where
+module _ (stored : List ElementValue) (pairs : List Pair) (are : AreElements stored) (entry : IsEntry pairs) (meets : Meets pairs stored) where
+  module _ (pair : Pair) (c : Contains pairs pair) (now : ElementValue) (found : element_of stored pair.after.id ≡ Some now) (same : unstamped now ≡ unstamped pair.after) where
     back : unstamped (undone pair now) ≡ unstamped pair.before
     back = undone-back pair (entry.each pair c).0 (entry.each pair c).1 now same
 
@@ -128,10 +128,10 @@ module _ (stored : List Drawn) (pairs : List Pair) (are : AreElements stored) (e
     visible : (pair.before.deleted ≡ false) ⊎ (pair.after.deleted ≡ false) → option_map_or is_visible (reverted stored pair) false ≡ true
     visible live =
         let r : Reverted = record { now = now; undone = undone pair now } in
-        ap (λ o. option_map_or is_visible (option_map (λ (now : Drawn). record { now = now; undone = undone pair now }) o) false) found
+        ap (λ o. option_map_or is_visible (option_map (λ (now : ElementValue). record { now = now; undone = undone pair now }) o) false) found
         ∙ and_from (differ now (undone pair now)) (not now.deleted || not (undone pair now).deleted) differs (elim live [
-          | inl before ↦ or_right (not now.deleted) (not (undone pair now).deleted) (ap not (ap (λ (e : Drawn). e.deleted) back ∙ before))
-          | inr after ↦ or_left (not now.deleted) (not (undone pair now).deleted) (ap not (ap (λ (e : Drawn). e.deleted) same ∙ after))
+          | inl before ↦ or_right (not now.deleted) (not (undone pair now).deleted) (ap not (ap (λ (e : ElementValue). e.deleted) back ∙ before))
+          | inr after ↦ or_left (not now.deleted) (not (undone pair now).deleted) (ap not (ap (λ (e : ElementValue). e.deleted) same ∙ after))
         ])
 
   -- an entry that is met is seen
@@ -144,7 +144,7 @@ module _ (stored : List Drawn) (pairs : List Pair) (are : AreElements stored) (e
 
   -- ---- a step
   module _ (time nonce : ℕ) (rise : are_rising (ids_of stored) ≡ true) where
-    gives-at : (e : Drawn) → Contains (given stored time nonce pairs) e → element_of (taken_all (given stored time nonce pairs) stored) e.id ≡ Some e
+    gives-at : (e : ElementValue) → Contains (given stored time nonce pairs) e → element_of (taken_all (given stored time nonce pairs) stored) e.id ≡ Some e
     gives-at e c =
         taken-at stored (given stored time nonce pairs) e rise (given-rise stored time nonce are pairs entry.ordered) (given-taken stored time nonce are pairs) c
 
@@ -172,9 +172,9 @@ module _ (stored : List Drawn) (pairs : List Pair) (are : AreElements stored) (e
         ∙ gives-at (stamped time nonce (undone pair (meets pair c).now)) (one-given pair c)
 
     -- a given element and the stored one of its id
-    given-id : (e : Drawn) (own : IsGiven stored time nonce pairs e) → e.id ≡ own.pair.after.id
+    given-id : (e : ElementValue) (own : IsGiven stored time nonce pairs e) → e.id ≡ own.pair.after.id
     given-id e own =
-        ap (λ (x : Drawn). x.id) own.is ∙ (undone-stamp own.pair own.now).id ∙ (found-is stored own.pair.after.id own.now are own.found).1
+        ap (λ (x : ElementValue). x.id) own.is ∙ (undone-stamp own.pair own.now).id ∙ (found-is stored own.pair.after.id own.now are own.found).1
 
     pub leads-on : Leads pairs stored (taken_all (given stored time nonce pairs) stored)
     leads-on = record {
@@ -195,16 +195,16 @@ module _ (stored : List Drawn) (pairs : List Pair) (are : AreElements stored) (e
     }
 
     -- the pair that is made of a given element
-    made-of : (e : Drawn) (c : Contains (given stored time nonce pairs) e) → Contains (made stored (given stored time nonce pairs)) (pair_with (element_of stored e.id) e)
-    made-of e c = Contains-to_map (λ (x : Drawn). pair_with (element_of stored x.id) x) (given stored time nonce pairs) e c
+    made-of : (e : ElementValue) (c : Contains (given stored time nonce pairs) e) → Contains (made stored (given stored time nonce pairs)) (pair_with (element_of stored e.id) e)
+    made-of e c = Contains-to_map (λ (x : ElementValue). pair_with (element_of stored x.id) x) (given stored time nonce pairs) e c
 
-    given-was : (e : Drawn) (own : IsGiven stored time nonce pairs e) → element_of stored e.id ≡ Some own.now
+    given-was : (e : ElementValue) (own : IsGiven stored time nonce pairs e) → element_of stored e.id ≡ Some own.now
     given-was e own = ap (element_of stored) (given-id e own) ∙ own.found
 
     pub leads-back : Leads (made stored (given stored time nonce pairs)) (taken_all (given stored time nonce pairs) stored) stored
     leads-back = record {
       each = λ pair c.
-          let of = Contains-map (λ (x : Drawn). pair_with (element_of stored x.id) x) (given stored time nonce pairs) pair c in
+          let of = Contains-map (λ (x : ElementValue). pair_with (element_of stored x.id) x) (given stored time nonce pairs) pair c in
           let own = given-each stored time nonce pairs of.0 of.1 in
           let was = given-was of.0 own in
           let turns : Turns (record { before = own.now; after = of.0 }) (taken_all (given stored time nonce pairs) stored) stored = record {
@@ -230,7 +230,7 @@ module _ (stored : List Drawn) (pairs : List Pair) (are : AreElements stored) (e
           record { before = met.now; after = e },
           subst (Contains (made stored (given stored time nonce pairs))) is (made-of e (one-given own.0 own.1)),
           elim own.2 [
-            | inl before ↦ inr (ap (λ (x : Drawn). x.deleted) (back own.0 own.1 met.now met.found met.same) ∙ before)
-            | inr after ↦ inl (ap (λ (x : Drawn). x.deleted) met.same ∙ after)
+            | inl before ↦ inr (ap (λ (x : ElementValue). x.deleted) (back own.0 own.1 met.now met.found met.same) ∙ before)
+            | inr after ↦ inl (ap (λ (x : ElementValue). x.deleted) met.same ∙ after)
           ],
         )

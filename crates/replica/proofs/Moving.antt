@@ -4,7 +4,7 @@ use Rattle.std.specs.Option.{option_map}
 use Rattle.std.proofs.lemmas.Bool.{cond-false}
 use Rattle.std.proofs.lemmas.List.{take_all}
 use Rattle.frac_keys.specs.Rising.{are_rising}
-use Rattle.elem.specs.Drawn.{Drawn}
+use Rattle.elem.specs.ElementValue.{ElementValue}
 use Rattle.elem.specs.Order.{unstamped}
 use Rattle.elem.specs.Said.{AreElements}
 use Rattle.elem_store.specs.Updates.{element_of, ids_of}
@@ -17,7 +17,7 @@ use Rattle.undoing.specs.Differing.{same_kind, differ, is_changed, pending}
 use Rattle.undoing.specs.Steps.{step}
 use Rattle.undoing.proofs.DifferingLaws.{differ-same}
 use Rattle.undoing.proofs.TakenLaws.{taken_all-rising}
-use Rattle.replica.specs.Back.{AgreesWith, IsAs, IsCaptured, IsChange, changed, changed_all, AreChanges, Call, IsDone, undone_all, redone_all, AreUndone, AreRedone}
+use Rattle.replica.specs.Back.{AgreesWith, IsAs, IsCaptured, IsStoredChange, changed, changed_all, AreChanges, Call, IsDone, undone_all, redone_all, AreUndos, AreRedos}
 use Rattle.replica.specs.Sound.{IsSoundState}
 use Rattle.replica.specs.State.{State, noted, stored_with, undo_on, redo_on, after_undo_of, after_redo_of, after_undo, after_redo}
 use Rattle.replica.proofs.Agreeing.{agrees-itself, agrees-from, same-bare, looks-same}
@@ -35,24 +35,24 @@ and-false : (b c : Bool) → c ≡ false → (b && c) ≡ false
 and-false true c h = h
 and-false false c h = refl
 
-pending-none : (snapshot stored : List Drawn) → are_rising (ids_of stored) ≡ true → SameAs snapshot stored → pending snapshot stored ≡ []
+pending-none : (snapshot stored : List ElementValue) → are_rising (ids_of stored) ≡ true → SameAs snapshot stored → pending snapshot stored ≡ []
 pending-none snapshot stored rise same = filter-none is_changed (pairs_from (element_of snapshot) stored) (λ pair c.
-    let of = Contains-map (λ (e : Drawn). pair_with (element_of snapshot e.id) e) stored pair c in
+    let of = Contains-map (λ (e : ElementValue). pair_with (element_of snapshot e.id) e) stored pair c in
     let was = some-bare (element_of snapshot of.0.id) (unstamped of.0) (same of.0.id ∙ ap (option_map unstamped) (member None None stored of.0 rise of.1)) in
     let is : record { before = was.0; after = of.0 } ≡ pair = sym (ap (λ o. pair_with o of.0) was.1) ∙ of.2 in
     subst (λ p. is_changed p ≡ false) is (and-false (same_kind was.0.kind of.0.kind) (differ was.0 of.0) (differ-same was.0 of.0 was.2)))
 
 -- ---- what was stored after each change, before and behind one of them
-abbrev pub earlier : (ℕ → List Drawn) → ℕ → List (List Drawn)
+abbrev pub earlier : (ℕ → List ElementValue) → ℕ → List (List ElementValue)
 earlier stored_at zero = []
 earlier stored_at (suc i) = stored_at i ∷ earlier stored_at i
 
-abbrev pub later : (ℕ → List Drawn) → ℕ → ℕ → List (List Drawn)
+abbrev pub later : (ℕ → List ElementValue) → ℕ → ℕ → List (List ElementValue)
 later stored_at zero i = []
 later stored_at (suc k) i = stored_at (suc i) ∷ later stored_at k (suc i)
 
 -- A state stands at the place i of these: undo is a way over all the earlier ones, and redo over the next k ones.
-pub record IsAt (stored_at : ℕ → List Drawn) (i k : ℕ) (s : State) : Type 0 where
+pub record IsAt (stored_at : ℕ → List ElementValue) (i k : ℕ) (s : State) : Type 0 where
   pub elements : AreElements s.stored
   pub rise : are_rising (ids_of s.stored) ≡ true
   pub same : SameAs s.snapshot s.stored
@@ -60,7 +60,7 @@ pub record IsAt (stored_at : ℕ → List Drawn) (i k : ℕ) (s : State) : Type 
   pub on : IsWay (earlier stored_at i) s.stored s.undo
   pub back : IsWay (later stored_at k i) s.stored s.redo
 
-module _ (stored_at : ℕ → List Drawn) where
+module _ (stored_at : ℕ → List ElementValue) where
   -- ---- one undo, and one redo
   module _ (i k : ℕ) (s : State) (call : Call) where
     undone-one : IsAt stored_at (suc i) k s → IsDone call (undo_on call.time call.nonce s) → IsAt stored_at i (suc k) (after_undo call.time call.nonce s)
@@ -107,7 +107,7 @@ module _ (stored_at : ℕ → List Drawn) where
       (ap (λ e. step s.stored time nonce (noted e s).redo (noted e s).undo) (sym (pending-none s.snapshot s.stored at.rise at.same)) ∙ none)
 
   -- ---- successive ones
-  undone-more : (undos : List Call) (n i k : ℕ) (s : State) → length undos + i ≡ n → IsAt stored_at n k s → AreUndone undos s → IsAt stored_at i (length undos + k) (undone_all undos s)
+  undone-more : (undos : List Call) (n i k : ℕ) (s : State) → length undos + i ≡ n → IsAt stored_at n k s → AreUndos undos s → IsAt stored_at i (length undos + k) (undone_all undos s)
   undone-more [] n i k s place at done =
       let here : n ≡ i = omega arith in
       let there : k ≡ 0 + k = omega arith in
@@ -119,7 +119,7 @@ module _ (stored_at : ℕ → List Drawn) where
       subst (λ l. IsAt stored_at i l (undone_all undos (after_undo call.time call.nonce s))) there
       (undone-more undos (length undos + i) i (suc k) (after_undo call.time call.nonce s) refl next done.1)
 
-  redone-more : (redos : List Call) (n i k : ℕ) (s : State) → length redos + k ≡ n → IsAt stored_at i n s → AreRedone redos s → IsAt stored_at (length redos + i) k (redone_all redos s)
+  redone-more : (redos : List Call) (n i k : ℕ) (s : State) → length redos + k ≡ n → IsAt stored_at i n s → AreRedos redos s → IsAt stored_at (length redos + i) k (redone_all redos s)
   redone-more [] n i k s place at done =
       let here : n ≡ k = omega arith in
       let there : i ≡ 0 + i = omega arith in
@@ -138,11 +138,11 @@ module _ (stored_at : ℕ → List Drawn) where
     pub rise : are_rising (ids_of s.stored) ≡ true
     pub before : AreElements s.snapshot
     pub same : SameAs s.snapshot s.stored
-    pub on : (now : List Drawn) → AgreesWith s.stored now → IsWay (earlier stored_at i) now s.undo
+    pub on : (now : List ElementValue) → AgreesWith s.stored now → IsWay (earlier stored_at i) now s.undo
 
-  changed-ready : (i : ℕ) (s : State) (given : List Drawn) → s.stored ≡ stored_at i → IsReady i s → IsChange s.stored given → IsReady (suc i) (changed given s)
+  changed-ready : (i : ℕ) (s : State) (given : List ElementValue) → s.stored ≡ stored_at i → IsReady i s → IsStoredChange s.stored given → IsReady (suc i) (changed given s)
   changed-ready i s given here ready change =
-      let news : List Drawn = taken_all given s.stored in
+      let news : List ElementValue = taken_all given s.stored in
       let are = new-elements s given change ready.rise ready.elements ready.before ready.same in
       let rise = new-rising s given change ready.rise ready.elements ready.before ready.same in
       let alike = new-alike s given change ready.rise ready.elements ready.before ready.same in
@@ -161,7 +161,7 @@ module _ (stored_at : ℕ → List Drawn) where
         );
       })
 
-  changed-at : (givens : List (List Drawn)) (i : ℕ) (s : State) → ((k : ℕ) → (changed_all (take k givens) s).stored ≡ stored_at (k + i)) → IsReady i s → AreChanges givens s
+  changed-at : (givens : List (List ElementValue)) (i : ℕ) (s : State) → ((k : ℕ) → (changed_all (take k givens) s).stored ≡ stored_at (k + i)) → IsReady i s → AreChanges givens s
       → IsAt stored_at (length givens + i) 0 (changed_all givens s)
   changed-at [] i s places ready changes =
       let here : i ≡ 0 + i = omega arith in
@@ -188,16 +188,16 @@ noted-stored : (entry : List Pair) (s : State) → (noted entry s).stored ≡ s.
 noted-stored [] s = refl
 noted-stored (pair ∷ entry) s = refl
 
-rising-all : (givens : List (List Drawn)) (s : State) → are_rising (ids_of s.stored) ≡ true → are_rising (ids_of (changed_all givens s).stored) ≡ true
+rising-all : (givens : List (List ElementValue)) (s : State) → are_rising (ids_of s.stored) ≡ true → are_rising (ids_of (changed_all givens s).stored) ≡ true
 rising-all [] s rise = rise
 rising-all (given ∷ givens) s rise =
     let t : State = stored_with given s in
     rising-all givens (changed given s)
-    (ap (λ (es : List Drawn). are_rising (ids_of es)) (noted-stored (pending t.snapshot t.stored) t) ∙ taken_all-rising s.stored given rise)
+    (ap (λ (es : List ElementValue). are_rising (ids_of es)) (noted-stored (pending t.snapshot t.stored) t) ∙ taken_all-rising s.stored given rise)
 
-module _ (s : State) (givens : List (List Drawn)) (sound : IsSoundState s) (still : IsCaptured s) (changes : AreChanges givens s) where
+module _ (s : State) (givens : List (List ElementValue)) (sound : IsSoundState s) (still : IsCaptured s) (changes : AreChanges givens s) where
   -- what was stored after so many of the changes
-  abbrev stored_after : ℕ → List Drawn
+  abbrev stored_after : ℕ → List ElementValue
   stored_after i = (changed_all (take i givens) s).stored
 
   at-end : IsAt stored_after (length givens + 0) 0 (changed_all givens s)
@@ -216,7 +216,7 @@ module _ (s : State) (givens : List (List Drawn)) (sound : IsSoundState s) (stil
     looks = looks-same (stored_after i) now.stored (rising-all (take i givens) s sound.stored_rise) at.rise at.agrees;
   }
 
-  module _ (undos : List Call) (few : length undos ≤ length givens) (done : AreUndone undos (changed_all givens s)) where
+  module _ (undos : List Call) (few : length undos ≤ length givens) (done : AreUndos undos (changed_all givens s)) where
     undone-at : IsAt stored_after (length givens - length undos) (length undos + 0) (undone_all undos (changed_all givens s))
     undone-at =
         let place : length undos + (length givens - length undos) ≡ length givens + 0 = omega arith in
@@ -236,7 +236,7 @@ module _ (s : State) (givens : List (List Drawn)) (sound : IsSoundState s) (stil
         undo-found stored_after (length givens - length undos - 1) (length undos + 0) (undone_all undos (changed_all givens s)) time nonce
         (subst (λ i. IsAt stored_after i (length undos + 0) (undone_all undos (changed_all givens s))) place undone-at)
 
-    module _ (redos : List Call) (fewer : length redos ≤ length undos) (repeated : AreRedone redos (undone_all undos (changed_all givens s))) where
+    module _ (redos : List Call) (fewer : length redos ≤ length undos) (repeated : AreRedos redos (undone_all undos (changed_all givens s))) where
       redone-at : IsAt stored_after (length redos + (length givens - length undos)) (length undos - length redos) (redone_all redos (undone_all undos (changed_all givens s)))
       redone-at =
           let place : length redos + (length undos - length redos) ≡ length undos + 0 = omega arith in

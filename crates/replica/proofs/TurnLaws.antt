@@ -1,7 +1,7 @@
 -- What a board is after undo and redo: it is sound, and stands for what the same makes of a state.
 use Rattle.std.proofs.Common.{◌≡◌, ◌≤◌, ℕ, true, false, List, Some, None, Ok, Err, Contains, refl, sym, ◌∙◌, subst}
 use Rattle.std.proofs.lemmas.List.Elements.{All-weaker, All-contains_itself}
-use Rattle.elem.specs.Drawn.{Drawn}
+use Rattle.elem.specs.ElementValue.{ElementValue}
 use Rattle.elem.specs.Facts.{greatest_whole}
 use Rattle.elem.specs.Said.{AreElements}
 use Rattle.elem_store.specs.Updates.{is_taken}
@@ -15,7 +15,7 @@ use Rattle.history.proofs.StepLaws.{ids-stored}
 use Rattle.undoing.specs.Carrying.{taken_all}
 use Rattle.undoing.specs.Differing.{pending}
 use Rattle.undoing.specs.Steps.{step}
-use Rattle.replica.specs.Boards.{Told, ToldStandsFor, IsSound, AreGiven, HasTurned, HasStopped}
+use Rattle.replica.specs.Boards.{Told, ToldStandsFor, IsSound, BecomeStored, HasTurned, HasStopped}
 use Rattle.replica.specs.State as state
 use Rattle.replica.specs.State.{State}
 use Rattle.history.proofs.StackPairs.{step-nothing, step-full, step-done, step-taken}
@@ -23,7 +23,7 @@ use Rattle.replica.proofs.BoardLaws.{told-is, captured_told, captured-stands, ca
 use Rattle.replica.proofs.StoredLaws.{stack-kept}
 
 -- what a step gives becomes stored
-pub given-taken : (stored given : List Drawn) (time nonce : ℕ) (from to below grown : List (List Delta)) → HasStepped stored time nonce given from to below grown → AreGiven stored given
+pub given-taken : (stored given : List ElementValue) (time nonce : ℕ) (from to below grown : List (List Delta)) → HasStepped stored time nonce given from to below grown → BecomeStored stored given
 given-taken stored given time nonce from to below grown stepped = record {
   rise = stepped.step.gives.ordered;
   taken =
@@ -40,7 +40,7 @@ module _ (old : Told) (sound : IsSound old) (entry : List Delta) (stands : Entry
   noted-stands s st = captured-stands old s entry sound.snapshot_elements sound.stored_elements sound.stored_rise stands st
 
   -- the board after a step
-  abbrev stepped_told : List Drawn → Stacks → Told
+  abbrev stepped_told : List ElementValue → Stacks → Told
   stepped_told given stacks = record {
     stored = taken_all given old.stored;
     view = live_elements (taken_all given old.stored);
@@ -48,7 +48,7 @@ module _ (old : Told) (sound : IsSound old) (entry : List Delta) (stands : Entry
     stacks = stacks;
   }
 
-  stepped-sound : (given : List Drawn) (stacks : Stacks) → AreElements given → HaveStoredIds old.stored stacks.undo → HaveStoredIds old.stored stacks.redo → IsSound (stepped_told given stacks)
+  stepped-sound : (given : List ElementValue) (stacks : Stacks) → AreElements given → HaveStoredIds old.stored stacks.undo → HaveStoredIds old.stored stacks.redo → IsSound (stepped_told given stacks)
   stepped-sound given stacks are undo redo = record {
     view = refl;
     stored_rise = stored-rise old given sound are;
@@ -74,7 +74,7 @@ module _ (old : Told) (time nonce : ℕ) (early : time ≤ greatest_whole) (smal
   abbrev redo_answer : Step → State → Type 0
   redo_answer answer s = state.IsStepAnswer answer (state.redo_on time nonce s)
 
-  undo-done : (new : Told) (given : List Drawn) (h : HasTurned true old time nonce (Done given) new) → IsTurned undo_answer (state.after_undo time nonce) (Done given) new
+  undo-done : (new : Told) (given : List ElementValue) (h : HasTurned true old time nonce (Done given) new) → IsTurned undo_answer (state.after_undo time nonce) (Done given) new
   undo-done new given h =
       let was = noted-sound old sound h.entry h.stands in
       let stacks = noted h.entry old.stacks in
@@ -122,7 +122,7 @@ module _ (old : Told) (time nonce : ℕ) (early : time ≤ greatest_whole) (smal
       (step-full old.stored sound.stored_elements time nonce (noted h.entry old.stacks).undo (noted h.entry old.stacks).redo (state.captured s).undo (state.captured s).redo id from.undo from.redo h.stops)
 
   -- ---- redo
-  redo-done : (new : Told) (given : List Drawn) (h : HasTurned false old time nonce (Done given) new) → IsTurned redo_answer (state.after_redo time nonce) (Done given) new
+  redo-done : (new : Told) (given : List ElementValue) (h : HasTurned false old time nonce (Done given) new) → IsTurned redo_answer (state.after_redo time nonce) (Done given) new
   redo-done new given h =
       let was = noted-sound old sound h.entry h.stands in
       let stacks = noted h.entry old.stacks in

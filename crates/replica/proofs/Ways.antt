@@ -4,7 +4,7 @@ use Rattle.std.specs.Option.{option_map}
 use Rattle.std.proofs.lemmas.Bool.{cond-true}
 use Rattle.std.proofs.lemmas.Option.{none-some, same_Some}
 use Rattle.frac_keys.specs.Rising.{are_rising}
-use Rattle.elem.specs.Drawn.{Drawn}
+use Rattle.elem.specs.ElementValue.{ElementValue}
 use Rattle.elem.specs.Facts.{greatest_whole}
 use Rattle.elem.specs.Said.{AreElements}
 use Rattle.elem_store.specs.Updates.{ids_of}
@@ -19,14 +19,14 @@ use Rattle.replica.proofs.Agreeing.{agrees-same}
 use Rattle.replica.proofs.Leading.{SameAs, Meets, met-same, Leads, leads-once, leads-from, IsVisible, seen-met, leads-on, leads-back, visible-back}
 
 -- Undoing the entries of a stack, the topmost one first, leads from these elements to what agrees with each of the lists.
-abbrev pub IsWay : List (List Drawn) → List Drawn → List (List Pair) → Type 0
+abbrev pub IsWay : List (List ElementValue) → List ElementValue → List (List Pair) → Type 0
 IsWay [] elements stack = Unit {0}
 IsWay (target ∷ targets) elements [] = ⊥
 IsWay (target ∷ targets) elements (entry ∷ stack) =
     IsEntry entry × IsVisible entry × Meets entry elements
-    × ((next : List Drawn) → Leads entry elements next → AgreesWith target next × IsWay targets next stack)
+    × ((next : List ElementValue) → Leads entry elements next → AgreesWith target next × IsWay targets next stack)
 
-pub way-same : (targets : List (List Drawn)) (a b : List Drawn) (stack : List (List Pair)) → SameAs a b → IsWay targets a stack → IsWay targets b stack
+pub way-same : (targets : List (List ElementValue)) (a b : List ElementValue) (stack : List (List Pair)) → SameAs a b → IsWay targets a stack → IsWay targets b stack
 way-same [] a b stack same way = tt
 way-same (target ∷ targets) a b [] same way = way
 way-same (target ∷ targets) a b (entry ∷ stack) same way = (
@@ -37,14 +37,14 @@ way-same (target ∷ targets) a b (entry ∷ stack) same way = (
 )
 
 -- After a step: it agrees with the next list, the way goes on, and the other stack is the way back.
-pub record IsStepped (target here : List Drawn) (targets others : List (List Drawn)) (stored : List Drawn) (turn : Turn) : Type 0 where
+pub record IsStepped (target here : List ElementValue) (targets others : List (List ElementValue)) (stored : List ElementValue) (turn : Turn) : Type 0 where
   pub elements : AreElements (taken_all turn.given stored)
   pub rise : are_rising (ids_of (taken_all turn.given stored)) ≡ true
   pub agrees : AgreesWith target (taken_all turn.given stored)
   pub on : IsWay targets (taken_all turn.given stored) turn.from
   pub back : IsWay (here ∷ others) (taken_all turn.given stored) turn.to
 
-module _ (target here : List Drawn) (targets others : List (List Drawn)) (stored : List Drawn) (time nonce : ℕ)
+module _ (target here : List ElementValue) (targets others : List (List ElementValue)) (stored : List ElementValue) (time nonce : ℕ)
     (are : AreElements stored) (rise : are_rising (ids_of stored) ≡ true) (in_time : time ≤ greatest_whole) (in_nonce : nonce ≤ greatest_whole)
     (agrees : AgreesWith here stored) where
   module _ (entry : List Pair) (below to : List (List Pair)) (way : IsWay (target ∷ targets) stored (entry ∷ below)) (other : IsWay others stored to)
@@ -54,7 +54,7 @@ module _ (target here : List Drawn) (targets others : List (List Drawn)) (stored
 
     stepped : IsStepped target here targets others stored (turn_of stored time nonce top)
     stepped =
-        let news : List Drawn = taken_all (given stored time nonce entry) stored in
+        let news : List ElementValue = taken_all (given stored time nonce entry) stored in
         let next = way.3 news (leads-on stored entry are way.0 way.2 time nonce rise) in
         let back = leads-back stored entry are way.0 way.2 time nonce rise in
         record {
@@ -86,7 +86,7 @@ module _ (target here : List Drawn) (targets others : List (List Drawn)) (stored
       (stepped entry below to way other (ap (λ (s : Sought). full_id stored s.entry) same ∙ t.free))
 
 -- an entry is found where there is a way
-pub way-found : (target : List Drawn) (targets : List (List Drawn)) (stored : List Drawn) → AreElements stored → (from to : List (List Pair)) → IsWay (target ∷ targets) stored from
+pub way-found : (target : List ElementValue) (targets : List (List ElementValue)) (stored : List ElementValue) → AreElements stored → (from to : List (List Pair)) → IsWay (target ∷ targets) stored from
     → (time nonce : ℕ) → step stored time nonce from to ≡ None → ⊥
 way-found target targets stored are [] to way time nonce none = way
 way-found target targets stored are (entry ∷ below) to way time nonce none =

@@ -1,7 +1,7 @@
 -- Successive changes, the undo and redo of them, and what is then as it was. This project's own.
 use Rattle.std.specs.Prelude.{◌≡◌, ◌≢◌, ◌≤◌, ℕ, List, [], ◌∷◌, true, false, Option, Some, None, Result, Ok, Contains, map}
 use Rattle.frac_keys.specs.Rising.{are_rising}
-use Rattle.elem.specs.Drawn.{Drawn}
+use Rattle.elem.specs.ElementValue.{ElementValue}
 use Rattle.elem.specs.Facts.{greatest_whole}
 use Rattle.elem.specs.Order.{unstamped}
 use Rattle.elem.specs.Said.{AreElements}
@@ -11,10 +11,10 @@ use Rattle.undoing.specs.Steps.{Turn}
 use Rattle.replica.specs.State.{State, captured, stored_with, undo_on, redo_on, after_undo, after_redo}
 
 -- Each old element is stored now the same but for the stamp, and every other element that is stored now is deleted.
-pub record AgreesWith (old now : List Drawn) : Type 0 where
-  pub each : (id : List ℕ) (e : Drawn) → element_of old id ≡ Some e
-      → (other : Drawn) × (element_of now id ≡ Some other) × (unstamped other ≡ unstamped e)
-  pub others : (id : List ℕ) (e : Drawn) → element_of old id ≡ None → element_of now id ≡ Some e → e.deleted ≡ true
+pub record AgreesWith (old now : List ElementValue) : Type 0 where
+  pub each : (id : List ℕ) (e : ElementValue) → element_of old id ≡ Some e
+      → (other : ElementValue) × (element_of now id ≡ Some other) × (unstamped other ≡ unstamped e)
+  pub others : (id : List ℕ) (e : ElementValue) → element_of old id ≡ None → element_of now id ≡ Some e → e.deleted ≡ true
 
 -- A state is as another one was: what is stored agrees, and what is shown is the same but for the stamps.
 pub record IsAs (was now : State) : Type 0 where
@@ -28,30 +28,30 @@ IsCaptured s = map unstamped s.snapshot ≡ map unstamped s.stored
 -- ---- changes
 -- An element alters what is stored of its id: it is new and live, or what is stored is live, of its kind, and differs from it
 -- outside the stamp.
-abbrev pub Alters : Option Drawn → Drawn → Type 0
+abbrev pub Alters : Option ElementValue → ElementValue → Type 0
 Alters None e = e.deleted ≡ false
 Alters (Some old) e = (old.deleted ≡ false) × (old.kind ≡ e.kind) × (unstamped old ≢ unstamped e)
 
 -- A change of stored elements gives some elements in the order of their ids, which are taken and alter what is stored.
-pub record IsChange (stored given : List Drawn) : Type 0 where
+pub record IsStoredChange (stored given : List ElementValue) : Type 0 where
   pub some : given ≢ []
   pub ordered : are_rising (ids_of given) ≡ true
   pub elements : AreElements given
-  pub taken : (e : Drawn) → Contains given e → is_taken stored e ≡ true
-  pub alters : (e : Drawn) → Contains given e → Alters (element_of stored e.id) e
+  pub taken : (e : ElementValue) → Contains given e → is_taken stored e ≡ true
+  pub alters : (e : ElementValue) → Contains given e → Alters (element_of stored e.id) e
 
 -- after a change that is captured at once, and after successive ones
-abbrev pub changed : List Drawn → State → State
+abbrev pub changed : List ElementValue → State → State
 changed given s = captured (stored_with given s)
 
-abbrev pub changed_all : List (List Drawn) → State → State
+abbrev pub changed_all : List (List ElementValue) → State → State
 changed_all [] s = s
 changed_all (given ∷ more) s = changed_all more (changed given s)
 
 -- Each is a change of what is stored then.
-abbrev pub AreChanges : List (List Drawn) → State → Type 0
+abbrev pub AreChanges : List (List ElementValue) → State → Type 0
 AreChanges [] s = Unit {0}
-AreChanges (given ∷ more) s = IsChange s.stored given × AreChanges more (changed given s)
+AreChanges (given ∷ more) s = IsStoredChange s.stored given × AreChanges more (changed given s)
 
 -- ---- undo and redo
 -- a call of undo or redo: its time and its nonce
@@ -76,10 +76,10 @@ redone_all [] s = s
 redone_all (call ∷ more) s = redone_all more (after_redo call.time call.nonce s)
 
 -- Each of them is done.
-abbrev pub AreUndone : List Call → State → Type 0
-AreUndone [] s = Unit {0}
-AreUndone (call ∷ more) s = IsDone call (undo_on call.time call.nonce s) × AreUndone more (after_undo call.time call.nonce s)
+abbrev pub AreUndos : List Call → State → Type 0
+AreUndos [] s = Unit {0}
+AreUndos (call ∷ more) s = IsDone call (undo_on call.time call.nonce s) × AreUndos more (after_undo call.time call.nonce s)
 
-abbrev pub AreRedone : List Call → State → Type 0
-AreRedone [] s = Unit {0}
-AreRedone (call ∷ more) s = IsDone call (redo_on call.time call.nonce s) × AreRedone more (after_redo call.time call.nonce s)
+abbrev pub AreRedos : List Call → State → Type 0
+AreRedos [] s = Unit {0}
+AreRedos (call ∷ more) s = IsDone call (redo_on call.time call.nonce s) × AreRedos more (after_redo call.time call.nonce s)

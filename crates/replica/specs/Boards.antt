@@ -1,7 +1,7 @@
 -- The parts of a replica without their room, and what holds of them. This project's own.
 use Rattle.std.specs.Prelude.{◌≡◌, ℕ, List, Bool, true, not, All, IsSome}
 use Rattle.frac_keys.specs.Rising.{are_rising}
-use Rattle.elem.specs.Drawn.{Drawn}
+use Rattle.elem.specs.ElementValue.{ElementValue}
 use Rattle.elem.specs.Said.{AreElements}
 use Rattle.elem_store.specs.Updates.{element_of, ids_of, is_taken, takings}
 use Rattle.delta.specs.Delta.{Delta}
@@ -20,9 +20,9 @@ use Rattle.replica.specs.State.{State}
 
 -- what is stored and shown, the snapshot and the stacks
 pub record Told : Type 0 where
-  pub stored : List Drawn
-  pub view : List Drawn
-  pub snapshot : List Drawn
+  pub stored : List ElementValue
+  pub view : List ElementValue
+  pub snapshot : List ElementValue
   pub stacks : Stacks
 
 abbrev pub told : Board → Told
@@ -41,7 +41,7 @@ pub record ToldStandsFor (t : Told) (s : State) : Type 0 where
   pub redo : StackStandsFor t.stacks.redo s.redo
 
 -- Each id of these elements is one of those.
-abbrev pub AreKnown : List Drawn → List Drawn → Type 0
+abbrev pub AreKnown : List ElementValue → List ElementValue → Type 0
 AreKnown elements stored = (id : List ℕ) → IsSome (element_of elements id) → IsSome (element_of stored id)
 
 -- What holds of every board: it shows what is stored; of stored elements and snapshot the ids rise, and they are elements;
@@ -64,13 +64,13 @@ abbrev pub IsBoard : Board → Type 0
 IsBoard board = IsTold (told board)
 
 -- The ids of changed elements rise, and each of them becomes stored.
-pub record AreGiven (stored given : List Drawn) : Type 0 where
+pub record BecomeStored (stored given : List ElementValue) : Type 0 where
   pub rise : are_rising (ids_of given) ≡ true
   pub taken : All (λ e. is_taken stored e ≡ true) given
 
 -- ---- what is stored
 -- Updates were taken, and the snapshot and the stacks stay.
-pub record HasTakenAll (old : Told) (list : List Drawn) (new : Told) : Type 0 where
+pub record HasTakenAll (old : Told) (list : List ElementValue) (new : Told) : Type 0 where
   pub elements : AreElements list
   pub stored : new.stored ≡ taken_all list old.stored
   pub view : new.view ≡ live_elements (taken_all list old.stored)
@@ -78,7 +78,7 @@ pub record HasTakenAll (old : Told) (list : List Drawn) (new : Told) : Type 0 wh
   pub stacks : new.stacks ≡ old.stacks
 
 -- Updates were taken, and carried into the snapshot.
-pub record HasCarriedAll (old : Told) (list : List Drawn) (new : Told) : Type 0 where
+pub record HasCarriedAll (old : Told) (list : List ElementValue) (new : Told) : Type 0 where
   pub elements : AreElements list
   pub stored : new.stored ≡ taken_all list old.stored
   pub view : new.view ≡ live_elements (taken_all list old.stored)
@@ -86,7 +86,7 @@ pub record HasCarriedAll (old : Told) (list : List Drawn) (new : Told) : Type 0 
   pub stacks : new.stacks ≡ old.stacks
 
 -- Updates were taken, and captured with what was pending.
-pub record HasCaptured (old : Told) (list : List Drawn) (new : Told) : Type 0 where
+pub record HasCaptured (old : Told) (list : List ElementValue) (new : Told) : Type 0 where
   pub entry : List Delta
   pub stands : EntryStandsFor entry (pending old.snapshot (taken_all list old.stored))
   pub elements : AreElements list
@@ -96,20 +96,20 @@ pub record HasCaptured (old : Told) (list : List Drawn) (new : Told) : Type 0 wh
   pub stacks : new.stacks ≡ noted entry old.stacks
 
 -- What a change gave was stored, captured as asked.
-abbrev pub HasStoredGiven : Capture → Told → List Drawn → Told → Type 0
+abbrev pub HasStoredGiven : Capture → Told → List ElementValue → Told → Type 0
 HasStoredGiven Now old given new = HasCaptured old given new
 HasStoredGiven Later old given new = HasTakenAll old given new
 HasStoredGiven Never old given new = HasCarriedAll old given new
 
 -- ---- a step
 -- the stored elements after what a step gave was taken
-abbrev pub stored_by : Step → List Drawn → List Drawn
+abbrev pub stored_by : Step → List ElementValue → List ElementValue
 stored_by (Done given) stored = taken_all given stored
 stored_by Nothing stored = stored
 
 -- What a step gives becomes stored.
-abbrev pub GivesTaken : List Drawn → Step → Type 0
-GivesTaken stored (Done given) = AreGiven stored given
+abbrev pub GivesTaken : List ElementValue → Step → Type 0
+GivesTaken stored (Done given) = BecomeStored stored given
 GivesTaken stored Nothing = Unit {0}
 
 abbrev pub GivesElements : Step → Type 0
@@ -117,7 +117,7 @@ GivesElements (Done given) = AreElements given
 GivesElements Nothing = Unit {0}
 
 -- What a step gave was taken, the snapshot is of what is stored then, and these are the stacks.
-pub record HasPut (old : Told) (step : Step) (after : Stacks) (new : Told) : Type 0 where
+pub record HasPutStep (old : Told) (step : Step) (after : Stacks) (new : Told) : Type 0 where
   pub elements : GivesElements step
   pub stored : new.stored ≡ stored_by step old.stored
   pub view : new.view ≡ live_elements (stored_by step old.stored)
@@ -125,17 +125,17 @@ pub record HasPut (old : Told) (step : Step) (after : Stacks) (new : Told) : Typ
   pub stacks : new.stacks ≡ after
 
 -- How the stacks came, by what the step answers: for undo, or for redo with the stacks exchanged.
-abbrev pub ComesOf : Bool → List Drawn → ℕ → ℕ → Step → Stacks → Stacks → Type 0
-ComesOf undo stored time nonce (Done given) old new =
+abbrev pub StacksComeBy : Bool → List ElementValue → ℕ → ℕ → Step → Stacks → Stacks → Type 0
+StacksComeBy undo stored time nonce (Done given) old new =
     HasStepped stored time nonce given (side undo old) (side (not undo) old) (side undo new) (side (not undo) new)
-ComesOf undo stored time nonce Nothing old new = AreUnseen stored (side undo old) × (new ≡ old)
+StacksComeBy undo stored time nonce Nothing old new = AreUnseen stored (side undo old) × (new ≡ old)
 
 -- One step of undo or redo, from what was pending on.
 pub record HasTurned (undo : Bool) (old : Told) (time nonce : ℕ) (step : Step) (new : Told) : Type 0 where
   pub entry : List Delta
   pub stands : EntryStandsFor entry (pending old.snapshot old.stored)
-  pub comes : ComesOf undo old.stored time nonce step (noted entry old.stacks) new.stacks
-  pub put : HasPut old step new.stacks new
+  pub comes : StacksComeBy undo old.stored time nonce step (noted entry old.stacks) new.stacks
+  pub put : HasPutStep old step new.stacks new
 
 -- The step of undo or redo stops at the element of this id.
 pub record HasStopped (undo : Bool) (old : Told) (id : List ℕ) : Type 0 where

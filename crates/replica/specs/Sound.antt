@@ -1,20 +1,20 @@
 -- What holds of every state that a replica comes to. This project's own.
 use Rattle.std.specs.Prelude.{◌≡◌, ℕ, List, true, Some, Contains, IsSome}
 use Rattle.frac_keys.specs.Rising.{are_rising}
-use Rattle.elem.specs.Drawn.{Drawn}
+use Rattle.elem.specs.ElementValue.{ElementValue}
 use Rattle.elem.specs.Said.{AreElements}
 use Rattle.elem_store.specs.Updates.{element_of, ids_of}
 use Rattle.delta.specs.Pairs.{Pair}
 use Rattle.replica.specs.State.{State}
 
 -- Each element of a snapshot is stored, and of the same kind.
-abbrev pub AreStoredAlike : List Drawn → List Drawn → Type 0
+abbrev pub AreStoredAlike : List ElementValue → List ElementValue → Type 0
 AreStoredAlike snapshot stored =
-    (id : List ℕ) (e : Drawn) → element_of snapshot id ≡ Some e
-    → (other : Drawn) × (element_of stored id ≡ Some other) × (other.kind ≡ e.kind)
+    (id : List ℕ) (e : ElementValue) → element_of snapshot id ≡ Some e
+    → (other : ElementValue) × (element_of stored id ≡ Some other) × (other.kind ≡ e.kind)
 
 -- Each element of the entries of a stack is stored.
-abbrev pub AreStoredIds : List (List Pair) → List Drawn → Type 0
+abbrev pub AreStoredIds : List (List Pair) → List ElementValue → Type 0
 AreStoredIds stack stored =
     (entry : List Pair) (pair : Pair) → Contains stack entry → Contains entry pair → IsSome (element_of stored pair.after.id)
 

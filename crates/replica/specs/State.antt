@@ -1,7 +1,7 @@
 -- What a replica is, and what each call makes of it, over whole elements. This project's own, after Excalidraw's store and
 -- history.
 use Rattle.std.specs.Prelude.{◌≡◌, ℕ, List, [], ◌∷◌, Option, Some, None, Result, Ok, Err}
-use Rattle.elem.specs.Drawn.{Drawn}
+use Rattle.elem.specs.ElementValue.{ElementValue}
 use Rattle.elem_store.specs.Updates.{takings}
 use Rattle.delta.specs.Pairs.{Pair}
 use Rattle.reconcile.specs.Ids.{free_elements}
@@ -20,8 +20,8 @@ use Rattle.undoing.specs.Steps.{Turn, step}
 -- The stored elements and those of the snapshot, in the order of their ids; the entries that can be undone and redone, the
 -- next one first, each the elements before and after that it is of; and the ids that are held.
 pub record State : Type 0 where
-  pub stored : List Drawn
-  pub snapshot : List Drawn
+  pub stored : List ElementValue
+  pub snapshot : List ElementValue
   pub undo : List (List Pair)
   pub redo : List (List Pair)
   pub held : List (List ℕ)
@@ -40,24 +40,24 @@ abbrev pub captured : State → State
 captured s = record (noted (pending s.snapshot s.stored) s) { snapshot = s.stored }
 
 -- after updates were taken; those that become stored are carried into the snapshot, or not
-abbrev pub stored_with : List Drawn → State → State
+abbrev pub stored_with : List ElementValue → State → State
 stored_with list s = record s { stored = taken_all list s.stored }
 
-abbrev pub carried_with : List Drawn → State → State
+abbrev pub carried_with : List ElementValue → State → State
 carried_with list s = record (stored_with list s) { snapshot = carried_all (takings s.stored list) s.snapshot }
 
 -- ---- a change
 -- the changed elements of a command, or its refusal
-abbrev pub outcome_on : Command → ℕ → ℕ → State → Result (List Drawn) Refusal
+abbrev pub outcome_on : Command → ℕ → ℕ → State → Result (List ElementValue) Refusal
 outcome_on command time nonce s = outcome s.stored (shown (live_elements s.stored)) command time nonce
 
 -- after these were changed: now captured with what was pending, or later, or carried into the snapshot
-abbrev pub after_given : Capture → List Drawn → State → State
+abbrev pub after_given : Capture → List ElementValue → State → State
 after_given Now given s = captured (stored_with given s)
 after_given Later given s = stored_with given s
 after_given Never given s = carried_with given s
 
-abbrev pub after_outcome : Capture → Result (List Drawn) Refusal → State → State
+abbrev pub after_outcome : Capture → Result (List ElementValue) Refusal → State → State
 after_outcome capture (Ok given) s = after_given capture given s
 after_outcome capture (Err refusal) s = s
 
@@ -66,7 +66,7 @@ after_change command capture time nonce s = after_outcome capture (outcome_on co
 
 -- ---- a delivery
 -- after a list was delivered: the elements whose ids aren't held are taken
-abbrev pub after_delivery : List Drawn → State → State
+abbrev pub after_delivery : List ElementValue → State → State
 after_delivery list s = carried_with (free_elements s.held list) s
 
 -- ---- undo and redo

@@ -12,7 +12,7 @@ ghost use Rattle.effects.specs.Limits.{IsWithinLimits};
 ghost use Rattle.history.specs.Stacks as stacks;
 ghost use Rattle.history.specs.Stacks.{FitsIn, OnFull, noted};
 ghost use Rattle.undoing.specs.Carrying.{taken_all, with_all_put};
-ghost use Rattle.replica.specs.Boards.{told, AreGiven, GivesElements, GivesTaken, HasCaptured, HasCarriedAll, HasPut, HasStopped, HasStoredGiven, HasTakenAll, HasTurned, IsBoard, stored_by};
+ghost use Rattle.replica.specs.Boards.{told, BecomeStored, GivesElements, GivesTaken, HasCaptured, HasCarriedAll, HasPutStep, HasStopped, HasStoredGiven, HasTakenAll, HasTurned, IsBoard, stored_by};
 
 use crate::telling::tell_all;
 use board_io::{List, Stop};
@@ -73,7 +73,7 @@ impl Board {
         given: &[Element],
     ) -> Result<(), AllocError>
         requires board { IsBoard self.old }
-        requires given { AreGiven self.old.store.elements given.now }
+        requires given { BecomeStored self.old.store.elements given.now }
         ensures ok { OnOk result (HasStoredGiven capture (told self.old) given.now (told self.new)) }
         ensures err { OnErr result (told self.new ≡ told self.old) }
     {
@@ -87,7 +87,7 @@ impl Board {
     /// Stores what a change gave, and captures it with what was pending.
     fn store_captured(&mut self, alloc: Global, given: &[Element]) -> Result<(), AllocError>
         requires board { IsBoard self.old }
-        requires given { AreGiven self.old.store.elements given.now }
+        requires given { BecomeStored self.old.store.elements given.now }
         ensures ok { OnOk result (HasCaptured (told self.old) given.now (told self.new)) }
         ensures err { OnErr result (told self.new ≡ told self.old) }
     {
@@ -180,7 +180,7 @@ impl Board {
         requires room { length captured ≤ self.old.snapshot.spare }
         requires spare { 0 < self.old.history.spare }
         requires fits { FitsIn planned self.old.history.stacks }
-        ensures ok { OnOk result (HasPut (told self.old) step.now (stacks.put_step planned self.old.history.stacks) (told self.new)) }
+        ensures ok { OnOk result (HasPutStep (told self.old) step.now (stacks.put_step planned self.old.history.stacks) (told self.new)) }
         ensures err { OnErr result (told self.new ≡ told self.old) }
     {
         self.put_elements(alloc, captured, step)?;
@@ -218,7 +218,7 @@ impl Board {
     /// Stores what a step gives, of which the snapshot is then.
     fn store_step(&mut self, alloc: Global, given: &[Element]) -> Result<(), AllocError>
         requires board { IsBoard self.old }
-        requires given { AreGiven self.old.store.elements given.now }
+        requires given { BecomeStored self.old.store.elements given.now }
         ensures elements { OnOk result (AreElements given.now) }
         ensures stored { OnOk result (self.new.store.elements ≡ taken_all given.now self.old.store.elements) }
         ensures view { OnOk result (self.new.view ≡ live_elements (taken_all given.now self.old.store.elements)) }

@@ -9,7 +9,7 @@ use Rattle.std.proofs.lemmas.Map.Keys.{IsDistinct-push}
 use Rattle.std.proofs.lemmas.Map.Made.{IsDistinct-keys_filter}
 use Rattle.std.proofs.lemmas.Option.{none-some}
 use Rattle.scene_json.specs.Characters.{quote}
-use Rattle.scene_json.specs.Compact.{Member as Pair, array_text, is_other}
+use Rattle.scene_json.specs.Compact.{Member as Pair, array_text, has_other_name}
 use Rattle.scene_json.specs.Named.{value_at}
 use Rattle.scene_json.specs.Parts.{names_of}
 use Rattle.scene_json.specs.TheOne.{IsTheOne}
@@ -18,19 +18,19 @@ use Rattle.restore_table.specs.Merged.{AreUpdated, AreOldIds}
 use Rattle.restore_table.specs.Restored.{HasOldListing, listing_name, old_name, listing_text}
 
 -- ---- without a name
-filtered : (name other : List ℕ) (b : Bool) (ms : List Pair) → not (bytes_eq other name) ≡ b → value_at name (filter (is_other other) ms) ≡ cond b (value_at name ms) None
+filtered : (name other : List ℕ) (b : Bool) (ms : List Pair) → not (bytes_eq other name) ≡ b → value_at name (filter (has_other_name other) ms) ≡ cond b (value_at name ms) None
 filtered name other b ms e =
     lookup-filter-keys (bytes_eq name) (λ key. not (bytes_eq other key)) b
     (λ key same. ap (λ k. not (bytes_eq other k)) (sym (bytes_eq-true name key same)) ∙ e) ms
 
-without-gone : (name : List ℕ) (ms : List Pair) → value_at name (filter (is_other name) ms) ≡ None
+without-gone : (name : List ℕ) (ms : List Pair) → value_at name (filter (has_other_name name) ms) ≡ None
 without-gone name ms = filtered name name false ms (ap not (bytes_eq-same name))
 
-without-other : (name other : List ℕ) (ms : List Pair) → name ≢ other → value_at name (filter (is_other other) ms) ≡ value_at name ms
+without-other : (name other : List ℕ) (ms : List Pair) → name ≢ other → value_at name (filter (has_other_name other) ms) ≡ value_at name ms
 without-other name other ms differ = filtered name other true ms (ap not (bytes_eq-apart other name (λ e. differ (sym e))))
 
-without-distinct : (name : List ℕ) (ms : List Pair) → IsDistinct bytes_eq (names_of ms) → IsDistinct bytes_eq (names_of (filter (is_other name) ms))
-without-distinct name ms apart = IsDistinct-keys_filter bytes_eq (is_other name) ms apart
+without-distinct : (name : List ℕ) (ms : List Pair) → IsDistinct bytes_eq (names_of ms) → IsDistinct bytes_eq (names_of (filter (has_other_name name) ms))
+without-distinct name ms apart = IsDistinct-keys_filter bytes_eq (has_other_name name) ms apart
 
 -- ---- with one more
 push-there : (m : Pair) (ms : List Pair) → value_at m.0 ms ≡ None → value_at m.0 (ms ++ m ∷ []) ≡ Some m.1
@@ -81,7 +81,7 @@ has-old : (ms : List Pair) (value : List ℕ) (ids : List (List ℕ)) → value_
 has-old ms value ids is old = record { texts = old.0; named = is ∙ ap Some old.1 }
 
 pub updated-wrong : (ms us : List Pair) (value : List ℕ) → IsDistinct bytes_eq (names_of ms) → value_at old_name ms ≡ Some value → IsTheOne (AreOldIds value) None →
-    us ≡ filter (is_other old_name) ms → AreUpdated ms us
+    us ≡ filter (has_other_name old_name) ms → AreUpdated ms us
 updated-wrong ms us value apart is wrong same = subst (AreUpdated ms) (sym same) (record {
   ids = None;
   old = λ ids has. wrong ids (ids-of ms value ids is has);
@@ -92,11 +92,11 @@ updated-wrong ms us value apart is wrong same = subst (AreUpdated ms) (sym same)
 })
 
 pub updated-listing : (ms us : List Pair) (value : List ℕ) (ids : List (List ℕ)) → IsDistinct bytes_eq (names_of ms) → value_at old_name ms ≡ Some value →
-    IsTheOne (AreOldIds value) (Some ids) → us ≡ filter (is_other listing_name) (filter (is_other old_name) ms) ++ (listing_name, listing_text ids) ∷ [] → AreUpdated ms us
+    IsTheOne (AreOldIds value) (Some ids) → us ≡ filter (has_other_name listing_name) (filter (has_other_name old_name) ms) ++ (listing_name, listing_text ids) ∷ [] → AreUpdated ms us
 updated-listing ms us value ids apart is one same =
     let m : Pair = (listing_name, listing_text ids) in
-    let first = filter (is_other old_name) ms in
-    let kept = filter (is_other listing_name) first in
+    let first = filter (has_other_name old_name) ms in
+    let kept = filter (has_other_name listing_name) first in
     subst (AreUpdated ms) (sym same) (record {
       ids = Some ids;
       old = (has-old ms value ids is one.0, λ other has. one.1 other (ids-of ms value other is has));

@@ -2,7 +2,7 @@
 use Rattle.std.proofs.Common.{◌≡◌, ℕ, ◌≤◌, List, [], ◌∷◌, ◌++◌, All, filter, sym, subst, arith, true, false, cond}
 use Rattle.std.specs.List.{AllByRecursion}
 use Rattle.std.proofs.lemmas.List.Elements.{All-from_recursion, recursion_from_All}
-use Rattle.scene_json.specs.Compact.{Member as Pair, is_other}
+use Rattle.scene_json.specs.Compact.{Member as Pair, has_other_name}
 use Rattle.scene_json.specs.Members.{pairs}
 use Rattle.scene_json.specs.Value.{IsCompact}
 use Rattle.scene_json.specs.declared.text.Member.{Member}
@@ -41,10 +41,10 @@ merged-nests limit ws all wide each same =
     members-nest limit all (merged (pairs ws) defaults) same
     (merged-values (IsCompact limit) (pairs ws) defaults (nest-pairs limit ws each) (deeper limit defaults (omega arith) defaults-compact))
 
-pub filter-nests : (limit : ℕ) (name : List ℕ) (ms : List Pair) → Nest limit ms → Nest limit (filter (is_other name) ms)
+pub filter-nests : (limit : ℕ) (name : List ℕ) (ms : List Pair) → Nest limit ms → Nest limit (filter (has_other_name name) ms)
 filter-nests limit name [] each = tt
 filter-nests limit name (m ∷ ms) each =
-    elim (is_other name m) as (λ b. Nest limit (cond b (m ∷ filter (is_other name) ms) (filter (is_other name) ms))) [
+    elim (has_other_name name m) as (λ b. Nest limit (cond b (m ∷ filter (has_other_name name) ms) (filter (has_other_name name) ms))) [
       | true ↦ (each.0, filter-nests limit name ms each.1)
       | false ↦ filter-nests limit name ms each.1
     ]

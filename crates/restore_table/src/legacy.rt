@@ -3,7 +3,7 @@
 ghost use Rattle.std.specs.Prelude.{◌≡◌, ◌≤◌, ℕ, List as Items, map, filter, All, IfOk, IfSome, bytes_eq, codes, Option, [], ◌∷◌, ◌++◌};
 ghost use Rattle.std.specs.List.{IsDistinct};
 ghost use Rattle.std.specs.Option.{option_map};
-ghost use Rattle.scene_json.specs.Compact.{is_other};
+ghost use Rattle.scene_json.specs.Compact.{has_other_name};
 ghost use Rattle.scene_json.specs.Members.{pairs};
 ghost use Rattle.scene_json.specs.TheOne.{IsTheOne};
 ghost use Rattle.scene_json.specs.Value.{IsCompact};
@@ -45,7 +45,7 @@ fn with_listing(
     listing: Raw,
 ) -> Result<Vec<Member>, AllocError>
     ensures { IfOk result (λ all. pairs all.items
-        ≡ filter (is_other listing_name) (pairs members.items) ++ (listing_name, listing) ∷ []) }
+        ≡ filter (has_other_name listing_name) (pairs members.items) ++ (listing_name, listing) ∷ []) }
 {
     let mut all = without(members, LISTING);
     all.push(Member::named(alloc, LISTING, listing)?)?;
@@ -54,7 +54,7 @@ fn with_listing(
 
 /// The members with other names than this one.
 fn without(members: Vec<Member>, name: &str) -> Vec<Member>
-    ensures { pairs result.items ≡ filter (is_other name.now) (pairs members.items) }
+    ensures { pairs result.items ≡ filter (has_other_name name.now) (pairs members.items) }
 {
     let mut members = members;
     members.retain(|member| !is_named(member, name));

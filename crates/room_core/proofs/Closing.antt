@@ -8,7 +8,7 @@ use Rattle.room_msg.specs.Texts.{message_text}
 use Rattle.room_core.specs.Closing.{LeadToClose}
 use Rattle.room_core.specs.Rooms.{RoomState, Happening, Joined, Heard, Left, Nothing, IsHeardAs, joined_after, texts_of, text_for_each, without}
 use Rattle.room_core.specs.Serving.{Serving, Round, IsRound, AreRounds, EndsBy, IsServed, at_start, end_of, idles_after, serving_after, serving_at, step_count}
-use Rattle.room_core.specs.Told.{Told, Try, Tells, links_gone, texts_lost, texts_tried}
+use Rattle.room_core.specs.Told.{LinksTold, Try, Tells, links_gone, texts_lost, texts_tried}
 use Rattle.room_core.specs.declared.limits.RoomLimits.{RoomLimits}
 use Rattle.room_core.specs.declared.limits.ServeEnd.{ServeEnd}
 use Rattle.room_core.specs.declared.limits.ServeEnd.TheVariants.{AllClosed, Idle as IdleEnd, LinkFault, LinksFull, EventsFull, Memory}
@@ -185,7 +185,7 @@ lost-once : (sent : Option (List (ℕ × List ℕ))) (before after : Option (Lis
 lost-once None before after ts us tells some one two = absurd cc
 lost-once (Some texts) before after ts us tells some one two = (length texts, told-once before after _ _ some one two)
 
-pub closing-ends : (limits : RoomLimits) (first other new : RoomState) (before after : Told) (end : ServeEnd) → first.joined ≡ other.joined
+pub closing-ends : (limits : RoomLimits) (first other new : RoomState) (before after : LinksTold) (end : ServeEnd) → first.joined ≡ other.joined
     → LeadToClose limits (at_start first) before after → IsServed limits (at_start other) new before after end → EndsClosed end
 closing-ends limits first other new before after end joined leads served =
     let lost = lost-once before.sent before.lost after.lost (tries_of served.rounds ++ served.last_tries) (tries_of leads.rounds ++ leads.more_tries) leads.tell_sent leads.tell_lost served.told.lost leads.told.lost in

@@ -5,7 +5,7 @@ use Rattle.std.proofs.lemmas.Bool.{eqb-true}
 use Rattle.std.proofs.lemmas.List.Folds.{list_any-append}
 use Rattle.std.proofs.lemmas.Map.Views.{any-filter_same}
 use Rattle.frac_keys.specs.Rising.{are_rising}
-use Rattle.elem.specs.Drawn.{Drawn}
+use Rattle.elem.specs.ElementValue.{ElementValue}
 use Rattle.elem_store.specs.Updates.{ids_of, AreStored}
 use Rattle.elem_store.proofs.StoreLaws.{AreStored-itself}
 use Rattle.board_io.specs.declared.links.LinkEvent.{LinkEvent}
@@ -14,7 +14,7 @@ use Rattle.room_msg.specs.Messages.{IsReadAs}
 use Rattle.room_msg.specs.declared.fault.MsgFault.{MsgFault}
 use Rattle.room_msg.specs.declared.message.Message.{Message}
 use Rattle.room_msg.proofs.Once.{answer-once}
-use Rattle.room_core.specs.Rooms.{RoomState, Happening, Joined, Heard, Left, Nothing, IsHeardAs, IsAfter, HaveTaken, is_among, with_link, without}
+use Rattle.room_core.specs.Rooms.{RoomState, Happening, Joined, Heard, Left, Nothing, IsHeardAs, IsRoomAfter, HaveTaken, is_among, with_link, without}
 use Rattle.room_core.specs.Members.{Step, AreSteps, updates_after, member_updates, has_message}
 use Rattle.room_core.specs.Told.{links_gone}
 use Rattle.room_core.specs.Serving.{Serving, Round, AreRounds, serving_after, serving_at, steps_of}
@@ -58,17 +58,17 @@ has-message links sender link member = by (sender == link) refl
         kept ∙ member
 
 -- where nothing is taken, what is stored stays so
-same-stored : (had old new : List Drawn) → HaveTaken old [] new → AreStored had old → AreStored had new
+same-stored : (had old new : List ElementValue) → HaveTaken old [] new → AreStored had old → AreStored had new
 same-stored had old new taken are = rw (append-nil had) at (taken had are)
 
-module _ (link : ℕ) (old new : RoomState) (had : List Drawn) (ordered : are_rising (ids_of old.elements) ≡ true)
+module _ (link : ℕ) (old new : RoomState) (had : List ElementValue) (ordered : are_rising (ids_of old.elements) ≡ true)
     (stored : is_among old.joined link ≡ true → AreStored had old.elements) where
-  step-joined : (b : Bool) (other : ℕ) → (other == link) ≡ b → IsAfter old (Joined other) new → is_among new.joined link ≡ true → AreStored (updates_after link old had (Joined other)) new.elements
+  step-joined : (b : Bool) (other : ℕ) → (other == link) ≡ b → IsRoomAfter old (Joined other) new → is_among new.joined link ≡ true → AreStored (updates_after link old had (Joined other)) new.elements
   step-joined true other is after member = rw is (same-stored old.elements old.elements new.elements after.elements (AreStored-itself old.elements ordered))
   step-joined false other is after member =
       rw is (same-stored had old.elements new.elements after.elements (stored (joined-before old.joined other link is (rw after.joined at member))))
 
-  member-step : (happening : Happening) → IsAfter old happening new → is_among new.joined link ≡ true → AreStored (updates_after link old had happening) new.elements
+  member-step : (happening : Happening) → IsRoomAfter old happening new → is_among new.joined link ≡ true → AreStored (updates_after link old had happening) new.elements
   member-step (Joined other) after member = step-joined (other == link) other refl after member
   member-step (Heard sender (Ok message)) after member =
       let before : is_among old.joined link ≡ true = rw after.joined at member in
@@ -79,7 +79,7 @@ module _ (link : ℕ) (old new : RoomState) (had : List Drawn) (ordered : are_ri
       (stored (any-some (λ x. x == link) (λ x. not (is_among links x)) old.joined (rw after.joined at member)))
   member-step Nothing after member = same-stored had old.elements new.elements after.elements (stored (rw after.joined at member))
 
-members-stored : (link : ℕ) (room : RoomState) (had : List Drawn) (steps : List Step) (last : RoomState) → are_rising (ids_of room.elements) ≡ true
+members-stored : (link : ℕ) (room : RoomState) (had : List ElementValue) (steps : List Step) (last : RoomState) → are_rising (ids_of room.elements) ≡ true
     → (is_among room.joined link ≡ true → AreStored had room.elements) → AreSteps room steps last → is_among last.joined link ≡ true
     → AreStored (member_updates link room had steps) last.elements
 members-stored link room had [] last ordered stored same member = rw same (stored (rw same at member))
@@ -100,7 +100,7 @@ pub rounds-steps : (limits : RoomLimits) (now : Serving) (rounds : List Round) �
 rounds-steps limits now [] are = refl
 rounds-steps limits now (round ∷ rounds) are =
     let one = are.2 in
-    let left : IsAfter round.stepped (Left (links_gone round.tries)) round.after = record {
+    let left : IsRoomAfter round.stepped (Left (links_gone round.tries)) round.after = record {
       elements = none_taken round.stepped.elements round.after.elements (ap (λ (s : RoomState). s.elements) one.after);
       joined = ap (λ (s : RoomState). s.joined) one.after;
     } in

@@ -3,16 +3,16 @@ use Rattle.std.proofs.Common.{◌≡◌, ℕ, zero, suc, ◌<◌, List, [], ◌�
 use Rattle.std.specs.List.{join_with_byte}
 use Rattle.scene_json.specs.Characters.{quote}
 use Rattle.scene_json.specs.Compact.{array_text, object_text}
-use Rattle.elem.specs.Drawn.{Drawn}
+use Rattle.elem.specs.ElementValue.{ElementValue}
 use Rattle.elem.specs.Texts.{element_text}
-use Rattle.room_msg.specs.Faults.{fault_words}
+use Rattle.room_msg.specs.Faults.{message_fault_words}
 use Rattle.room_msg.specs.Texts.{message_text}
 use Rattle.room_msg.specs.declared.fault.MsgFault.{MsgFault}
 use Rattle.room_msg.specs.declared.message.Message.TheVariants.{Init}
 use Rattle.room_core.specs.Rooms.{invalid_text}
 
 -- an index within the elements has one
-pub within_stored : (stored : List Drawn) (i : ℕ) → i < length stored → None ≡ slice_get stored i → ⊥
+pub within_stored : (stored : List ElementValue) (i : ℕ) → i < length stored → None ≡ slice_get stored i → ⊥
 within_stored [] i l h = absurd (omega arith)
 within_stored (e ∷ stored) zero l h = cc
 within_stored (e ∷ stored) (suc i) l h = within_stored stored i (omega arith) h
@@ -29,7 +29,7 @@ bracket = 93 ∷ []
 closed_twice : (texts : List ℕ) → texts ++ (bracket ++ (brace ++ brace)) ≡ ((texts ++ bracket) ++ brace) ++ brace
 closed_twice texts = sym (append_assoc (texts ++ bracket) brace brace ∙ append_assoc texts bracket (brace ++ brace))
 
-pub init-written : (elements : List Drawn) (empty opened filled closed : List ℕ) → empty ≡ [] → opened ≡ empty ++ init_front
+pub init-written : (elements : List ElementValue) (empty opened filled closed : List ℕ) → empty ≡ [] → opened ≡ empty ++ init_front
     → filled ≡ opened ++ join_with_byte 44 (map element_text elements) → closed ≡ filled ++ (bracket ++ (brace ++ brace)) → closed ≡ message_text (Init elements)
 unfolding message_text object_text array_text quote
 init-written elements empty opened filled closed none one two three =
@@ -42,10 +42,10 @@ abbrev invalid_front : List ℕ
 invalid_front = codes "{\"type\":\"INVALID_RESPONSE\",\"payload\":{\"fault\":"
 
 pub invalid-written : (fault : MsgFault) (empty opened filled closed : List ℕ) → empty ≡ [] → opened ≡ empty ++ invalid_front
-    → filled ≡ opened ++ quote (fault_words fault) → closed ≡ filled ++ (brace ++ brace) → closed ≡ invalid_text fault
+    → filled ≡ opened ++ quote (message_fault_words fault) → closed ≡ filled ++ (brace ++ brace) → closed ≡ invalid_text fault
 unfolding object_text quote
 invalid-written fault empty opened filled closed none one two three =
-    let words = quote (fault_words fault) in
+    let words = quote (message_fault_words fault) in
     three ∙ ap (λ x. x ++ (brace ++ brace)) (two ∙ ap (λ x. x ++ words) (one ∙ ap (λ x. x ++ invalid_front) none))
     ∙ append_assoc invalid_front words (brace ++ brace)
     ∙ ap (λ x. invalid_front ++ x) (sym (append_assoc words brace brace))

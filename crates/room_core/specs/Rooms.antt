@@ -4,11 +4,11 @@ use Rattle.std.specs.Prelude.{◌≡◌, ℕ, ◌==◌, nat_lt, List, [], ◌∷
 use Rattle.std.specs.List.{list_any}
 use Rattle.scene_json.specs.Characters.{quote}
 use Rattle.scene_json.specs.Compact.{object_text}
-use Rattle.elem.specs.Drawn.{Drawn}
+use Rattle.elem.specs.ElementValue.{ElementValue}
 use Rattle.elem_store.specs.Updates.{AreStored}
 use Rattle.board_io.specs.declared.links.LinkEvent.{LinkEvent}
 use Rattle.board_io.specs.declared.links.LinkEvent.TheVariants.{Opened, Text, Closed, Idle}
-use Rattle.room_msg.specs.Faults.{fault_words}
+use Rattle.room_msg.specs.Faults.{message_fault_words}
 use Rattle.room_msg.specs.Messages.{IsReadAs}
 use Rattle.room_msg.specs.Texts.{message_text}
 use Rattle.room_msg.specs.declared.fault.MsgFault.{MsgFault}
@@ -17,7 +17,7 @@ use Rattle.room_msg.specs.declared.message.Message.TheVariants.{Init, Update, Pr
 
 -- A room: what is stored of the updates that it took, and its joined links, in rising order.
 pub record RoomState : Type 0 where
-  pub elements : List Drawn
+  pub elements : List ElementValue
   pub joined : List ℕ
 
 -- whether a link is among these
@@ -49,15 +49,15 @@ IsHeardAs joined (Closed link) happening = happening ≡ Left (link ∷ [])
 IsHeardAs joined Idle happening = happening ≡ Nothing
 
 -- the updates of a message
-abbrev pub updates_of : Message → List Drawn
-updates_of (Init elements) = elements
-updates_of (Update elements) = elements
-updates_of (Presence value) = []
+abbrev pub message_updates : Message → List ElementValue
+message_updates (Init elements) = elements
+message_updates (Update elements) = elements
+message_updates (Presence value) = []
 
 -- the updates that a room takes where this happened
-abbrev pub taken_of : Happening → List Drawn
+abbrev pub taken_of : Happening → List ElementValue
 taken_of (Joined link) = []
-taken_of (Heard link (Ok message)) = updates_of message
+taken_of (Heard link (Ok message)) = message_updates message
 taken_of (Heard link (Err fault)) = []
 taken_of (Left links) = []
 taken_of Nothing = []
@@ -72,7 +72,7 @@ joined_after joined Nothing = joined
 -- the text that tells a link of the fault of its message
 abbrev pub invalid_text : MsgFault → List ℕ
 invalid_text fault =
-    object_text ((codes "type", quote (codes "INVALID_RESPONSE")) ∷ (codes "payload", object_text ((codes "fault", quote (fault_words fault)) ∷ [])) ∷ [])
+    object_text ((codes "type", quote (codes "INVALID_RESPONSE")) ∷ (codes "payload", object_text ((codes "fault", quote (message_fault_words fault)) ∷ [])) ∷ [])
 
 -- a text for each of these links
 abbrev pub text_for_each : List ℕ → List ℕ → List (ℕ × List ℕ)
@@ -88,24 +88,24 @@ texts_of room (Left links) = []
 texts_of room Nothing = []
 
 -- What is stored of a list of updates is, with these at its end, stored as the new elements.
-abbrev pub HaveTaken : List Drawn → List Drawn → List Drawn → Type 0
-HaveTaken old taken new = (updates : List Drawn) → AreStored updates old → AreStored (updates ++ taken) new
+abbrev pub HaveTaken : List ElementValue → List ElementValue → List ElementValue → Type 0
+HaveTaken old taken new = (updates : List ElementValue) → AreStored updates old → AreStored (updates ++ taken) new
 
 -- What bytes of a joined link are read as, the texts that this gives, and what is stored then.
-pub record HaveHeard (old : List Drawn) (joined : List ℕ) (sender : ℕ) (bytes : List ℕ) (new : List Drawn) (texts : List (ℕ × List ℕ)) : Type 0 where
+pub record HaveHeard (old : List ElementValue) (joined : List ℕ) (sender : ℕ) (bytes : List ℕ) (new : List ElementValue) (texts : List (ℕ × List ℕ)) : Type 0 where
   pub answer : Result Message MsgFault
   pub read : IsReadAs bytes answer
   pub told : texts ≡ texts_of (record { elements = old; joined = joined }) (Heard sender answer)
   pub taken : HaveTaken old (taken_of (Heard sender answer)) new
 
 -- A room after this happened in the old one.
-pub record IsAfter (old : RoomState) (happening : Happening) (new : RoomState) : Type 0 where
+pub record IsRoomAfter (old : RoomState) (happening : Happening) (new : RoomState) : Type 0 where
   pub elements : HaveTaken old.elements (taken_of happening) new.elements
   pub joined : new.joined ≡ joined_after old.joined happening
 
 -- What an event of the links gives a room: the new room, and the texts to send.
-pub record IsStep (old : RoomState) (event : LinkEvent) (new : RoomState) (texts : List (ℕ × List ℕ)) : Type 0 where
+pub record IsRoomStep (old : RoomState) (event : LinkEvent) (new : RoomState) (texts : List (ℕ × List ℕ)) : Type 0 where
   pub happening : Happening
   pub heard : IsHeardAs old.joined event happening
   pub told : texts ≡ texts_of old happening
-  pub after : IsAfter old happening new
+  pub after : IsRoomAfter old happening new

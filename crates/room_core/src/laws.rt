@@ -2,7 +2,7 @@
 
 ghost use Rattle.std.specs.Prelude.{◌≡◌, ◌⊎◌, ℕ, List, [], true};
 ghost use Rattle.frac_keys.specs.Rising.{are_rising};
-ghost use Rattle.elem.specs.Drawn.{Drawn};
+ghost use Rattle.elem.specs.ElementValue.{ElementValue};
 ghost use Rattle.elem.specs.Said.{AreElements};
 ghost use Rattle.elem_store.specs.Updates.{ids_of, AreStored, HaveSameUpdates};
 ghost use Rattle.board_io.specs.declared.links.LinkEvent.{LinkEvent};
@@ -10,7 +10,7 @@ ghost use Rattle.room_core.specs.Rooms.{RoomState, Happening, IsHeardAs, is_amon
 ghost use Rattle.room_core.specs.Closing.{LeadToClose};
 ghost use Rattle.room_core.specs.Members.{Step, AreSteps, member_updates};
 ghost use Rattle.room_core.specs.Serving.{Serving, Round, AreRounds, IsServed, at_start, serving_at, steps_of};
-ghost use Rattle.room_core.specs.Told.{Told};
+ghost use Rattle.room_core.specs.Told.{LinksTold};
 ghost use Rattle.room_core.specs.declared.limits.RoomLimits.{RoomLimits};
 ghost use Rattle.room_core.specs.declared.limits.ServeEnd.{ServeEnd};
 
@@ -29,7 +29,7 @@ pub fn member_stores_the_room()
 
 /// Any list of the same updates, which are elements as all that is read is, stores what the room stores.
 pub fn members_agree()
-    ensures { (link : ℕ) (room last : RoomState) (steps : List Step) (others news : List Drawn) → room.joined ≡ []
+    ensures { (link : ℕ) (room last : RoomState) (steps : List Step) (others news : List ElementValue) → room.joined ≡ []
         → are_rising (ids_of room.elements) ≡ true → AreSteps room steps last → is_among last.joined link ≡ true
         → AreElements (member_updates link room [] steps)
         → HaveSameUpdates (member_updates link room [] steps) others → AreStored others news → news ≡ last.elements }
@@ -44,7 +44,7 @@ pub fn rounds_are_steps()
 /// Where the links tell rounds within the limits after which a link was opened and none is joined, that ends the room,
 /// unless memory is wanted or the links fail. What rooms store plays no part.
 pub fn closing_ends_a_room()
-    ensures { (limits : RoomLimits) (room other new : RoomState) (before after : Told) (end : ServeEnd)
+    ensures { (limits : RoomLimits) (room other new : RoomState) (before after : LinksTold) (end : ServeEnd)
         → room.joined ≡ other.joined → LeadToClose limits (at_start room) before after
         → IsServed limits (at_start other) new before after end
         → (end ≡ ServeEnd.AllClosed) ⊎ ((end ≡ ServeEnd.Memory) ⊎ (end ≡ ServeEnd.LinkFault)) }

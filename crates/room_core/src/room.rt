@@ -2,7 +2,7 @@
 
 ghost use Rattle.std.specs.Prelude.{◌≡◌, ◌≤◌, [], ◌∷◌, All, length, map, IfOk, OnOk, OnErr};
 ghost use Rattle.std.specs.List.Sorted.{IsStrictlyIncreasing};
-ghost use Rattle.room_core.specs.Rooms.{IsStep, HaveHeard, HaveTaken, text_for_each, without, with_link, updates_of};
+ghost use Rattle.room_core.specs.Rooms.{IsRoomStep, HaveHeard, HaveTaken, text_for_each, without, with_link, message_updates};
 ghost use Rattle.room_msg.specs.Texts as texts;
 
 use crate::joined::{has_link, insert_link, other_links, remove_links};
@@ -47,7 +47,7 @@ impl Room {
     /// Takes one event of the links, and gives the texts to send, with their links, in their order. For want of memory the
     /// room is as before.
     pub fn step(&mut self, event: &LinkEvent) -> Result<List<(u64, Bytes)>, AllocError>
-        ensures stepped { IfOk result (λ texts. IsStep self.old event.now self.new texts) }
+        ensures stepped { IfOk result (λ texts. IsRoomStep self.old event.now self.new texts) }
         ensures err { OnErr result (self.new ≡ self.old) }
     {
         match event {
@@ -140,7 +140,7 @@ fn relay(
     message: &Message,
 ) -> Result<List<(u64, Bytes)>, AllocError>
     ensures told { IfOk result (λ told. told ≡ text_for_each (without joined.now.items (sender ∷ [])) (texts.message_text message.now)) }
-    ensures taken { OnOk result (HaveTaken store.old.elements (updates_of message.now) store.new.elements) }
+    ensures taken { OnOk result (HaveTaken store.old.elements (message_updates message.now) store.new.elements) }
     ensures err { OnErr result (store.new.elements ≡ store.old.elements) }
 {
     let alloc = *joined.allocator();
@@ -153,7 +153,7 @@ fn relay(
 
 /// The updates of a message.
 fn updates_in(message: &Message) -> &[Element]
-    ensures { result.now ≡ updates_of message.now }
+    ensures { result.now ≡ message_updates message.now }
 {
     match message {
         Message::Init(elements) => elements.as_slice(),

@@ -8,10 +8,10 @@ use Rattle.scene_json.specs.Compact.{Member as Pair, array_text, object_text}
 use Rattle.scene_json.specs.Parts.{AreMembers}
 use Rattle.scene_json.specs.Value.{IsCompact}
 use Rattle.scene_json.proofs.CompactLaws.{Value-deeper, quote-compact, array-compact, object-compact}
-use Rattle.elem.specs.Drawn.{Drawn}
+use Rattle.elem.specs.ElementValue.{ElementValue}
 use Rattle.elem.specs.Texts.{element_text}
 use Rattle.elem.proofs.Saying.{literal}
-use Rattle.elem_read.specs.Reading.{IsWhole}
+use Rattle.elem_read.specs.Reading.{IsWholeElement}
 use Rattle.elem_read.proofs.ReadElements.{AreRead-texts}
 use Rattle.room_msg.specs.Messages.{init_tag, update_tag, HasElements, StandsAlone, IsReadAs, IsWholeMessage}
 use Rattle.room_msg.specs.Texts.{tagged_members, message_text}
@@ -25,15 +25,15 @@ alone text compact = record {
   space = refl;
 }
 
-elements-compact : (limit : ℕ) (elements : List Drawn) → 120 ≤ limit → All IsWhole elements → AllByRecursion (IsCompact limit) (map element_text elements)
+elements-compact : (limit : ℕ) (elements : List ElementValue) → 120 ≤ limit → All IsWholeElement elements → AllByRecursion (IsCompact limit) (map element_text elements)
 elements-compact limit elements deep whole =
     recursion_from_All (IsCompact limit) (map element_text elements)
-    (All-map (IsCompact limit) element_text elements (All-weaker IsWhole (λ e. IsCompact limit (element_text e)) (λ e is. Value-deeper deep is.shallow) elements whole))
+    (All-map (IsCompact limit) element_text elements (All-weaker IsWholeElement (λ e. IsCompact limit (element_text e)) (λ e is. Value-deeper deep is.shallow) elements whole))
 
-inner : List Drawn → List Pair
+inner : List ElementValue → List Pair
 inner elements = (codes "elements", array_text (map element_text elements)) ∷ []
 
-inner-are : (limit : ℕ) (elements : List Drawn) → 121 ≤ limit → All IsWhole elements → AreMembers limit (inner elements)
+inner-are : (limit : ℕ) (elements : List ElementValue) → 121 ≤ limit → All IsWholeElement elements → AreMembers limit (inner elements)
 unfolding inner
 inner-are limit elements deep whole = record {
   named = (literal (codes "elements") refl, tt);
@@ -41,7 +41,7 @@ inner-are limit elements deep whole = record {
   distinct = IsDistinct-from_count nat_list_eq_equiv _ refl;
 }
 
-tagged-are : (tag : List ℕ) (elements : List Drawn) → IsUtf8 tag → All IsWhole elements → AreMembers 127 (tagged_members tag elements)
+tagged-are : (tag : List ℕ) (elements : List ElementValue) → IsUtf8 tag → All IsWholeElement elements → AreMembers 127 (tagged_members tag elements)
 unfolding inner
 tagged-are tag elements utf8 whole = record {
   named = (literal (codes "type") refl, (literal (codes "payload") refl, tt));
@@ -52,7 +52,7 @@ tagged-are tag elements utf8 whole = record {
   distinct = IsDistinct-from_count nat_list_eq_equiv _ refl;
 }
 
-has-elements : (tag : List ℕ) (elements : List Drawn) → IsUtf8 tag → All IsWhole elements → HasElements (object_text (tagged_members tag elements)) tag elements
+has-elements : (tag : List ℕ) (elements : List ElementValue) → IsUtf8 tag → All IsWholeElement elements → HasElements (object_text (tagged_members tag elements)) tag elements
 unfolding inner
 has-elements tag elements utf8 whole = record {
   members = tagged_members tag elements;
@@ -70,7 +70,7 @@ has-elements tag elements utf8 whole = record {
   read = AreRead-texts elements whole;
 }
 
-tagged-alone : (tag : List ℕ) (elements : List Drawn) → IsUtf8 tag → All IsWhole elements → StandsAlone (object_text (tagged_members tag elements)) (object_text (tagged_members tag elements))
+tagged-alone : (tag : List ℕ) (elements : List ElementValue) → IsUtf8 tag → All IsWholeElement elements → StandsAlone (object_text (tagged_members tag elements)) (object_text (tagged_members tag elements))
 tagged-alone tag elements utf8 whole =
     alone (object_text (tagged_members tag elements)) (object-compact 127 (tagged_members tag elements) (tagged-are tag elements utf8 whole))
 

@@ -11,13 +11,13 @@ use Rattle.scene_json.specs.declared.fault.JsonFault.TheVariants.{Syntax}
 use Rattle.scene_json.proofs.Collapsed.{bytes_eq-true, bytes_eq-same}
 use Rattle.scene_json.proofs.CompactLaws.{Value-compact}
 use Rattle.scene_json.proofs.Decided.{array-or-not, object-or-not, value-or-fault}
-use Rattle.elem.specs.Drawn.{Drawn}
+use Rattle.elem.specs.ElementValue.{ElementValue}
 use Rattle.elem.specs.Forms.{IsObject}
 use Rattle.elem.proofs.FormsOnce.{members-once}
 use Rattle.elem_read.specs.Elements.{AreRead}
 use Rattle.elem_read.proofs.Decided.{Decided, Fits, fits-in, text-or-not}
 use Rattle.elem_read.proofs.ReadElements.{read-or-faulty, All-whole}
-use Rattle.room_msg.specs.Messages.{init_tag, update_tag, HasTag, HasPayload, IsMessageOf, IsFaultOf, IsPayloadFault, StandsAlone, IsReadAs, IsWholeMessage}
+use Rattle.room_msg.specs.Messages.{init_tag, update_tag, HasTag, HasPayload, IsMessageOf, IsMessageFault, IsPayloadFault, StandsAlone, IsReadAs, IsWholeMessage}
 use Rattle.room_msg.specs.declared.fault.MsgFault.{MsgFault}
 use Rattle.room_msg.specs.declared.fault.MsgFault.TheVariants.{Json, NotObject, Tag, Payload, Element}
 use Rattle.room_msg.specs.declared.message.Message.{Message}
@@ -62,7 +62,7 @@ payload-or-not members are = by (object-found (value_at (codes "payload") member
 
 -- what members are read as that are to have elements
 abbrev ElementsTold : List Pair → Type 0
-ElementsTold members = ((values : List (List ℕ)) × (elements : List Drawn) × HasPayload members values × AreRead values elements) ⊎ ((fault : MsgFault) × IsPayloadFault members fault)
+ElementsTold members = ((values : List (List ℕ)) × (elements : List ElementValue) × HasPayload members values × AreRead values elements) ⊎ ((fault : MsgFault) × IsPayloadFault members fault)
 
 elements-or-faulty : (members : List Pair) → AreMembers 127 members → ElementsTold members
 elements-or-faulty members are = elim (payload-or-not members are) [
@@ -75,9 +75,9 @@ elements-or-faulty members are = elim (payload-or-not members are) [
 
 -- ---- values
 abbrev Told : List ℕ → Type 0
-Told text = ((message : Message) × IsMessageOf text message) ⊎ ((fault : MsgFault) × IsFaultOf text fault)
+Told text = ((message : Message) × IsMessageOf text message) ⊎ ((fault : MsgFault) × IsMessageFault text fault)
 
-payload-fault : (text : List ℕ) (members : List Pair) (fault : MsgFault) → IsObject text members → (HasTag members init_tag ⊎ HasTag members update_tag) → IsPayloadFault members fault → IsFaultOf text fault
+payload-fault : (text : List ℕ) (members : List Pair) (fault : MsgFault) → IsObject text members → (HasTag members init_tag ⊎ HasTag members update_tag) → IsPayloadFault members fault → IsMessageFault text fault
 payload-fault text members (Json found) object tagged is = absurd is
 payload-fault text members NotObject object tagged is = absurd is
 payload-fault text members Tag object tagged is = absurd is
@@ -133,7 +133,7 @@ value-told text is = elim (object-or-not text is) [
 abbrev Read : List ℕ → Type 0
 Read bytes = (answer : Result Message MsgFault) × IsReadAs bytes answer
 
-faulty : (bytes text : List ℕ) (fault : MsgFault) → StandsAlone bytes text → IsFaultOf text fault → Read bytes
+faulty : (bytes text : List ℕ) (fault : MsgFault) → StandsAlone bytes text → IsMessageFault text fault → Read bytes
 faulty bytes text (Json found) alone is = absurd is.3
 faulty bytes text NotObject alone is = (Err NotObject, (text, alone, is))
 faulty bytes text Tag alone is = (Err Tag, (text, alone, is))

@@ -11,14 +11,14 @@ use Rattle.scene_json.specs.declared.fault.JsonFault.{JsonFault}
 use Rattle.scene_json.specs.declared.fault.JsonFault.TheVariants.{Syntax}
 use Rattle.scene_json.proofs.FirstFaults as json
 use Rattle.scene_json.proofs.Reading.{Stands-once}
-use Rattle.elem.specs.Drawn.{Drawn}
+use Rattle.elem.specs.ElementValue.{ElementValue}
 use Rattle.elem.specs.Forms.{IsObject}
 use Rattle.elem.proofs.FormsOnce.{text-once, members-once}
 use Rattle.elem.proofs.Once.{array-once}
 use Rattle.elem_read.specs.Elements.{AreRead, IsFirstFaulty}
 use Rattle.elem_read.specs.declared.fault.ElemFault.{ElemFault}
 use Rattle.elem_read.proofs.ReadElements.{read-once, faulty-once, faultless}
-use Rattle.room_msg.specs.Messages.{init_tag, update_tag, HasTag, HasPayload, IsMessageOf, IsFaultOf, StandsAlone, HasMore, IsReadAs}
+use Rattle.room_msg.specs.Messages.{init_tag, update_tag, HasTag, HasPayload, IsMessageOf, IsMessageFault, StandsAlone, HasMore, IsReadAs}
 use Rattle.room_msg.specs.declared.fault.MsgFault.{MsgFault}
 use Rattle.room_msg.specs.declared.fault.MsgFault.TheVariants.{Json, NotObject, Tag, Payload, Element}
 use Rattle.room_msg.specs.declared.message.Message.{Message}
@@ -43,12 +43,12 @@ payload-once members vs ws one two =
     (same_Some (array_text vs) (array_text ws) (sym one.array ∙ ap (value_at (codes "elements")) inner ∙ two.array))
 
 -- what members are read as that are to have elements
-data Carried (members : List Pair) (make : List Drawn → Message) (answer : Answer) : Type 0 where
+data Carried (members : List Pair) (make : List ElementValue → Message) (answer : Answer) : Type 0 where
   none : answer ≡ Err Payload → ((values : List (List ℕ)) → HasPayload members values → ⊥) → Carried members make answer
   faulty : (values : List (List ℕ)) (place : ℕ) (why : ElemFault) → HasPayload members values → answer ≡ Err (Element place why) → IsFirstFaulty values place why → Carried members make answer
-  read : (values : List (List ℕ)) (elements : List Drawn) → HasPayload members values → answer ≡ Ok (make elements) → AreRead values elements → Carried members make answer
+  read : (values : List (List ℕ)) (elements : List ElementValue) → HasPayload members values → answer ≡ Ok (make elements) → AreRead values elements → Carried members make answer
 
-carried-once : (members : List Pair) (make : List Drawn → Message) (a b : Answer) → Carried members make a → Carried members make b → a ≡ b
+carried-once : (members : List Pair) (make : List ElementValue → Message) (a b : Answer) → Carried members make a → Carried members make b → a ≡ b
 carried-once members make a b (none e one) (none f two) = e ∙ sym f
 carried-once members make a b (none e one) (faulty ws place why has f two) = absurd (one ws has)
 carried-once members make a b (none e one) (read ws fs has f two) = absurd (one ws has)
@@ -115,7 +115,7 @@ is-message text (Init elements) m = object m.members m.object (tagged init_tag m
 is-message text (Update elements) m = object m.members m.object (tagged update_tag m.tagged (update refl (read m.values elements m.payload refl m.read)))
 is-message text (Presence value) m = object m.1.members m.1.object (tagged m.1.tag m.1.tagged (plain m.1.not_init m.1.not_update (ap (λ v. given (Presence v)) m.0)))
 
-is-fault : (text : List ℕ) (fault : MsgFault) → IsFaultOf text fault → OfValue text (Err fault)
+is-fault : (text : List ℕ) (fault : MsgFault) → IsMessageFault text fault → OfValue text (Err fault)
 is-fault text (Json found) is = absurd is.3
 is-fault text NotObject is = apart refl is
 is-fault text Tag is = object is.0 is.1 (untagged refl is.2)

@@ -6,7 +6,7 @@ use Rattle.scene_json.specs.Compact.{Member as Pair}
 use Rattle.scene_json.specs.Named.{value_at}
 use Rattle.elem.specs.Forms.{IsObject}
 use Rattle.elem.proofs.Saying.{literal}
-use Rattle.room_msg.specs.Messages.{init_tag, update_tag, HasTag, IsPresence, IsPayloadFault, IsFaultOf, StandsAlone, IsReadAs}
+use Rattle.room_msg.specs.Messages.{init_tag, update_tag, HasTag, IsPresence, IsPayloadFault, IsMessageFault, StandsAlone, IsReadAs}
 use Rattle.room_msg.specs.declared.fault.MsgFault.{MsgFault}
 use Rattle.room_msg.specs.declared.fault.MsgFault.TheVariants.{Json, NotObject, Tag, Payload, Element}
 
@@ -23,14 +23,14 @@ presence text members tag object has not_init not_update = record {
   not_update = λ same. not_update (has.1 ∙ ap (λ t. Some (quote t)) same);
 }
 
-pub payload-fault : (text : List ℕ) (members : List Pair) (fault : MsgFault) → IsObject text members → HasTag members init_tag ⊎ HasTag members update_tag → IsPayloadFault members fault → IsFaultOf text fault
+pub payload-fault : (text : List ℕ) (members : List Pair) (fault : MsgFault) → IsObject text members → HasTag members init_tag ⊎ HasTag members update_tag → IsPayloadFault members fault → IsMessageFault text fault
 payload-fault text members (Json found) object tag is = absurd is
 payload-fault text members NotObject object tag is = absurd is
 payload-fault text members Tag object tag is = absurd is
 payload-fault text members Payload object tag is = (members, object, tag, is)
 payload-fault text members (Element place why) object tag is = (members, object, tag, is)
 
-pub fault-alone : (bytes text : List ℕ) (fault : MsgFault) → StandsAlone bytes text → IsFaultOf text fault → IsReadAs bytes (Err fault)
+pub fault-alone : (bytes text : List ℕ) (fault : MsgFault) → StandsAlone bytes text → IsMessageFault text fault → IsReadAs bytes (Err fault)
 fault-alone bytes text (Json found) stands is = absurd is.3
 fault-alone bytes text NotObject stands is = (text, stands, is)
 fault-alone bytes text Tag stands is = (text, stands, is)

@@ -3,7 +3,7 @@ use Rattle.std.proofs.Common.{◌≡◌, ℕ, List, [], ◌∷◌, ◌++◌, cod
 use Rattle.std.specs.List.{join_with_byte}
 use Rattle.scene_json.specs.Characters.{quote}
 use Rattle.scene_json.specs.Compact.{array_text, object_text}
-use Rattle.elem.specs.Drawn.{Drawn}
+use Rattle.elem.specs.ElementValue.{ElementValue}
 use Rattle.elem.specs.Texts.{element_text}
 use Rattle.room_msg.specs.Texts.{tagged_members}
 
@@ -25,7 +25,7 @@ whole tag texts =
     (sym (append_assoc tag (middle ++ ((texts ++ bracket) ++ brace)) brace
     ∙ ap (λ x. tag ++ (middle ++ x)) (append_assoc (texts ++ bracket) brace brace ∙ append_assoc texts bracket (brace ++ brace))))
 
-pub tagged-written : (tag : List ℕ) (elements : List Drawn) (empty begun tagged opened filled closed : List ℕ) → empty ≡ [] → begun ≡ empty ++ start → tagged ≡ begun ++ quote tag → opened ≡ tagged ++ middle →
+pub tagged-written : (tag : List ℕ) (elements : List ElementValue) (empty begun tagged opened filled closed : List ℕ) → empty ≡ [] → begun ≡ empty ++ start → tagged ≡ begun ++ quote tag → opened ≡ tagged ++ middle →
     filled ≡ opened ++ join_with_byte 44 (map element_text elements) → closed ≡ filled ++ (bracket ++ (brace ++ brace)) → closed ≡ object_text (tagged_members tag elements)
 unfolding object_text array_text quote
 tagged-written tag elements empty begun tagged opened filled closed none one two three four five =

@@ -8,10 +8,10 @@ use Rattle.scene_json.specs.Faults.{IsFirstFault}
 use Rattle.scene_json.specs.Named.{value_at}
 use Rattle.scene_json.specs.Value.{IsCompact, Stands}
 use Rattle.scene_json.specs.declared.fault.JsonFault.TheVariants.{Syntax}
-use Rattle.elem.specs.Drawn.{Drawn}
+use Rattle.elem.specs.ElementValue.{ElementValue}
 use Rattle.elem.specs.Forms.{IsObject, IsText}
 use Rattle.elem_read.specs.Elements.{AreRead, IsFirstFaulty}
-use Rattle.elem_read.specs.Reading.{IsWhole}
+use Rattle.elem_read.specs.Reading.{IsWholeElement}
 use Rattle.room_msg.specs.declared.fault.MsgFault.{MsgFault}
 use Rattle.room_msg.specs.declared.fault.MsgFault.TheVariants.{Json, NotObject, Tag, Payload, Element}
 use Rattle.room_msg.specs.declared.message.Message.{Message}
@@ -38,7 +38,7 @@ pub record HasPayload (members : List Pair) (values : List (List ℕ)) : Type 0 
   pub array : value_at (codes "elements") others ≡ Some (array_text values)
 
 -- The compact text is a message of this type with these elements.
-pub record HasElements (text tag : List ℕ) (elements : List Drawn) : Type 0 where
+pub record HasElements (text tag : List ℕ) (elements : List ElementValue) : Type 0 where
   pub members : List Pair
   pub object : IsObject text members
   pub tagged : HasTag members tag
@@ -68,10 +68,10 @@ IsPayloadFault members (Element place fault) = (values : List (List ℕ)) × Has
 IsPayloadFault members other = ⊥
 
 -- the first fault of a compact text that is no message
-abbrev pub IsFaultOf : List ℕ → MsgFault → Type 0
-IsFaultOf text NotObject = (members : List Pair) → IsObject text members → ⊥
-IsFaultOf text Tag = (members : List Pair) × IsObject text members × ((tag : List ℕ) → HasTag members tag → ⊥)
-IsFaultOf text fault =
+abbrev pub IsMessageFault : List ℕ → MsgFault → Type 0
+IsMessageFault text NotObject = (members : List Pair) → IsObject text members → ⊥
+IsMessageFault text Tag = (members : List Pair) × IsObject text members × ((tag : List ℕ) → HasTag members tag → ⊥)
+IsMessageFault text fault =
     (members : List Pair) × IsObject text members × (HasTag members init_tag ⊎ HasTag members update_tag) × IsPayloadFault members fault
 
 -- One value stands in the bytes, in whatever spelling, and white space alone around it.
@@ -93,10 +93,10 @@ pub record HasMore (bytes : List ℕ) (at : ℕ) : Type 0 where
 abbrev pub IsReadAs : List ℕ → Result Message MsgFault → Type 0
 IsReadAs bytes (Ok message) = (text : List ℕ) × StandsAlone bytes text × IsMessageOf text message
 IsReadAs bytes (Err (Json fault)) = IsFirstFault bytes 0 fault ⊎ ((at : ℕ) × (fault ≡ Syntax at) × HasMore bytes at)
-IsReadAs bytes (Err fault) = (text : List ℕ) × StandsAlone bytes text × IsFaultOf text fault
+IsReadAs bytes (Err fault) = (text : List ℕ) × StandsAlone bytes text × IsMessageFault text fault
 
 -- Reading the message's text gives the message: its elements are whole, or it is read as no elements.
 abbrev pub IsWholeMessage : Message → Type 0
-IsWholeMessage (Init elements) = All IsWhole elements
-IsWholeMessage (Update elements) = All IsWhole elements
+IsWholeMessage (Init elements) = All IsWholeElement elements
+IsWholeMessage (Update elements) = All IsWholeElement elements
 IsWholeMessage (Presence value) = IsPresence value

@@ -2,14 +2,14 @@
 use Rattle.std.specs.Prelude.{ℕ, List, [], ◌∷◌, map, codes}
 use Rattle.scene_json.specs.Characters.{quote}
 use Rattle.scene_json.specs.Compact.{Member as Pair, array_text, object_text}
-use Rattle.elem.specs.Drawn.{Drawn}
+use Rattle.elem.specs.ElementValue.{ElementValue}
 use Rattle.elem.specs.Texts.{element_text}
 use Rattle.room_msg.specs.Messages.{init_tag, update_tag}
 use Rattle.room_msg.specs.declared.message.Message.{Message}
 use Rattle.room_msg.specs.declared.message.Message.TheVariants.{Init, Update, Presence}
 
 -- the members of a message of this type with these elements
-abbrev pub tagged_members : List ℕ → List Drawn → List Pair
+abbrev pub tagged_members : List ℕ → List ElementValue → List Pair
 tagged_members tag elements =
     (codes "type", quote tag) ∷ (codes "payload", object_text ((codes "elements", array_text (map element_text elements)) ∷ [])) ∷ []
 

@@ -1,7 +1,7 @@
 //! Why bytes are no message.
 
 ghost use Rattle.std.specs.Prelude.{◌≡◌, IfOk, string_bytes};
-ghost use Rattle.room_msg.specs.Faults.{fault_words};
+ghost use Rattle.room_msg.specs.Faults.{message_fault_words};
 
 use elem_read::ElemFault;
 use scene_json::JsonFault;
@@ -25,7 +25,7 @@ pub enum MsgFault {
 impl MsgFault {
     /// What is told of this fault.
     pub fn words(self, alloc: Global) -> Result<String, AllocError>
-        ensures { IfOk result (λ words. string_bytes words ≡ fault_words self) }
+        ensures { IfOk result (λ words. string_bytes words ≡ message_fault_words self) }
     {
         match self {
             MsgFault::Json(fault) => fault.words(alloc),

@@ -3,8 +3,8 @@
 ghost use Rattle.std.specs.Prelude.{◌≡◌, ℕ, List as Items, All, Ok, Err, IfOk, MatchOption};
 ghost use Rattle.scene_json.specs.Members.{pairs};
 ghost use Rattle.elem_read.specs.Elements.{AreRead};
-ghost use Rattle.elem_read.specs.Reading.{IsWhole};
-ghost use Rattle.room_msg.specs.Messages.{HasPayload, IsPayloadFault, IsMessageOf, IsFaultOf, StandsAlone, IsReadAs, IsWholeMessage};
+ghost use Rattle.elem_read.specs.Reading.{IsWholeElement};
+ghost use Rattle.room_msg.specs.Messages.{HasPayload, IsPayloadFault, IsMessageOf, IsMessageFault, StandsAlone, IsReadAs, IsWholeMessage};
 ghost use Rattle.room_msg.specs.declared.fault.MsgFault.{MsgFault};
 
 use crate::fault::MsgFault;
@@ -48,7 +48,7 @@ fn lone_value(alloc: Global, bytes: &[u8]) -> Result<Raw, Stop<MsgFault>>
 /// The message that a value is, or its first fault.
 fn message_of(alloc: Global, value: Raw) -> Result<Message, Stop<MsgFault>>
     ensures message { IfOk result (IsMessageOf value) }
-    ensures fault { (fault : MsgFault) → result ≡ Err (Stop.Fault fault) → IsFaultOf value fault }
+    ensures fault { (fault : MsgFault) → result ≡ Err (Stop.Fault fault) → IsMessageFault value fault }
     ensures whole { IfOk result IsWholeMessage }
 {
     let Some(found) = shaped(members(alloc, &value))? else {
@@ -71,7 +71,7 @@ fn elements_of(alloc: Global, members: &List<Member>) -> Result<List<Element>, S
     ensures read { IfOk result (λ elements.
         (values : Items (Items ℕ)) × HasPayload (pairs members.now) values × AreRead values elements) }
     ensures fault { (fault : MsgFault) → result ≡ Err (Stop.Fault fault) → IsPayloadFault (pairs members.now) fault }
-    ensures whole { IfOk result (All IsWhole) }
+    ensures whole { IfOk result (All IsWholeElement) }
 {
     let Some(values) = payload_items(alloc, members)? else {
         return Err(Stop::Fault(MsgFault::Payload));

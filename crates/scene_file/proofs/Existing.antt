@@ -15,10 +15,10 @@ use Rattle.elem.specs.Forms.{find_in, IsText, IsObject}
 use Rattle.elem.proofs.FormsOnce.{text-once}
 use Rattle.elem_read.proofs.Decided.{Decided, Fits, fits-in, text-or-not, unpaired, pairs-unpaired, not-named}
 use Rattle.elem_read.proofs.ReadElements.{read-or-faulty}
-use Rattle.file_table.specs.Table.{AreFilesOf}
+use Rattle.file_table.specs.Table.{AreLeastEntries}
 use Rattle.file_table.proofs.Tabled.{files-exist}
 use Rattle.scene_file.specs.Heads.{Heading, IsJoinedHead, least_source, settings_of, files_of}
-use Rattle.scene_file.specs.Reading.{given, HasItems, HasMembers, IsSource, IsScene, loaded, IsHeadOf, IsSceneOf, IsSceneFault, IsSceneAt, IsFaultAt}
+use Rattle.scene_file.specs.Reading.{value_unless_null, HasItems, HasMembers, IsSource, IsScene, loaded, IsHeadOf, IsSceneOf, IsSceneFault, IsSceneAt, IsSceneFaultAt}
 use Rattle.scene_file.specs.declared.scene.Scene.{Scene}
 use Rattle.scene_file.specs.declared.fault.SceneFault.{SceneFault}
 use Rattle.scene_file.specs.declared.fault.SceneFault.TheVariants.{Json, NotObject, NotScene, Elements, AppState, Files, Element}
@@ -30,12 +30,12 @@ joined-exists heads =
     let settings = files-exist (settings_of heads) in
     let files = files-exist (files_of heads) in (
       record { source = least_source heads; app_state = unpaired settings.0; files = files.0 },
-      record { source = refl; app_state = subst (AreFilesOf (settings_of heads)) (sym (pairs-unpaired settings.0)) settings.1; files = files.1 },
+      record { source = refl; app_state = subst (AreLeastEntries (settings_of heads)) (sym (pairs-unpaired settings.0)) settings.1; files = files.1 },
     )
 
 -- ---- what is given
-fits-given : (name : List ℕ) (members : List Pair) → AreMembers 127 members → Fits (given name members)
-fits-given name members are =
+fits-value_unless_null : (name : List ℕ) (members : List Pair) → AreMembers 127 members → Fits (value_unless_null name members)
+fits-value_unless_null name members are =
     elim (value_at name members) as (λ (found : Option (List ℕ)). Fits found → Fits (elim found [ None ↦ None | Some value ↦ if bytes_eq value null_word then None else Some value ])) [
       | None ↦ λ fits. tt
       | Some value ↦ λ fits. elim (bytes_eq value null_word) as (λ (b : Bool). Fits (if b then None else Some value)) [ true ↦ tt | false ↦ fits ]
@@ -79,7 +79,7 @@ source-of found fits = elim (text-or-not found fits) [
 ordered : (members : List Pair) → (all : List Pair) × HaveRisingNames all × AreSameMembers all members
 ordered members = tabled (names_of members) (find_in members) (λ name none. not-named name members none)
 
-head-of : (members settings entries : List Pair) → AreMembers 127 members → HasMembers (given (codes "appState") members) settings → HasMembers (given (codes "files") members) entries
+head-of : (members settings entries : List Pair) → AreMembers 127 members → HasMembers (value_unless_null (codes "appState") members) settings → HasMembers (value_unless_null (codes "files") members) entries
     → (head : Heading) × IsHeadOf members head
 head-of members settings entries are state table =
     let source = source-of (value_at (codes "source") members) (fits-in 127 members (lit≤ tt) are (codes "source")) in
@@ -107,12 +107,12 @@ scene-or-faulty : (text : List ℕ) → IsCompact 128 text → Told text
 scene-or-faulty text is = by (object-or-not text is)
   where
     parts : (members : List Pair) → IsObject text members → IsScene members
-        → Decided (HasItems (given (codes "elements") members)) → Decided (HasMembers (given (codes "appState") members)) → Decided (HasMembers (given (codes "files") members)) → Told text
+        → Decided (HasItems (value_unless_null (codes "elements") members)) → Decided (HasMembers (value_unless_null (codes "appState") members)) → Decided (HasMembers (value_unless_null (codes "files") members)) → Told text
     parts members object kind (inr none) settings entries = inr (Elements, (members, object, kind, none))
     parts members object kind (inl items) (inr none) entries = inr (AppState, (members, object, kind, items, none))
     parts members object kind (inl items) (inl settings) (inr none) = inr (Files, (members, object, kind, items, settings, none))
     parts members object kind (inl (values, items)) (inl (settings, state)) (inl (entries, table)) =
-        elim (read-or-faulty values (items-compact (given (codes "elements") members) values items)) [
+        elim (read-or-faulty values (items-compact (value_unless_null (codes "elements") members) values items)) [
           | inl (elements, read) ↦
               let head = head-of members settings entries object.are_members state table in
               inl (
@@ -138,12 +138,12 @@ scene-or-faulty text is = by (object-or-not text is)
         let object : IsObject text members = record { are_members = are; spelled = e } in
         elim (is-text (value_at (codes "type") members) (codes "excalidraw") (fits-in 127 members (lit≤ tt) are (codes "type"))) [
           | inr none ↦ inr (NotScene, (members, object, none))
-          | inl kind ↦ parts members object kind (items-or-not (given (codes "elements") members) (fits-given (codes "elements") members are))
-              (members-or-not (given (codes "appState") members) (fits-given (codes "appState") members are))
-              (members-or-not (given (codes "files") members) (fits-given (codes "files") members are))
+          | inl kind ↦ parts members object kind (items-or-not (value_unless_null (codes "elements") members) (fits-value_unless_null (codes "elements") members are))
+              (members-or-not (value_unless_null (codes "appState") members) (fits-value_unless_null (codes "appState") members are))
+              (members-or-not (value_unless_null (codes "files") members) (fits-value_unless_null (codes "files") members are))
         ]
 
-fault-at : (bytes : List ℕ) (at : ℕ) (text rest : List ℕ) (fault : SceneFault) → Stands (drop at bytes) text rest → IsSceneFault text fault → IsFaultAt bytes at fault
+fault-at : (bytes : List ℕ) (at : ℕ) (text rest : List ℕ) (fault : SceneFault) → Stands (drop at bytes) text rest → IsSceneFault text fault → IsSceneFaultAt bytes at fault
 fault-at bytes at text rest (Json fault) stands is = absurd is
 fault-at bytes at text rest NotObject stands is = (text, rest, stands, is)
 fault-at bytes at text rest NotScene stands is = (text, rest, stands, is)
@@ -159,7 +159,7 @@ pub record StandsAt (bytes : List ℕ) (at : ℕ) (scene : Scene) (end : ℕ) : 
   pub stands : IsSceneAt (drop at bytes) scene (drop end bytes)
 
 pub scene-or-fault : (bytes : List ℕ) (at : ℕ) → at ≤ length bytes
-    → ((scene : Scene) × (end : ℕ) × StandsAt bytes at scene end) ⊎ ((fault : SceneFault) × IsFaultAt bytes at fault)
+    → ((scene : Scene) × (end : ℕ) × StandsAt bytes at scene end) ⊎ ((fault : SceneFault) × IsSceneFaultAt bytes at fault)
 scene-or-fault bytes at within = elim (value-or-fault bytes at within) [
   | inr (fault, is) ↦ inr (Json fault, is)
   | inl (text, end, small, stands) ↦ elim (scene-or-faulty text (Value-compact stands.reads)) [
@@ -170,7 +170,7 @@ scene-or-fault bytes at within = elim (value-or-fault bytes at within) [
 
 pub scene-law : (bytes : List ℕ) (at : ℕ) → at ≤ length bytes
     → ((scene : Scene) × (end : ℕ) × (at < end) × (end ≤ length bytes) × IsSceneAt (drop at bytes) scene (drop end bytes))
-    ⊎ ((fault : SceneFault) × IsFaultAt bytes at fault)
+    ⊎ ((fault : SceneFault) × IsSceneFaultAt bytes at fault)
 scene-law bytes at within = elim (scene-or-fault bytes at within) [
   | inl (scene, end, s) ↦ inl (scene, end, s.behind, s.within, s.stands)
   | inr fault ↦ inr fault

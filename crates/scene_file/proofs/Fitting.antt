@@ -17,7 +17,7 @@ use Rattle.index_repair.specs.Repair.{repaired}
 use Rattle.frac_keys.specs.Keys.{bytes_less}
 use Rattle.first_texts.specs.FirstOccurrences.{first_occurrences}
 use Rattle.first_texts.proofs.FirstLaws.{IsDistinct-first_occurrences}
-use Rattle.elem.specs.Drawn.{Drawn}
+use Rattle.elem.specs.ElementValue.{ElementValue}
 use Rattle.elem.specs.Forms.{find_in}
 use Rattle.elem.specs.Texts.{element_members, element_text, text_or_null}
 use Rattle.elem.proofs.Saying.{element-are}
@@ -26,7 +26,7 @@ use Rattle.elem_read.specs.Reading.{IsElementIn}
 use Rattle.elem_read.proofs.Keeping.{AllFound, found-has, found-self, object-nests, says-element, says-written}
 use Rattle.elem_read.proofs.Whole.{restored-nest, restored-named}
 use Rattle.file_table.specs.References.{references, referred_files}
-use Rattle.file_table.specs.Table.{AreFilesOf}
+use Rattle.file_table.specs.Table.{AreLeastEntries}
 use Rattle.file_table.proofs.Least.{least-is}
 use Rattle.file_table.proofs.Referred.{found, IsDistinct-found}
 use Rattle.view.specs.Settled.{AreSettled}
@@ -37,32 +37,32 @@ use Rattle.elem_store.specs.Updates.{is_best, AreStored}
 use Rattle.elem_store.proofs.Lists.{filter-Contains}
 use Rattle.elem_store.proofs.StoreLaws.{AreStored-best}
 use Rattle.scene_file.specs.Heads.{Heading, IsJoinedHead, lesser_source, least_source, settings_of, files_of}
-use Rattle.scene_file.specs.Layouts.{IsWritten}
-use Rattle.scene_file.specs.Reading.{given, IsSource, loaded, IsHeadOf, IsSceneOf}
+use Rattle.scene_file.specs.Layouts.{IsWrittenIn}
+use Rattle.scene_file.specs.Reading.{value_unless_null, IsSource, loaded, IsHeadOf, IsSceneOf}
 use Rattle.scene_file.specs.Scenes.{scene_text}
 use Rattle.scene_file.specs.declared.layout.Layout.{Layout}
 use Rattle.scene_file.specs.declared.layout.Layout.TheVariants.{Compact, Pretty}
 use Rattle.scene_file.specs.declared.scene.Scene.{Scene}
-use Rattle.scene_file.proofs.Nesting.{nests-given}
+use Rattle.scene_file.proofs.Nesting.{nests-value_unless_null}
 use Rattle.scene_file.proofs.SceneTexts.{scene-compact, scene-told}
 
 -- ---- elements
-element-kept : (value : List ℕ) (e : Drawn) → IsElementIn value e → IsKept e
+element-kept : (value : List ℕ) (e : ElementValue) → IsElementIn value e → IsKept e
 element-kept value e is =
-    let inner : AreMembers 119 is.members = object-nests 120 value is.members (lit≤ tt) (lit≤ tt) is.shallow is.drawing.object in
+    let inner : AreMembers 119 is.members = object-nests 120 value is.members (lit≤ tt) (lit≤ tt) is.shallow is.no_selection.object in
     record {
       element = says-element (find_in is.restored) e (restored-nest is.members is.restored inner is.restores) is.says;
       written = says-written (find_in is.restored) e (restored-named 119 is.members is.restored inner is.restores) is.says;
     }
 
-read-kept : (values : List (List ℕ)) (elements : List Drawn) → AreRead values elements → AreKept elements
+read-kept : (values : List (List ℕ)) (elements : List ElementValue) → AreRead values elements → AreKept elements
 read-kept [] elements none = subst AreKept (sym none) tt
 read-kept (v ∷ values) elements (inl (dropped, read)) = read-kept values elements read
 read-kept (v ∷ values) elements (inr (e, others, all, is, read)) = subst AreKept (sym all) (element-kept v e is, read-kept values others read)
 
-loaded-kept : (elements : List Drawn) → AreKept elements → AreKept (loaded elements)
+loaded-kept : (elements : List ElementValue) → AreKept elements → AreKept (loaded elements)
 loaded-kept elements all =
-    elim (list_all (λ (e : Drawn). is_some e.index) elements) as (λ (b : Bool). AreKept (if b then elements else keyed elements (repaired (map index_of elements)))) [
+    elim (list_all (λ (e : ElementValue). is_some e.index) elements) as (λ (b : Bool). AreKept (if b then elements else keyed elements (repaired (map index_of elements)))) [
       | true ↦ all
       | false ↦ repaired-kept elements all
     ]
@@ -114,8 +114,8 @@ source-fits found (Some source) is = is.0
 
 head-fits : (members : List Pair) (head : Heading) → AreMembers 127 members → IsHeadOf members head → IsFit head
 head-fits members head are is =
-    let settings = found-has Fits is.settings (fit-members is.settings (nests-given (codes "appState") members is.settings are is.state)) in
-    let entries = found-has Fits is.entries (fit-members is.entries (nests-given (codes "files") members is.entries are is.table)) in
+    let settings = found-has Fits is.settings (fit-members is.settings (nests-value_unless_null (codes "appState") members is.settings are is.state)) in
+    let entries = found-has Fits is.entries (fit-members is.entries (nests-value_unless_null (codes "files") members is.entries are is.table)) in
     record {
       source = source-fits (value_at (codes "source") members) head.source is.source;
       settings = fit-found (pairs head.app_state) is.state_ordered (λ name value e. settings name value (sym (is.app_state name) ∙ e));
@@ -156,7 +156,7 @@ files-fit : (heads : List Heading) → AllByRecursion IsFit heads → AllFit (fi
 files-fit [] all = tt
 files-fit (head ∷ heads) all = append-fit head.files (files_of heads) all.0.files (files-fit heads all.1)
 
-least-entries-fit : (given files : List Pair) → AllFit given → AreFilesOf given files → AllFit files
+least-entries-fit : (given files : List Pair) → AllFit given → AreLeastEntries given files → AllFit files
 least-entries-fit given files all are = fit-found files are.ordered (λ name value e.
     let least = (least-is given name value).0 (sym (are.each name) ∙ e) in
     All-contains (λ (m : Pair). Fits m.0 m.1) given (name, value) (All-from_recursion (λ (m : Pair). Fits m.0 m.1) given all) least.among)
@@ -173,10 +173,10 @@ source-compact : (source : Option (List ℕ)) → IfSome source IsUtf8 → IsCom
 source-compact None is = literal-compact 0 _ (inr (inl refl))
 source-compact (Some source) is = quote-compact 0 source is
 
-element-compact : (e : Drawn) → IsKept e → IsCompact 120 (element_text e)
+element-compact : (e : ElementValue) → IsKept e → IsCompact 120 (element_text e)
 element-compact e is = object-compact 119 (element_members e) (element-are e is.element is.written)
 
-elements-compact : (elements : List Drawn) → AreKept elements → AllByRecursion (λ e. IsCompact 120 (element_text e)) elements
+elements-compact : (elements : List ElementValue) → AreKept elements → AllByRecursion (λ e. IsCompact 120 (element_text e)) elements
 elements-compact [] all = tt
 elements-compact (e ∷ elements) all = (element-compact e all.0, elements-compact elements all.1)
 
@@ -190,7 +190,7 @@ referred-fit files (id ∷ ids) all = by (value_at id files) (λ entry e. found-
     by None each rest = rest
     by (Some entry) each rest = (each entry refl, rest)
 
-scene-text-compact : (head : Heading) (elements : List Drawn) → IsFit head → HaveRisingNames (pairs head.app_state) → AreKept elements → IsCompact 128 (scene_text head elements)
+scene-text-compact : (head : Heading) (elements : List ElementValue) → IsFit head → HaveRisingNames (pairs head.app_state) → AreKept elements → IsCompact 128 (scene_text head elements)
 scene-text-compact head elements fit rise kept =
     let ids = first_occurrences (references elements) in
     let files = members-fit (found head.files ids) (IsDistinct-found head.files ids (IsDistinct-first_occurrences (references elements))) (referred-fit head.files ids fit.files) in
@@ -199,7 +199,7 @@ scene-text-compact head elements fit rise kept =
     (scene-compact head elements (referred_files head.files elements) (source-compact head.source fit.source)
     (All-from_recursion (λ e. IsCompact 120 (element_text e)) elements (elements-compact elements kept)) (object-compact 126 (pairs head.app_state) settings) (object-compact 126 (referred_files head.files elements) files))
 
-pub written-exists : (layout : Layout) (text : List ℕ) → IsCompact 128 text → (written : List ℕ) × IsWritten layout text written
+pub written-exists : (layout : Layout) (text : List ℕ) → IsCompact 128 text → (written : List ℕ) × IsWrittenIn layout text written
 written-exists Compact text is = (text, refl)
 written-exists Pretty text is = (spelling (laid_out 0 is.tree), record { tree = is.tree; good = is.good; spells = is.spells; laid = refl })
 
@@ -215,7 +215,7 @@ heads-fit : (scenes : List Scene) → AllByRecursion IsSound scenes → AllByRec
 heads-fit [] all = tt
 heads-fit (scene ∷ scenes) all = (all.0.head, heads-fit scenes all.1)
 
-append-kept : (es fs : List Drawn) → AreKept es → AreKept fs → AreKept (es ++ fs)
+append-kept : (es fs : List ElementValue) → AreKept es → AreKept fs → AreKept (es ++ fs)
 append-kept [] fs first second = second
 append-kept (e ∷ es) fs first second = (first.0, append-kept es fs first.1 second)
 
@@ -224,13 +224,13 @@ updates-kept [] all = tt
 updates-kept (scene ∷ scenes) all = append-kept scene.elements (flat_map (λ (scene : Scene). scene.elements) scenes) all.0.elements (updates-kept scenes all.1)
 
 -- stored elements are updates
-stored-kept : (updates stored : List Drawn) → AreKept updates → AreStored updates stored → AreKept stored
+stored-kept : (updates stored : List ElementValue) → AreKept updates → AreStored updates stored → AreKept stored
 stored-kept updates stored all are =
     recursion_from_All IsKept stored (λ i e within.
     All-contains IsKept updates (get_or stored i e) (All-from_recursion IsKept updates all)
     (filter-Contains (is_best updates (get_or stored i e).id) updates (get_or stored i e) (AreStored-best updates stored (get_or stored i e) are (All-contains_itself stored i e within))).0)
 
-module _ (scenes : List Scene) (head : Heading) (stored : List Drawn) (read : AllByRecursion HasText scenes)
+module _ (scenes : List Scene) (head : Heading) (stored : List ElementValue) (read : AllByRecursion HasText scenes)
     (joined : IsJoinedHead (map (λ (scene : Scene). scene.head) scenes) head) (are : AreStored (flat_map (λ (scene : Scene). scene.elements) scenes) stored) where
   live-are-kept : AreKept (live_elements stored)
   live-are-kept = live-kept stored (stored-kept (flat_map (λ (scene : Scene). scene.elements) scenes) stored (updates-kept scenes (all-sound scenes read)) are)

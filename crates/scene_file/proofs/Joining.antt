@@ -14,8 +14,8 @@ use Rattle.scene_json.specs.Named.{HaveRisingNames}
 use Rattle.scene_json.specs.declared.text.Member.{Member}
 use Rattle.scene_json.proofs.Lookups.{rising_from, rising_none}
 use Rattle.frac_keys.specs.Keys.{bytes_less}
-use Rattle.file_table.specs.Table.{AreFilesOf}
-use Rattle.file_table.proofs.Least.{AreFilesOf-join, AreFilesOf-own}
+use Rattle.file_table.specs.Table.{AreLeastEntries}
+use Rattle.file_table.proofs.Least.{AreLeastEntries-join, AreLeastEntries-own}
 use Rattle.scene_file.specs.Heads.{Heading, lesser_source, least_source, IsJoinedHead}
 
 -- ---- sources
@@ -56,15 +56,15 @@ module _ (part : Heading → List Pair) where
   all-more heads other = flat_map-append part heads (other ∷ []) ∙ ap (λ more. flat_map part heads ++ more) (append-nil (part other))
 
   -- a part of the joined head
-  more : (heads : List Heading) (other : Heading) (old new : List Pair) → AreFilesOf (flat_map part heads) old → HaveRisingNames (part other) → AreFilesOf (old ++ part other) new
-      → AreFilesOf (flat_map part (heads ++ other ∷ [])) new
+  more : (heads : List Heading) (other : Heading) (old new : List Pair) → AreLeastEntries (flat_map part heads) old → HaveRisingNames (part other) → AreLeastEntries (old ++ part other) new
+      → AreLeastEntries (flat_map part (heads ++ other ∷ [])) new
   more heads other old new before rise are =
-      subst (λ all. AreFilesOf all new) (sym (all-more heads other))
-      (AreFilesOf-join (flat_map part heads) old (part other) (part other) new before (AreFilesOf-own (part other) rise) are)
+      subst (λ all. AreLeastEntries all new) (sym (all-more heads other))
+      (AreLeastEntries-join (flat_map part heads) old (part other) (part other) new before (AreLeastEntries-own (part other) rise) are)
 
 pub joined-more : (heads : List Heading) (old new other : Heading) → new.source ≡ lesser_source old.source other.source
-    → AreFilesOf (pairs old.app_state ++ pairs other.app_state) (pairs new.app_state) → HaveRisingNames (pairs other.app_state)
-    → AreFilesOf (old.files ++ other.files) new.files → HaveRisingNames other.files
+    → AreLeastEntries (pairs old.app_state ++ pairs other.app_state) (pairs new.app_state) → HaveRisingNames (pairs other.app_state)
+    → AreLeastEntries (old.files ++ other.files) new.files → HaveRisingNames other.files
     → IsJoinedHead heads old → IsJoinedHead (heads ++ other ∷ []) new
 joined-more heads old new other source settings rise files files_rise before = record {
   source = source ∙ (ap (λ least. lesser_source least other.source) before.source ∙ sym (least_source-more heads other));
@@ -74,15 +74,15 @@ joined-more heads old new other source settings rise files files_rise before = r
 
 -- ---- one more member in a table
 pub table-more : (given : List Pair) (members : List Member) (i : ℕ) (member copy : Member) (old new : List Pair) → i < length members → member ≡ get_or members i member → copy ≡ member
-    → AreFilesOf (given ++ pairs (take i members)) old → AreFilesOf (old ++ (copy.name, copy.value) ∷ []) new → AreFilesOf (given ++ pairs (take (i + 1) members)) new
+    → AreLeastEntries (given ++ pairs (take i members)) old → AreLeastEntries (old ++ (copy.name, copy.value) ∷ []) new → AreLeastEntries (given ++ pairs (take (i + 1) members)) new
 table-more given members i member copy old new within at same before after =
     let pair : Pair = (copy.name, copy.value) in
     let next : take (i + 1) members ≡ take i members ++ copy ∷ [] = take_more members i member within ∙ ap (λ m. take i members ++ m ∷ []) (sym at ∙ sym same) in
     let all : (given ++ pairs (take i members)) ++ pair ∷ [] ≡ given ++ pairs (take (i + 1) members) =
     append_assoc given (pairs (take i members)) (pair ∷ [])
     ∙ ap (λ ps. given ++ ps) (sym (ap pairs next ∙ map-append pair_of (take i members) (copy ∷ []))) in
-    subst (λ ps. AreFilesOf ps new) all
-    (AreFilesOf-join (given ++ pairs (take i members)) old (pair ∷ []) (pair ∷ []) new before (AreFilesOf-own (pair ∷ []) (rising_from pair [] tt rising_none)) after)
+    subst (λ ps. AreLeastEntries ps new) all
+    (AreLeastEntries-join (given ++ pairs (take i members)) old (pair ∷ []) (pair ∷ []) new before (AreLeastEntries-own (pair ∷ []) (rising_from pair [] tt rising_none)) after)
 
 -- ---- the lesser of two texts
 pub lesser-told : (source other : Option (List ℕ)) (text another : List ℕ) (less : Bool) → source ≡ Some text → other ≡ Some another → less ≡ bytes_less (quote text) (quote another)

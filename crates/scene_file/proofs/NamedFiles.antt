@@ -13,7 +13,7 @@ use Rattle.scene_json.proofs.Collapsed.{bytes_eq-true, bytes_eq-same}
 use Rattle.scene_json.proofs.Lookups.{IsBelow, rising_parts, rising_from, rising_none}
 use Rattle.first_texts.specs.FirstOccurrences.{first_occurrences}
 use Rattle.first_texts.proofs.FirstLaws.{IsDistinct-first_occurrences, Contains-first_occurrences}
-use Rattle.elem.specs.Drawn.{Drawn}
+use Rattle.elem.specs.ElementValue.{ElementValue}
 use Rattle.elem.specs.Forms.{find_in}
 use Rattle.elem_read.proofs.Keeping.{AllFound, found-has}
 use Rattle.elem_store.proofs.Lists.{list_any-false}
@@ -86,7 +86,7 @@ contained-any name names c =
     true_from_ne_false (list_any (bytes_eq name) names) (λ none. both_ways (bytes_eq name name) (list_any-false (bytes_eq name) names name none c) (bytes_eq-same name))
 
 -- ---- the files that elements name
-module _ (files : List Pair) (elements : List Drawn) where
+module _ (files : List Pair) (elements : List ElementValue) where
   pub named-same : AreSameMembers (filter (λ (file : Pair). list_any (bytes_eq file.0) (references elements)) files) (referred_files files elements)
   named-same name =
       passed-at (λ (id : List ℕ). list_any (bytes_eq id) (references elements)) files name ∙ sym (referred-at files elements name)

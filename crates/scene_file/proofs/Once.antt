@@ -17,9 +17,9 @@ use Rattle.elem.proofs.Once.{array-once}
 use Rattle.elem_read.specs.Elements.{IsFirstFaulty, AreRead}
 use Rattle.elem_read.specs.declared.fault.ElemFault.{ElemFault}
 use Rattle.elem_read.proofs.ReadElements.{read-once, faulty-once, faultless}
-use Rattle.file_table.proofs.Least.{AreFilesOf-unique}
+use Rattle.file_table.proofs.Least.{AreLeastEntries-unique}
 use Rattle.scene_file.specs.Heads.{Heading, IsJoinedHead, settings_of, files_of}
-use Rattle.scene_file.specs.Reading.{given, HasItems, HasMembers, IsSource, IsScene, loaded, IsHeadOf, IsSceneOf, IsSceneFault, IsSceneAt, IsFaultAt}
+use Rattle.scene_file.specs.Reading.{value_unless_null, HasItems, HasMembers, IsSource, IsScene, loaded, IsHeadOf, IsSceneOf, IsSceneFault, IsSceneAt, IsSceneFaultAt}
 use Rattle.scene_file.specs.declared.scene.Scene.{Scene}
 use Rattle.scene_file.specs.declared.fault.SceneFault.{SceneFault}
 use Rattle.scene_file.specs.declared.fault.SceneFault.TheVariants.{Json, NotObject, NotScene, Elements, AppState, Files, Element}
@@ -32,9 +32,9 @@ source-once found None (Some text) one two = absurd (one text two)
 source-once found (Some text) None one two = absurd (two text one)
 source-once found (Some text) (Some other) one two = ap Some (text-once found text other one two)
 
-given-once : (found : Option (List ℕ)) (ms ns : List Pair) → HasMembers found ms → HasMembers found ns → ms ≡ ns
-given-once None ms ns one two = one ∙ sym two
-given-once (Some value) ms ns one two = members-once value ms ns one two
+value_unless_null-once : (found : Option (List ℕ)) (ms ns : List Pair) → HasMembers found ms → HasMembers found ns → ms ≡ ns
+value_unless_null-once None ms ns one two = one ∙ sym two
+value_unless_null-once (Some value) ms ns one two = members-once value ms ns one two
 
 items-once : (found : Option (List ℕ)) (vs ws : List (List ℕ)) → HasItems found vs → HasItems found ws → vs ≡ ws
 items-once None vs ws one two = one ∙ sym two
@@ -56,8 +56,8 @@ pairs-once (x ∷ xs) (y ∷ ys) e =
 head_of-once : (members : List Pair) (head other : Heading) → IsHeadOf members head → IsHeadOf members other → head ≡ other
 head_of-once members head other one two =
     let source = source-once (value_at (codes "source") members) head.source other.source one.source two.source in
-    let settings = given-once (given (codes "appState") members) one.settings two.settings one.state two.state in
-    let entries = given-once (given (codes "files") members) one.entries two.entries one.table two.table in
+    let settings = value_unless_null-once (value_unless_null (codes "appState") members) one.settings two.settings one.state two.state in
+    let entries = value_unless_null-once (value_unless_null (codes "files") members) one.entries two.entries one.table two.table in
     let state = pairs-once head.app_state other.app_state (rising_same (pairs head.app_state) (pairs other.app_state) one.state_ordered two.state_ordered
     (λ name. one.app_state name ∙ (ap (value_at name) settings ∙ sym (two.app_state name)))) in
     let files = rising_same head.files other.files one.files_ordered two.files_ordered (λ name. one.files name ∙ (ap (value_at name) entries ∙ sym (two.files name))) in
@@ -67,7 +67,7 @@ scene_of-once : (text : List ℕ) (scene other : Scene) → IsSceneOf text scene
 scene_of-once text scene other one two =
     let members = members-once text two.members one.members two.object one.object in
     let head = head_of-once one.members scene.head other.head one.head (subst (λ ms. IsHeadOf ms other.head) members two.head) in
-    let values = items-once (given (codes "elements") one.members) two.values one.values (subst (λ ms. HasItems (given (codes "elements") ms) two.values) members two.items) one.items in
+    let values = items-once (value_unless_null (codes "elements") one.members) two.values one.values (subst (λ ms. HasItems (value_unless_null (codes "elements") ms) two.values) members two.items) one.items in
     let elements = read-once one.values one.elements two.elements one.read (subst (λ vs. AreRead vs two.elements) values two.read) in
     let all = one.are_loaded ∙ (ap loaded elements ∙ sym two.are_loaded) in
     λ i. record { head = head i; elements = all i }
@@ -101,15 +101,15 @@ asked-none Yes known Later fault y later (yes x one) = later one
 
 -- the questions in their order
 abbrev HasSomeItems : List Pair → Type 0
-HasSomeItems members = (values : List (List ℕ)) × HasItems (given (codes "elements") members) values
+HasSomeItems members = (values : List (List ℕ)) × HasItems (value_unless_null (codes "elements") members) values
 
 abbrev HasSome : List ℕ → List Pair → Type 0
-HasSome name members = (others : List Pair) × HasMembers (given name members) others
+HasSome name members = (others : List Pair) × HasMembers (value_unless_null name members) others
 
 abbrev IsElementFault : List Pair → SceneFault → Type 0
 IsElementFault members fault =
     (place : ℕ) × (why : ElemFault) × (values : List (List ℕ)) × (fault ≡ Element place why)
-    × HasItems (given (codes "elements") members) values × IsFirstFaulty values place why
+    × HasItems (value_unless_null (codes "elements") members) values × IsFirstFaulty values place why
 
 abbrev IsIn : List Pair → SceneFault → Type 0
 IsIn members =
@@ -134,7 +134,7 @@ asked text (Element place why) (members, object, scene, (values, items, faulty),
 
 element_fault-once : (members : List Pair) (fault other : SceneFault) → IsElementFault members fault → IsElementFault members other → fault ≡ other
 element_fault-once members fault other (place, why, values, is, items, faulty) (place', why', values', is', items', faulty') =
-    let same = items-once (given (codes "elements") members) values' values items' items in
+    let same = items-once (value_unless_null (codes "elements") members) values' values items' items in
     let both = faulty-once values place place' why why' faulty (subst (λ vs. IsFirstFaulty vs place' why') same faulty') in
     is ∙ (ap₂ Element both.0 both.1 ∙ sym is')
 
@@ -153,7 +153,7 @@ scene_fault-none text scene fault is faulty =
   where
     last : IsElementFault is.members fault → ⊥
     last (place, why, values, e, items, first) =
-        let same = items-once (given (codes "elements") is.members) values is.values items is.items in
+        let same = items-once (value_unless_null (codes "elements") is.members) values is.values items is.items in
         faultless is.values is.elements place why is.read (subst (λ vs. IsFirstFaulty vs place why) same first)
 
     later : IsIn is.members fault → ⊥
@@ -165,7 +165,7 @@ data Told (bytes : List ℕ) (at : ℕ) (fault : SceneFault) : Type 0 where
   form : (found : JsonFault) → fault ≡ Json found → IsFirstFault bytes at found → Told bytes at fault
   value : (text rest : List ℕ) → Stands (drop at bytes) text rest → IsSceneFault text fault → Told bytes at fault
 
-told : (bytes : List ℕ) (at : ℕ) (fault : SceneFault) → IsFaultAt bytes at fault → Told bytes at fault
+told : (bytes : List ℕ) (at : ℕ) (fault : SceneFault) → IsSceneFaultAt bytes at fault → Told bytes at fault
 told bytes at (Json found) is = form found refl is
 told bytes at NotObject is = value is.0 is.1 is.2 is.3
 told bytes at NotScene is = value is.0 is.1 is.2 is.3
@@ -182,7 +182,7 @@ told-once bytes at fault other (value text rest stands is) (value text' rest' st
     scene_fault-once text fault other is (subst (λ t. IsSceneFault t other) (Stands-once stands' stands).0 is')
 
 -- A text has at most one first fault.
-pub fault-once : (bytes : List ℕ) (at : ℕ) (fault other : SceneFault) → IsFaultAt bytes at fault → IsFaultAt bytes at other → fault ≡ other
+pub fault-once : (bytes : List ℕ) (at : ℕ) (fault other : SceneFault) → IsSceneFaultAt bytes at fault → IsSceneFaultAt bytes at other → fault ≡ other
 fault-once bytes at fault other one two = told-once bytes at fault other (told bytes at fault one) (told bytes at other two)
 
 told-none : (bytes : List ℕ) (at : ℕ) (fault : SceneFault) (scene : Scene) (rest : List ℕ) → Told bytes at fault → IsSceneAt (drop at bytes) scene rest → ⊥
@@ -191,7 +191,7 @@ told-none bytes at fault scene rest (value text next stands faulty) is =
     scene_fault-none text scene fault (subst (λ t. IsSceneOf t scene) (Stands-once is.stands stands).0 is.says) faulty
 
 -- No scene stands where a fault is.
-pub fault-none : (bytes : List ℕ) (at : ℕ) (fault : SceneFault) {scene : Scene} {rest : List ℕ} → IsFaultAt bytes at fault → IsSceneAt (drop at bytes) scene rest → ⊥
+pub fault-none : (bytes : List ℕ) (at : ℕ) (fault : SceneFault) {scene : Scene} {rest : List ℕ} → IsSceneFaultAt bytes at fault → IsSceneAt (drop at bytes) scene rest → ⊥
 fault-none bytes at fault {scene = scene} {rest = rest} one is = told-none bytes at fault scene rest (told bytes at fault one) is
 
 -- ---- joined heads
@@ -199,6 +199,6 @@ fault-none bytes at fault {scene = scene} {rest = rest} one is = told-none bytes
 pub head-once : {heads : List Heading} {head other : Heading} → IsJoinedHead heads head → IsJoinedHead heads other → head ≡ other
 head-once {heads = heads} {head = head} {other = other} one two =
     let source = one.source ∙ sym two.source in
-    let state = pairs-once head.app_state other.app_state (AreFilesOf-unique (settings_of heads) (pairs head.app_state) (pairs other.app_state) one.app_state two.app_state) in
-    let files = AreFilesOf-unique (files_of heads) head.files other.files one.files two.files in
+    let state = pairs-once head.app_state other.app_state (AreLeastEntries-unique (settings_of heads) (pairs head.app_state) (pairs other.app_state) one.app_state two.app_state) in
+    let files = AreLeastEntries-unique (files_of heads) head.files other.files one.files two.files in
     λ i. record { source = source i; app_state = state i; files = files i }

@@ -16,16 +16,16 @@ use Rattle.scene_json.proofs.CompactLaws.{Value-deeper, quote-compact, literal-c
 use Rattle.scene_json.proofs.Forms.{object-starts}
 use Rattle.scene_json.proofs.Laid.{laid-Value}
 use Rattle.scene_json.proofs.Reading.{number-Head, head-apart}
-use Rattle.elem.specs.Drawn.{Drawn}
+use Rattle.elem.specs.ElementValue.{ElementValue}
 use Rattle.elem.specs.Forms.{IsObject}
 use Rattle.elem.specs.Texts.{element_text, text_or_null}
 use Rattle.elem.proofs.FormsOnce.{null-no-text}
 use Rattle.elem.proofs.Saying.{literal, AreMembers-deeper}
 use Rattle.elem_read.specs.Elements.{AreRead}
-use Rattle.elem_read.specs.Reading.{IsWhole}
+use Rattle.elem_read.specs.Reading.{IsWholeElement}
 use Rattle.file_table.specs.References.{referred_files}
 use Rattle.scene_file.specs.Heads.{Heading}
-use Rattle.scene_file.specs.Layouts.{IsWritten}
+use Rattle.scene_file.specs.Layouts.{IsWrittenIn}
 use Rattle.scene_file.specs.Reading.{HasItems, HasMembers, IsSource, IsSceneOf, IsSceneAt}
 use Rattle.scene_file.specs.Scenes.{scene_members, scene_text, state_text}
 use Rattle.scene_file.specs.Texts.{IsSceneText}
@@ -62,23 +62,23 @@ source-read None is = λ text found. null-no-text (Some null_word) text (inr ref
 source-read (Some text) is = (is, refl)
 
 -- ---- elements
-all-read : (elements : List Drawn) → All IsWhole elements → AreRead (map element_text elements) elements
+all-read : (elements : List ElementValue) → All IsWholeElement elements → AreRead (map element_text elements) elements
 all-read [] whole = refl
-all-read (e ∷ elements) whole = inr (e, elements, refl, All-head IsWhole e elements whole, all-read elements (All-tail IsWhole e elements whole))
+all-read (e ∷ elements) whole = inr (e, elements, refl, All-head IsWholeElement e elements whole, all-read elements (All-tail IsWholeElement e elements whole))
 
-texts-nest : (elements : List Drawn) → All IsWhole elements → AllByRecursion (IsCompact 127) (map element_text elements)
+texts-nest : (elements : List ElementValue) → All IsWholeElement elements → AllByRecursion (IsCompact 127) (map element_text elements)
 texts-nest [] whole = tt
-texts-nest (e ∷ elements) whole = (Value-deeper (lit≤ tt) (All-head IsWhole e elements whole).shallow, texts-nest elements (All-tail IsWhole e elements whole))
+texts-nest (e ∷ elements) whole = (Value-deeper (lit≤ tt) (All-head IsWholeElement e elements whole).shallow, texts-nest elements (All-tail IsWholeElement e elements whole))
 
 -- ---- the scene
 source-compact : (source : Option (List ℕ)) → IfSome source IsUtf8 → IsCompact 0 (text_or_null source)
 source-compact None is = literal-compact 0 null_word (inr (inl refl))
 source-compact (Some text) is = quote-compact 0 text is
 
-module _ (head : Heading) (elements : List Drawn) (files : List Pair) (whole : IsWholeHead head) (each : All IsWhole elements) (are : AreMembers 126 files) where
+module _ (head : Heading) (elements : List ElementValue) (files : List Pair) (whole : IsWholeHead head) (each : All IsWholeElement elements) (are : AreMembers 126 files) where
   members-are : AreMembers 127 (scene_members head elements files)
   members-are =
-      scene-are head elements files (source-compact head.source whole.source) (All-weaker IsWhole (λ e. IsCompact 120 (element_text e)) (λ e is. is.shallow) elements each)
+      scene-are head elements files (source-compact head.source whole.source) (All-weaker IsWholeElement (λ e. IsCompact 120 (element_text e)) (λ e is. is.shallow) elements each)
       (object-compact 126 (pairs head.app_state) whole.settings) (object-compact 126 files are)
 
   text-compact : IsCompact 128 (object_text (scene_members head elements files))
@@ -136,13 +136,13 @@ stands-at written text rest scene v is = record {
   says = is;
 }
 
-written-Value : (layout : Layout) (text written : List ℕ) → IsCompact 128 text → IsWritten layout text written → Value 128 written text
+written-Value : (layout : Layout) (text written : List ℕ) → IsCompact 128 text → IsWrittenIn layout text written → Value 128 written text
 written-Value Compact text written v is = subst (λ bytes. Value 128 bytes text) (sym is) v
 written-Value Pretty text written v is =
     laid-Value 128 0 text written text v (is.laid ∙ ap (λ t. spelling (laid_out 0 t)) (trees-once is.tree v.tree is.good v.good (is.spells ∙ sym v.spells)))
 
 -- The text of a scene, in whatever layout, is read as the scene, with the files that its elements name.
-pub scene-back : (layout : Layout) (head : Heading) (elements : List Drawn) (written rest : List ℕ) → IsWholeHead head → All IsWhole elements → HaveKeys elements
+pub scene-back : (layout : Layout) (head : Heading) (elements : List ElementValue) (written rest : List ℕ) → IsWholeHead head → All IsWholeElement elements → HaveKeys elements
     → IsSceneText layout head elements written → IsSceneAt (written ++ rest) (record { head = with_named_files head elements; elements = elements }) rest
 unfolding scene_text
 scene-back layout head elements written rest whole each keys is =
@@ -153,7 +153,7 @@ scene-back layout head elements written rest whole each keys is =
     (scene-said head elements files whole each are (with_named_files head elements).files keys (named-rise head.files elements whole.files_ordered) (named-same head.files elements))
 
 -- The text of all that is stored is read as that, under its head.
-pub state-back : (head : Heading) (stored : List Drawn) (rest : List ℕ) → IsWholeHead head → All IsWhole stored → HaveKeys stored
+pub state-back : (head : Heading) (stored : List ElementValue) (rest : List ℕ) → IsWholeHead head → All IsWholeElement stored → HaveKeys stored
     → IsSceneAt (state_text head stored ++ rest) (record { head = head; elements = stored }) rest
 unfolding state_text
 state-back head stored rest whole each keys =
@@ -162,7 +162,7 @@ state-back head stored rest whole each keys =
     (scene-said head stored head.files whole each whole.files head.files keys whole.files_ordered (λ name. refl))
 
 -- A head without the files that its elements don't name has the same text.
-pub named-text : (head : Heading) (elements : List Drawn) → scene_text (with_named_files head elements) elements ≡ scene_text head elements
+pub named-text : (head : Heading) (elements : List ElementValue) → scene_text (with_named_files head elements) elements ≡ scene_text head elements
 unfolding scene_text
 named-text head elements = ap (λ files. object_text (scene_members head elements files)) (named-again head.files elements)
 

@@ -11,7 +11,7 @@ use Rattle.elem.proofs.Once.{quote-once}
 use Rattle.elem.proofs.OrderLaws.{bytes-neither, bytes-below}
 use Rattle.elem.proofs.Sorting.{bytes_less-same, bytes_less-asym}
 use Rattle.elem_store.proofs.Lists.{Contains-head, Contains-cons, Contains-cases}
-use Rattle.file_table.proofs.Least.{AreFilesOf-moved}
+use Rattle.file_table.proofs.Least.{AreLeastEntries-moved}
 use Rattle.scene_file.specs.Heads.{Heading, lesser_source, least_source, settings_of, files_of, IsJoinedHead, IsLeastSource, HaveSameHeads}
 use Rattle.scene_file.specs.Whole.{IsWholeHead}
 use Rattle.scene_file.proofs.WholeScenes.{least-whole}
@@ -146,6 +146,6 @@ least-moved heads others whole same = go (least_source heads) (least_source othe
 pub joined-moved : (heads others : List Heading) (head : Heading) → All IsWholeHead heads → HaveSameHeads heads others → IsJoinedHead heads head → IsJoinedHead others head
 joined-moved heads others head whole same is = record {
   source = is.source ∙ least-moved heads others whole same;
-  app_state = AreFilesOf-moved (settings_of heads) (settings_of others) (pairs head.app_state) (parts-moved (λ (head : Heading). pairs head.app_state) heads others same) is.app_state;
-  files = AreFilesOf-moved (files_of heads) (files_of others) head.files (parts-moved (λ (head : Heading). head.files) heads others same) is.files;
+  app_state = AreLeastEntries-moved (settings_of heads) (settings_of others) (pairs head.app_state) (parts-moved (λ (head : Heading). pairs head.app_state) heads others same) is.app_state;
+  files = AreLeastEntries-moved (files_of heads) (files_of others) head.files (parts-moved (λ (head : Heading). head.files) heads others same) is.files;
 }

@@ -19,15 +19,15 @@ use Rattle.scene_json.specs.Value.{IsCompact}
 use Rattle.scene_json.specs.declared.text.Member.{Member}
 use Rattle.scene_json.proofs.CompactLaws.{quote-compact, decimal_nests, array-compact, object-compact, Value-deeper}
 use Rattle.scene_json.proofs.Reading.{tree-once}
-use Rattle.elem.specs.Drawn.{Drawn}
+use Rattle.elem.specs.ElementValue.{ElementValue}
 use Rattle.elem.specs.Texts.{element_text, text_or_null}
 use Rattle.file_table.specs.References.{referred_files}
 use Rattle.file_table.specs.Table.{EntriesNest}
 use Rattle.scene_file.specs.declared.layout.Layout.{Layout}
 use Rattle.scene_file.specs.declared.layout.Layout.TheVariants.{Compact, Pretty}
 use Rattle.scene_file.specs.Heads.{Heading}
-use Rattle.scene_file.specs.Layouts.{IsWritten}
-use Rattle.scene_file.specs.Printing.{front, back}
+use Rattle.scene_file.specs.Layouts.{IsWrittenIn}
+use Rattle.scene_file.specs.Printing.{text_before_elements, text_behind_elements}
 use Rattle.scene_file.specs.Scenes.{scene_members, scene_text, state_text}
 use Rattle.scene_file.specs.Texts.{IsSceneText}
 
@@ -59,28 +59,28 @@ whole source elements settings files =
     ∙ ap (λ x. elements ++ (93 ∷ 44 ∷ (state ++ x))) (append_assoc settings third (125 ∷ []))))
     ∙ sym (append_assoc source (opened ++ ((elements ++ 93 ∷ []) ++ second)) (125 ∷ [])))
 
-parts : (head : Heading) (elements : List Drawn) (files : List Pair) →
-    front head.source ++ (join_with_byte 44 (map element_text elements) ++ back (pairs head.app_state) files) ≡ object_text (scene_members head elements files)
+parts : (head : Heading) (elements : List ElementValue) (files : List Pair) →
+    text_before_elements head.source ++ (join_with_byte 44 (map element_text elements) ++ text_behind_elements (pairs head.app_state) files) ≡ object_text (scene_members head elements files)
 unfolding object_text array_text quote digits
 parts head elements files =
     whole (text_or_null head.source) (join_with_byte 44 (map element_text elements)) (object_text (pairs head.app_state)) (object_text files)
 
 -- the parts that are appended one after the other
-pub scene-written : (head : Heading) (elements : List Drawn) (files : List Pair) (before started made done : List ℕ) →
-    started ≡ before ++ front head.source → made ≡ started ++ join_with_byte 44 (map element_text elements) → done ≡ made ++ back (pairs head.app_state) files →
+pub scene-written : (head : Heading) (elements : List ElementValue) (files : List Pair) (before started made done : List ℕ) →
+    started ≡ before ++ text_before_elements head.source → made ≡ started ++ join_with_byte 44 (map element_text elements) → done ≡ made ++ text_behind_elements (pairs head.app_state) files →
     done ≡ before ++ object_text (scene_members head elements files)
 scene-written head elements files before started made done first second third =
     let texts = join_with_byte 44 (map element_text elements) in
-    let last = back (pairs head.app_state) files in
+    let last = text_behind_elements (pairs head.app_state) files in
     third ∙ ap (λ m. m ++ last) (second ∙ ap (λ s. s ++ texts) first)
-    ∙ append_assoc (before ++ front head.source) texts last ∙ append_assoc before (front head.source) (texts ++ last) ∙ ap (λ x. before ++ x) (parts head elements files)
+    ∙ append_assoc (before ++ text_before_elements head.source) texts last ∙ append_assoc before (text_before_elements head.source) (texts ++ last) ∙ ap (λ x. before ++ x) (parts head elements files)
 
-pub scene-told : (head : Heading) (elements : List Drawn) (files : List Pair) → files ≡ referred_files head.files elements →
+pub scene-told : (head : Heading) (elements : List ElementValue) (files : List Pair) → files ≡ referred_files head.files elements →
     object_text (scene_members head elements files) ≡ scene_text head elements
 unfolding scene_text
 scene-told head elements files is = ap (λ fs. object_text (scene_members head elements fs)) is
 
-pub state-told : (head : Heading) (elements : List Drawn) (files : List Pair) → files ≡ head.files → object_text (scene_members head elements files) ≡ state_text head elements
+pub state-told : (head : Heading) (elements : List ElementValue) (files : List Pair) → files ≡ head.files → object_text (scene_members head elements files) ≡ state_text head elements
 unfolding state_text
 state-told head elements files is = ap (λ fs. object_text (scene_members head elements fs)) is
 
@@ -131,10 +131,10 @@ ascii (b ∷ bs) h (suc i) = ascii bs (and_parts _ _ h).1 i
 utf8 : (s : List ℕ) → list_all (λ b. nat_lt b 128) s ≡ true → IsUtf8 s
 utf8 s h = IsUtf8-from_ascii s (ascii s h)
 
-elements-compact : (elements : List Drawn) → All (λ e. IsCompact 120 (element_text e)) elements → IsCompact 121 (array_text (map element_text elements))
+elements-compact : (elements : List ElementValue) → All (λ e. IsCompact 120 (element_text e)) elements → IsCompact 121 (array_text (map element_text elements))
 elements-compact elements each = array-compact 120 (map element_text elements) (recursion_from_All (IsCompact 120) _ (All-map (IsCompact 120) element_text elements each))
 
-pub scene-are : (head : Heading) (elements : List Drawn) (files : List Pair) → IsCompact 0 (text_or_null head.source) → All (λ e. IsCompact 120 (element_text e)) elements →
+pub scene-are : (head : Heading) (elements : List ElementValue) (files : List Pair) → IsCompact 0 (text_or_null head.source) → All (λ e. IsCompact 120 (element_text e)) elements →
     IsCompact 127 (object_text (pairs head.app_state)) → IsCompact 127 (object_text files) → AreMembers 127 (scene_members head elements files)
 scene-are head elements files source each settings table = record {
   named = (utf8 (codes "type") refl, (utf8 (codes "version") refl, (utf8 (codes "source") refl, (utf8 (codes "elements") refl, (utf8 (codes "appState") refl, (utf8 (codes "files") refl, tt))))));
@@ -145,7 +145,7 @@ scene-are head elements files source each settings table = record {
   distinct = IsDistinct-from_count nat_list_eq_equiv _ refl;
 }
 
-pub scene-compact : (head : Heading) (elements : List Drawn) (files : List Pair) → IsCompact 0 (text_or_null head.source) → All (λ e. IsCompact 120 (element_text e)) elements →
+pub scene-compact : (head : Heading) (elements : List ElementValue) (files : List Pair) → IsCompact 0 (text_or_null head.source) → All (λ e. IsCompact 120 (element_text e)) elements →
     IsCompact 127 (object_text (pairs head.app_state)) → IsCompact 127 (object_text files) → IsCompact 128 (object_text (scene_members head elements files))
 scene-compact head elements files source each settings table =
     object-compact 127 (scene_members head elements files) (scene-are head elements files source each settings table)
@@ -154,10 +154,10 @@ scene-compact head elements files source each settings table =
 pub trees-once : (t u : Tree) → IsGood t → IsGood u → spelling t ≡ spelling u → t ≡ u
 trees-once t u good fine e = (tree-once t u [] [] good fine tt tt (append-nil (spelling t) ∙ e ∙ sym (append-nil (spelling u)))).0
 
-written-once : (layout : Layout) (text a b : List ℕ) → IsWritten layout text a → IsWritten layout text b → a ≡ b
+written-once : (layout : Layout) (text a b : List ℕ) → IsWrittenIn layout text a → IsWrittenIn layout text b → a ≡ b
 written-once Compact text a b one two = one ∙ sym two
 written-once Pretty text a b one two =
     one.laid ∙ ap (λ t. spelling (laid_out 0 t)) (trees-once one.tree two.tree one.good two.good (one.spells ∙ sym two.spells)) ∙ sym two.laid
 
-pub text-once : (layout : Layout) (head : Heading) (elements : List Drawn) (a b : List ℕ) → IsSceneText layout head elements a → IsSceneText layout head elements b → a ≡ b
+pub text-once : (layout : Layout) (head : Heading) (elements : List ElementValue) (a b : List ℕ) → IsSceneText layout head elements a → IsSceneText layout head elements b → a ≡ b
 text-once layout head elements a b = written-once layout (scene_text head elements) a b

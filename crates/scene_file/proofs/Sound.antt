@@ -12,14 +12,14 @@ use Rattle.index_repair.proofs.RepairLaws.{repaired-law}
 use Rattle.first_texts.specs.FirstOccurrences as texts
 use Rattle.elem.specs.declared.parts.BoundRef.{BoundRef}
 use Rattle.elem.specs.declared.parts.Binding.{Binding}
-use Rattle.elem.specs.Drawn.{Drawn}
+use Rattle.elem.specs.ElementValue.{ElementValue}
 use Rattle.elem_read.proofs.Whole.{IsSound}
 use Rattle.elem_store.specs.Updates.{AreStored}
 use Rattle.elem_store.proofs.BestUpdates.{IsBestOf-stored}
 use Rattle.elem_store.proofs.StoreLaws.{AreStored-stored}
 use Rattle.links.specs.Arrows.{names_target, is_true_entry, arrow_entries, text_entries, listing, with_settled_links, settled_arrows}
 use Rattle.links.specs.Arrows as arrows
-use Rattle.links.specs.Entries.{same_entry, arrow_entry, text_entry, first_occurrences}
+use Rattle.links.specs.Entries.{same_listing_entry, arrow_entry, text_entry, first_occurrences}
 use Rattle.links.specs.Names.{id_of, names_container, target_of, can_hold_text}
 use Rattle.links.specs.Settled.{settled_links}
 use Rattle.links.specs.Texts.{is_text_entry, listed_text, first_text, text_of, keeps_container, with_settled_container, settled_texts}
@@ -47,7 +47,7 @@ stays-if false old = inr refl
 abbrev IsListed : BoundRef → Type 0
 IsListed entry = IsUtf8 entry.id
 
-abbrev with_parts : Drawn → Option (List ℕ) → List (List ℕ) → Option (List ℕ) → List BoundRef → Option (List ℕ) → Option Binding → Option Binding → Drawn
+abbrev with_parts : ElementValue → Option (List ℕ) → List (List ℕ) → Option (List ℕ) → List BoundRef → Option (List ℕ) → Option Binding → Option Binding → ElementValue
 with_parts e index groups frame bound container start final = record e {
   index = index;
   groups = groups;
@@ -58,7 +58,7 @@ with_parts e index groups frame bound container start final = record e {
   end_binding = final;
 }
 
-sound-with : (e : Drawn) (index : Option (List ℕ)) (groups : List (List ℕ)) (frame : Option (List ℕ)) (bound : List BoundRef) (container : Option (List ℕ)) (start final : Option Binding)
+sound-with : (e : ElementValue) (index : Option (List ℕ)) (groups : List (List ℕ)) (frame : Option (List ℕ)) (bound : List BoundRef) (container : Option (List ℕ)) (start final : Option Binding)
     → IsSound e → IfSome index (λ key. is_key key ≡ true) → AllByRecursion IsUtf8 groups → IfSome frame IsUtf8 → AllByRecursion IsListed bound
     → Stays container e.container → Stays start e.start_binding → Stays final e.end_binding → IsSound (with_parts e index groups frame bound container start final)
 sound-with e index groups frame bound container start final sound key texts name entries holder first last = record {
@@ -95,21 +95,21 @@ sound-with e index groups frame bound container start final sound key texts name
 }
 
 -- ---- elements with new keys
-abbrev pub AreSound : List Drawn → Type 0
+abbrev pub AreSound : List ElementValue → Type 0
 AreSound elements = All IsSound elements
 
-sound-key : (e : Drawn) (key : List ℕ) → IsSound e → is_key key ≡ true → IsSound (with_index e key)
+sound-key : (e : ElementValue) (key : List ℕ) → IsSound e → is_key key ≡ true → IsSound (with_index e key)
 sound-key e key sound is =
     sound-with e (Some key) e.groups e.frame e.bound e.container e.start_binding e.end_binding sound is sound.written.groups sound.written.frame sound.written.bound (inl refl) (inl refl) (inl refl)
 
-keyed-sound : (elements : List Drawn) (keys : List (List ℕ)) → list_all is_key keys ≡ true → AreSound elements → AreSound (keyed elements keys)
+keyed-sound : (elements : List ElementValue) (keys : List (List ℕ)) → list_all is_key keys ≡ true → AreSound elements → AreSound (keyed elements keys)
 keyed-sound [] keys are sound = All-nil IsSound
 keyed-sound (e ∷ elements) [] are sound = All-nil IsSound
 keyed-sound (e ∷ elements) (key ∷ keys) are sound =
     let parts = and_parts (is_key key) (list_all is_key keys) are in
     All-cons IsSound (with_index e key) (keyed elements keys) (sound-key e key (All-head IsSound e elements sound) parts.0) (keyed-sound elements keys parts.1 (All-tail IsSound e elements sound))
 
-pub keys-or-none : (elements : List Drawn) → AreSound elements → list_all is_key_or_none (map index_of elements) ≡ true
+pub keys-or-none : (elements : List ElementValue) → AreSound elements → list_all is_key_or_none (map index_of elements) ≡ true
 keys-or-none [] sound = refl
 keys-or-none (e ∷ elements) sound =
     and_from (is_key_or_none e.index) (list_all is_key_or_none (map index_of elements)) (own e.index (All-head IsSound e elements sound).written.index)
@@ -119,31 +119,31 @@ keys-or-none (e ∷ elements) sound =
     own None is = refl
     own (Some key) is = is
 
-repaired-sound : (elements : List Drawn) → AreSound elements → AreSound (keyed elements (repaired (map index_of elements)))
+repaired-sound : (elements : List ElementValue) → AreSound elements → AreSound (keyed elements (repaired (map index_of elements)))
 repaired-sound elements sound =
     keyed-sound elements (repaired (map index_of elements)) (repaired-law (map index_of elements) (keys-or-none elements sound)).are_keys sound
 
-pub loaded-sound : (elements : List Drawn) → AreSound elements → AreSound (loaded elements)
+pub loaded-sound : (elements : List ElementValue) → AreSound elements → AreSound (loaded elements)
 loaded-sound elements sound =
-    cond_both (list_all (λ (e : Drawn). is_some e.index) elements) elements (keyed elements (repaired (map index_of elements))) AreSound (λ _. sound) (λ _. repaired-sound elements sound)
+    cond_both (list_all (λ (e : ElementValue). is_some e.index) elements) elements (keyed elements (repaired (map index_of elements))) AreSound (λ _. sound) (λ _. repaired-sound elements sound)
 
-keyed-keys : (elements : List Drawn) (keys : List (List ℕ)) → HaveKeys (keyed elements keys)
+keyed-keys : (elements : List ElementValue) (keys : List (List ℕ)) → HaveKeys (keyed elements keys)
 keyed-keys [] keys = refl
 keyed-keys (e ∷ elements) [] = refl
 keyed-keys (e ∷ elements) (key ∷ keys) = keyed-keys elements keys
 
-pub loaded-keys : (elements : List Drawn) → HaveKeys (loaded elements)
+pub loaded-keys : (elements : List ElementValue) → HaveKeys (loaded elements)
 loaded-keys elements =
-    cond_both (list_all (λ (e : Drawn). is_some e.index) elements) elements (keyed elements (repaired (map index_of elements))) HaveKeys (λ have. have)
+    cond_both (list_all (λ (e : ElementValue). is_some e.index) elements) elements (keyed elements (repaired (map index_of elements))) HaveKeys (λ have. have)
     (λ _. keyed-keys elements (repaired (map index_of elements)))
 
-placed-sound : (live : List Drawn) → AreSound live → AreSound (placed live)
+placed-sound : (live : List ElementValue) → AreSound live → AreSound (placed live)
 unfolding placed
 placed-sound live sound = repaired-sound (in_scene_order live) (All-permutation IsSound live (in_scene_order live) (IsPermutation-in_scene_order live) sound)
 
 -- ---- what is stored
-module _ (P : Drawn → Type 0) (updates elements : List Drawn) (are : AreStored updates elements) where
-  stored-taken : (e : Drawn) → Contains elements e → Contains updates e
+module _ (P : ElementValue → Type 0) (updates elements : List ElementValue) (are : AreStored updates elements) where
+  stored-taken : (e : ElementValue) → Contains elements e → Contains updates e
   stored-taken e c = (IsBestOf-stored updates e.id e (AreStored-stored updates elements e are c)).taken
 
   -- what holds of all updates holds of what is stored of them
@@ -173,24 +173,24 @@ first-listed : (entries : List BoundRef) → AreListed entries → AreListed (fi
 first-listed [] all = all
 first-listed (entry ∷ entries) all =
     let rest = first_occurrences entries in
-    All-cons IsListed entry (filter (λ other. not (same_entry entry other)) rest) (All-head IsListed entry entries all)
-    (All-filter (λ other. not (same_entry entry other)) IsListed rest (first-listed entries (All-tail IsListed entry entries all)))
+    All-cons IsListed entry (filter (λ other. not (same_listing_entry entry other)) rest) (All-head IsListed entry entries all)
+    (All-filter (λ other. not (same_listing_entry entry other)) IsListed rest (first-listed entries (All-tail IsListed entry entries all)))
 
-text-written : (list : List Drawn) (e : Drawn) → AreSound list → IsSound e → IfSome (text_of list e) IsUtf8
+text-written : (list : List ElementValue) (e : ElementValue) → AreSound list → IsSound e → IfSome (text_of list e) IsUtf8
 unfolding text_of
 text-written list e sounds sound =
     cond_both (can_hold_text e.kind) (option_or (listed_text list e) (first_text list e)) None (λ o. IfSome o IsUtf8)
     (λ _. or-holds IsUtf8 (listed_text list e) (first_text list e)
     (map-holds IsListed IsUtf8 (λ (entry : BoundRef). entry.id) (find (is_text_entry list e) e.bound) (λ entry is. is)
     (find-all IsListed (is_text_entry list e) e.bound (All-from_recursion IsListed e.bound sound.written.bound)))
-    (map-holds IsSound IsUtf8 id_of (find (names_container e.id) list) (λ (text : Drawn) (is : IsSound text). is.written.id) (find-all IsSound (names_container e.id) list sounds)))
+    (map-holds IsSound IsUtf8 id_of (find (names_container e.id) list) (λ (text : ElementValue) (is : IsSound text). is.written.id) (find-all IsSound (names_container e.id) list sounds)))
     (λ _. tt)
 
 text-listed : (text : Option (List ℕ)) → IfSome text IsUtf8 → AreListed (text_entries text)
 text-listed None is = All-nil IsListed
 text-listed (Some id) is = All-cons IsListed (text_entry id) [] is (All-nil IsListed)
 
-listing-written : (list : List Drawn) (e : Drawn) → AreSound list → IsSound e → AllByRecursion IsListed (listing list e)
+listing-written : (list : List ElementValue) (e : ElementValue) → AreSound list → IsSound e → AllByRecursion IsListed (listing list e)
 unfolding listing
 listing-written list e sounds sound =
     let own = filter (is_true_entry list e) e.bound in
@@ -200,32 +200,32 @@ listing-written list e sounds sound =
     (first-listed (own ++ (entries ++ texts))
     (All-append IsListed own (entries ++ texts) (All-filter (is_true_entry list e) IsListed e.bound (All-from_recursion IsListed e.bound sound.written.bound))
     (All-append IsListed entries texts
-    (map-all IsSound IsListed (λ (arrow : Drawn). arrow_entry arrow.id) (filter (arrows.is_bound_to e) list) (λ (arrow : Drawn) (is : IsSound arrow). is.written.id)
+    (map-all IsSound IsListed (λ (arrow : ElementValue). arrow_entry arrow.id) (filter (arrows.is_bound_to e) list) (λ (arrow : ElementValue) (is : IsSound arrow). is.written.id)
     (All-filter (arrows.is_bound_to e) IsSound list sounds))
     (text-listed (text_of list e) (text-written list e sounds sound)))))
 
-texts-sound : (list : List Drawn) → AreSound list → AreSound (settled_texts list)
+texts-sound : (list : List ElementValue) → AreSound list → AreSound (settled_texts list)
 texts-sound list sounds = map-all IsSound IsSound (with_settled_container list) list each sounds
   where
-    each : (e : Drawn) → IsSound e → IsSound (with_settled_container list e)
+    each : (e : ElementValue) → IsSound e → IsSound (with_settled_container list e)
     each e sound =
         sound-with e e.index e.groups e.frame e.bound (cond (keeps_container list e) e.container None) e.start_binding e.end_binding
         sound sound.written.index sound.written.groups sound.written.frame sound.written.bound (stays-if (keeps_container list e) e.container) (inl refl) (inl refl)
 
-arrows-sound : (list : List Drawn) → AreSound list → AreSound (settled_arrows list)
+arrows-sound : (list : List ElementValue) → AreSound list → AreSound (settled_arrows list)
 arrows-sound list sounds = map-all IsSound IsSound (with_settled_links list) list each sounds
   where
-    each : (e : Drawn) → IsSound e → IsSound (with_settled_links list e)
+    each : (e : ElementValue) → IsSound e → IsSound (with_settled_links list e)
     each e sound =
         sound-with e e.index e.groups e.frame (listing list e) e.container (arrows.settled_end list e.start_binding) (arrows.settled_end list e.end_binding)
         sound sound.written.index sound.written.groups sound.written.frame (listing-written list e sounds sound) (inl refl)
         (stays-if (names_target list (target_of e.start_binding)) e.start_binding) (stays-if (names_target list (target_of e.end_binding)) e.end_binding)
 
 -- ---- settled frames and groups
-frames-sound : (list : List Drawn) → AreSound list → AreSound (frames_settled list)
+frames-sound : (list : List ElementValue) → AreSound list → AreSound (frames_settled list)
 frames-sound list sounds = map-all IsSound IsSound (framed (has_frame list)) list each sounds
   where
-    each : (e : Drawn) → IsSound e → IsSound (framed (has_frame list) e)
+    each : (e : ElementValue) → IsSound e → IsSound (framed (has_frame list) e)
     each e sound =
         cond_both (keeps_frame (has_frame list) e) e (without_frame e) IsSound (λ _. sound)
         (λ _. sound-with e e.index e.groups None e.bound e.container e.start_binding e.end_binding sound sound.written.index sound.written.groups tt sound.written.bound (inl refl) (inl refl) (inl refl))
@@ -234,32 +234,32 @@ first-texts : (groups : List (List ℕ)) → All IsUtf8 groups → All IsUtf8 (t
 first-texts [] all = all
 first-texts (text ∷ groups) all =
     let rest = texts.first_occurrences groups in
-    All-cons IsUtf8 text (filter (texts.is_other text) rest) (All-head IsUtf8 text groups all)
-    (All-filter (texts.is_other text) IsUtf8 rest (first-texts groups (All-tail IsUtf8 text groups all)))
+    All-cons IsUtf8 text (filter (texts.is_other_text text) rest) (All-head IsUtf8 text groups all)
+    (All-filter (texts.is_other_text text) IsUtf8 rest (first-texts groups (All-tail IsUtf8 text groups all)))
 
-groups-sound : (list : List Drawn) → AreSound list → AreSound (groups_settled list)
+groups-sound : (list : List ElementValue) → AreSound list → AreSound (groups_settled list)
 groups-sound list sounds = map-all IsSound IsSound grouped list each sounds
   where
-    each : (e : Drawn) → IsSound e → IsSound (grouped e)
+    each : (e : ElementValue) → IsSound e → IsSound (grouped e)
     each e sound =
         let groups = texts.first_occurrences e.groups in
         sound-with e e.index groups e.frame e.bound e.container e.start_binding e.end_binding sound sound.written.index
         (recursion_from_All IsUtf8 groups (first-texts e.groups (All-from_recursion IsUtf8 e.groups sound.written.groups))) sound.written.frame sound.written.bound
         (inl refl) (inl refl) (inl refl)
 
-pub shown-sound : (live : List Drawn) → AreSound live → AreSound (shown live)
+pub shown-sound : (live : List ElementValue) → AreSound live → AreSound (shown live)
 unfolding shown settled
 shown-sound live sounds =
     let there = placed live in
     groups-sound (frames_settled (settled_links there)) (frames-sound (settled_links there) (arrows-sound (settled_texts there) (texts-sound there (placed-sound live sounds))))
 
 -- keys that rise are there
-some-keys : (elements : List Drawn) (keys : List (List ℕ)) → map index_of elements ≡ map Some keys → HaveKeys elements
+some-keys : (elements : List ElementValue) (keys : List (List ℕ)) → map index_of elements ≡ map Some keys → HaveKeys elements
 some-keys [] keys same = refl
 some-keys (e ∷ elements) [] same = cc
 some-keys (e ∷ elements) (key ∷ keys) same =
     let first : e.index ≡ Some key = cc in
-    and_from (is_some e.index) (list_all (λ (f : Drawn). is_some f.index) elements) (ap is_some first) (some-keys elements keys (cc))
+    and_from (is_some e.index) (list_all (λ (f : ElementValue). is_some f.index) elements) (ap is_some first) (some-keys elements keys (cc))
 
-pub rising-keys : (elements : List Drawn) → HaveRisingKeys elements → HaveKeys elements
+pub rising-keys : (elements : List ElementValue) → HaveRisingKeys elements → HaveKeys elements
 rising-keys elements rise = some-keys elements rise.keys rise.each

@@ -10,22 +10,22 @@ use Rattle.scene_json.specs.Parts.{AreMembers}
 use Rattle.scene_json.specs.Value.{IsCompact}
 use Rattle.scene_json.proofs.Lookups.{rising_distinct}
 use Rattle.frac_keys.specs.Keys.{bytes_less}
-use Rattle.elem.specs.Drawn.{Drawn}
+use Rattle.elem.specs.ElementValue.{ElementValue}
 use Rattle.elem.specs.Forms.{find_in}
 use Rattle.elem.proofs.Sorting.{AllByRecursion-weaker}
 use Rattle.elem_read.specs.Elements.{AreRead}
-use Rattle.elem_read.specs.Reading.{IsWhole}
+use Rattle.elem_read.specs.Reading.{IsWholeElement}
 use Rattle.elem_read.proofs.Keeping.{AllFound, found-has, found-self}
 use Rattle.elem_read.proofs.Whole.{IsSound, IsSound-read, IsSound-whole}
 use Rattle.elem_store.specs.Updates.{AreStored}
-use Rattle.file_table.specs.Table.{IsLeast, AreFilesOf}
+use Rattle.file_table.specs.Table.{IsLeast, AreLeastEntries}
 use Rattle.file_table.proofs.Least.{least-is}
 use Rattle.view.specs.Shown.{shown}
 use Rattle.scene_file.specs.Heads.{Heading, lesser_source, least_source, settings_of, files_of, IsJoinedHead}
-use Rattle.scene_file.specs.Reading.{given, loaded, IsSource, IsHeadOf, IsSceneAt}
+use Rattle.scene_file.specs.Reading.{value_unless_null, loaded, IsSource, IsHeadOf, IsSceneAt}
 use Rattle.scene_file.specs.Whole.{IsWholeHead, HaveKeys, IsWholeScene}
 use Rattle.scene_file.specs.declared.scene.Scene.{Scene}
-use Rattle.scene_file.proofs.Nesting.{nests-given}
+use Rattle.scene_file.proofs.Nesting.{nests-value_unless_null}
 use Rattle.scene_file.proofs.Sound.{AreSound, loaded-sound, loaded-keys, stored-all, shown-sound}
 
 abbrev IsNamed : List ℕ → List ℕ → Type 0
@@ -58,19 +58,19 @@ source-whole found (Some text) is = is.0
 head-whole : (members : List Pair) (head : Heading) → AreMembers 127 members → IsHeadOf members head → IsWholeHead head
 head-whole members head are is = record {
   source = source-whole (value_at (codes "source") members) head.source is.source;
-  settings = members-same (pairs head.app_state) is.settings is.state_ordered is.app_state (nests-given (codes "appState") members is.settings are is.state);
+  settings = members-same (pairs head.app_state) is.settings is.state_ordered is.app_state (nests-value_unless_null (codes "appState") members is.settings are is.state);
   settings_ordered = is.state_ordered;
-  files = members-same head.files is.entries is.files_ordered is.files (nests-given (codes "files") members is.entries are is.table);
+  files = members-same head.files is.entries is.files_ordered is.files (nests-value_unless_null (codes "files") members is.entries are is.table);
   files_ordered = is.files_ordered;
 }
 
 -- ---- heads that are joined
-least-holds : (P : List ℕ → List ℕ → Type 0) (given files : List Pair) → AreFilesOf given files → All (λ (m : Pair). P m.0 m.1) given → AllFound P (find_in files)
+least-holds : (P : List ℕ → List ℕ → Type 0) (given files : List Pair) → AreLeastEntries given files → All (λ (m : Pair). P m.0 m.1) given → AllFound P (find_in files)
 least-holds P given files are all name value e =
     let least : IsLeast given name value = (least-is given name value).0 (sym (are.each name) ∙ e) in
     All-contains (λ (m : Pair). P m.0 m.1) given (name, value) all least.among
 
-files-whole : (given files : List Pair) → AreFilesOf given files → All (λ (m : Pair). IsUtf8 m.0) given → All (λ (m : Pair). IsCompact 126 m.1) given → AreMembers 126 files
+files-whole : (given files : List Pair) → AreLeastEntries given files → All (λ (m : Pair). IsUtf8 m.0) given → All (λ (m : Pair). IsCompact 126 m.1) given → AreMembers 126 files
 files-whole given files are named nests = members-from files are.ordered (least-holds IsNamed given files are named) (least-holds Nests given files are nests)
 
 part-all : (part : Heading → List Pair) (P : Pair → Type 0) (heads : List Heading) → ((head : Heading) → IsWholeHead head → AllByRecursion P (part head)) → All IsWholeHead heads → All P (flat_map part heads)
@@ -104,22 +104,22 @@ joined-whole heads head whole joined = record {
 }
 
 -- ---- elements
-read-sound : (values : List (List ℕ)) (elements : List Drawn) → AreRead values elements → AreSound elements
+read-sound : (values : List (List ℕ)) (elements : List ElementValue) → AreRead values elements → AreSound elements
 read-sound [] elements read = subst AreSound (sym read) (All-nil IsSound)
 read-sound (value ∷ values) elements (inl (dropped, read)) = read-sound values elements read
 read-sound (value ∷ values) elements (inr (e, others, all, is, read)) =
     subst AreSound (sym all) (All-cons IsSound e others (IsSound-read value e is) (read-sound values others read))
 
-sounds-whole : (elements : List Drawn) → AreSound elements → All IsWhole elements
-sounds-whole elements sound = All-weaker IsSound IsWhole IsSound-whole elements sound
+sounds-whole : (elements : List ElementValue) → AreSound elements → All IsWholeElement elements
+sounds-whole elements sound = All-weaker IsSound IsWholeElement IsSound-whole elements sound
 
-pub wholes-sound : (elements : List Drawn) → All IsWhole elements → AreSound elements
-wholes-sound elements whole = All-weaker IsWhole IsSound (λ e is. IsSound-read _ e is) elements whole
+pub wholes-sound : (elements : List ElementValue) → All IsWholeElement elements → AreSound elements
+wholes-sound elements whole = All-weaker IsWholeElement IsSound (λ e is. IsSound-read _ e is) elements whole
 
-pub stored-whole : (updates elements : List Drawn) → All IsWhole updates → AreStored updates elements → All IsWhole elements
-stored-whole updates elements whole are = stored-all IsWhole updates elements are whole
+pub stored-whole : (updates elements : List ElementValue) → All IsWholeElement updates → AreStored updates elements → All IsWholeElement elements
+stored-whole updates elements whole are = stored-all IsWholeElement updates elements are whole
 
-pub shown-whole : (live : List Drawn) → All IsWhole live → All IsWhole (shown live)
+pub shown-whole : (live : List ElementValue) → All IsWholeElement live → All IsWholeElement (shown live)
 shown-whole live whole = sounds-whole (shown live) (shown-sound live (wholes-sound live whole))
 
 pub scene-whole : (bytes : List ℕ) (scene : Scene) (rest : List ℕ) → IsSceneAt bytes scene rest → IsWholeScene scene
@@ -127,6 +127,6 @@ scene-whole bytes scene rest at =
     let is = at.says in
     record {
       head = head-whole is.members scene.head is.object.are_members is.head;
-      elements = subst (All IsWhole) (sym is.are_loaded) (sounds-whole (loaded is.elements) (loaded-sound is.elements (read-sound is.values is.elements is.read)));
+      elements = subst (All IsWholeElement) (sym is.are_loaded) (sounds-whole (loaded is.elements) (loaded-sound is.elements (read-sound is.values is.elements is.read)));
       keys = subst HaveKeys (sym is.are_loaded) (loaded-keys is.elements);
     }

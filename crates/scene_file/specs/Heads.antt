@@ -7,7 +7,7 @@ use Rattle.scene_json.specs.Members.{pairs}
 use Rattle.scene_json.specs.Named.{HaveRisingNames}
 use Rattle.scene_json.specs.declared.text.Member.{Member}
 use Rattle.frac_keys.specs.Keys.{bytes_less}
-use Rattle.file_table.specs.Table.{AreFilesOf, EntriesNest}
+use Rattle.file_table.specs.Table.{AreLeastEntries, EntriesNest}
 
 -- A head as contracts see it: the source, the settings in the order of their names, and the pairs of id and entry of the
 -- files, in the order of the ids.
@@ -42,8 +42,8 @@ files_of heads = flat_map (λ (head : Heading). head.files) heads
 -- The source is the least of the heads', and of each name and each id the least setting and the least file's entry counts.
 pub record IsJoinedHead (heads : List Heading) (head : Heading) : Type 0 where
   pub source : head.source ≡ least_source heads
-  pub app_state : AreFilesOf (settings_of heads) (pairs head.app_state)
-  pub files : AreFilesOf (files_of heads) head.files
+  pub app_state : AreLeastEntries (settings_of heads) (pairs head.app_state)
+  pub files : AreLeastEntries (files_of heads) head.files
 
 -- A head has this source, and none has a lesser one.
 pub record IsLeastSource (heads : List Heading) (source : List ℕ) : Type 0 where

@@ -5,6 +5,6 @@ use Rattle.scene_file.specs.declared.layout.Layout.{Layout}
 use Rattle.scene_file.specs.declared.layout.Layout.TheVariants.{Compact, Pretty}
 
 -- How a compact text is written: as it is, or in the layout of two spaces a level. This project's own.
-abbrev pub IsWritten : Layout → List ℕ → List ℕ → Type 0
-IsWritten Compact text written = written ≡ text
-IsWritten Pretty text written = IsLaidOut 0 text written
+abbrev pub IsWrittenIn : Layout → List ℕ → List ℕ → Type 0
+IsWrittenIn Compact text written = written ≡ text
+IsWrittenIn Pretty text written = IsLaidOut 0 text written

@@ -9,7 +9,7 @@ use Rattle.scene_json.specs.Named.{value_at, AreSameMembers, HaveRisingNames}
 use Rattle.scene_json.specs.Tree.{null_word}
 use Rattle.scene_json.specs.Value.{IsCompact, Stands}
 use Rattle.index_repair.specs.Repair.{repaired}
-use Rattle.elem.specs.Drawn.{Drawn}
+use Rattle.elem.specs.ElementValue.{ElementValue}
 use Rattle.elem.specs.Forms.{IsText, IsObject}
 use Rattle.elem_read.specs.Elements.{AreRead, IsFirstFaulty}
 use Rattle.view.specs.Shown.{index_of, keyed}
@@ -19,8 +19,8 @@ use Rattle.scene_file.specs.declared.fault.SceneFault.{SceneFault}
 use Rattle.scene_file.specs.declared.fault.SceneFault.TheVariants.{Json, NotObject, NotScene, Elements, AppState, Files, Element}
 
 -- the value under a name: null counts as missing
-abbrev pub given : List ℕ → List Pair → Option (List ℕ)
-given name members = elim (value_at name members) [ None ↦ None | Some value ↦ if bytes_eq value null_word then None else Some value ]
+abbrev pub value_unless_null : List ℕ → List Pair → Option (List ℕ)
+value_unless_null name members = elim (value_at name members) [ None ↦ None | Some value ↦ if bytes_eq value null_word then None else Some value ]
 
 -- the items of an array, none where it is missing
 abbrev pub HasItems : Option (List ℕ) → List (List ℕ) → Type 0
@@ -43,19 +43,19 @@ IsScene members = IsText (value_at (codes "type") members) (codes "excalidraw")
 
 -- the elements as they are loaded: their keys are kept where each has one, else the keys of all are repaired in the
 -- array's order
-abbrev pub loaded : List Drawn → List Drawn
+abbrev pub loaded : List ElementValue → List ElementValue
 loaded elements =
-    if list_all (λ (e : Drawn). is_some e.index) elements then elements else keyed elements (repaired (map index_of elements))
+    if list_all (λ (e : ElementValue). is_some e.index) elements then elements else keyed elements (repaired (map index_of elements))
 
 -- The head says what the members do.
 pub record IsHeadOf (members : List Pair) (head : Heading) : Type 0 where
   pub source : IsSource (value_at (codes "source") members) head.source
   pub settings : List Pair
-  pub state : HasMembers (given (codes "appState") members) settings
+  pub state : HasMembers (value_unless_null (codes "appState") members) settings
   pub state_ordered : HaveRisingNames (pairs head.app_state)
   pub app_state : AreSameMembers (pairs head.app_state) settings
   pub entries : List Pair
-  pub table : HasMembers (given (codes "files") members) entries
+  pub table : HasMembers (value_unless_null (codes "files") members) entries
   pub files_ordered : HaveRisingNames head.files
   pub files : AreSameMembers head.files entries
 
@@ -66,8 +66,8 @@ pub record IsSceneOf (text : List ℕ) (scene : Scene) : Type 0 where
   pub kind : IsScene members
   pub head : IsHeadOf members scene.head
   pub values : List (List ℕ)
-  pub items : HasItems (given (codes "elements") members) values
-  pub elements : List Drawn
+  pub items : HasItems (value_unless_null (codes "elements") members) values
+  pub elements : List ElementValue
   pub read : AreRead values elements
   pub are_loaded : scene.elements ≡ loaded elements
 
@@ -78,21 +78,21 @@ IsSceneFault text NotObject = (members : List Pair) → IsObject text members �
 IsSceneFault text NotScene = (members : List Pair) × IsObject text members × (IsScene members → ⊥)
 IsSceneFault text Elements =
     (members : List Pair) × IsObject text members × IsScene members
-    × ((values : List (List ℕ)) → HasItems (given (codes "elements") members) values → ⊥)
+    × ((values : List (List ℕ)) → HasItems (value_unless_null (codes "elements") members) values → ⊥)
 IsSceneFault text AppState =
     (members : List Pair) × IsObject text members × IsScene members
-    × ((values : List (List ℕ)) × HasItems (given (codes "elements") members) values)
-    × ((settings : List Pair) → HasMembers (given (codes "appState") members) settings → ⊥)
+    × ((values : List (List ℕ)) × HasItems (value_unless_null (codes "elements") members) values)
+    × ((settings : List Pair) → HasMembers (value_unless_null (codes "appState") members) settings → ⊥)
 IsSceneFault text Files =
     (members : List Pair) × IsObject text members × IsScene members
-    × ((values : List (List ℕ)) × HasItems (given (codes "elements") members) values)
-    × ((settings : List Pair) × HasMembers (given (codes "appState") members) settings)
-    × ((entries : List Pair) → HasMembers (given (codes "files") members) entries → ⊥)
+    × ((values : List (List ℕ)) × HasItems (value_unless_null (codes "elements") members) values)
+    × ((settings : List Pair) × HasMembers (value_unless_null (codes "appState") members) settings)
+    × ((entries : List Pair) → HasMembers (value_unless_null (codes "files") members) entries → ⊥)
 IsSceneFault text (Element place fault) =
     (members : List Pair) × IsObject text members × IsScene members
-    × ((values : List (List ℕ)) × HasItems (given (codes "elements") members) values × IsFirstFaulty values place fault)
-    × ((settings : List Pair) × HasMembers (given (codes "appState") members) settings)
-    × ((entries : List Pair) × HasMembers (given (codes "files") members) entries)
+    × ((values : List (List ℕ)) × HasItems (value_unless_null (codes "elements") members) values × IsFirstFaulty values place fault)
+    × ((settings : List Pair) × HasMembers (value_unless_null (codes "appState") members) settings)
+    × ((entries : List Pair) × HasMembers (value_unless_null (codes "files") members) entries)
 
 -- A scene stands at the front behind white space, in whatever spelling; the rest follows it.
 pub record IsSceneAt (bytes : List ℕ) (scene : Scene) (rest : List ℕ) : Type 0 where
@@ -101,6 +101,6 @@ pub record IsSceneAt (bytes : List ℕ) (scene : Scene) (rest : List ℕ) : Type
   pub says : IsSceneOf text scene
 
 -- The text behind the offset has this first fault: its JSON form has, or it has none there and is no scene.
-abbrev pub IsFaultAt : List ℕ → ℕ → SceneFault → Type 0
-IsFaultAt bytes at (Json fault) = IsFirstFault bytes at fault
-IsFaultAt bytes at fault = (text rest : List ℕ) × Stands (drop at bytes) text rest × IsSceneFault text fault
+abbrev pub IsSceneFaultAt : List ℕ → ℕ → SceneFault → Type 0
+IsSceneFaultAt bytes at (Json fault) = IsFirstFault bytes at fault
+IsSceneFaultAt bytes at fault = (text rest : List ℕ) × Stands (drop at bytes) text rest × IsSceneFault text fault

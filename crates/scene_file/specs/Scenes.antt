@@ -4,22 +4,22 @@ use Rattle.std.specs.Prelude.{ℕ, List, [], ◌∷◌, map, codes, decimal}
 use Rattle.scene_json.specs.Characters.{quote}
 use Rattle.scene_json.specs.Compact.{Member as Pair, array_text, object_text}
 use Rattle.scene_json.specs.Members.{pairs}
-use Rattle.elem.specs.Drawn.{Drawn}
+use Rattle.elem.specs.ElementValue.{ElementValue}
 use Rattle.elem.specs.Texts.{element_text, text_or_null}
 use Rattle.file_table.specs.References.{referred_files}
 use Rattle.scene_file.specs.Heads.{Heading}
 
 -- the members of the text of these elements, with these files, under this head
-abbrev pub scene_members : Heading → List Drawn → List Pair → List Pair
+abbrev pub scene_members : Heading → List ElementValue → List Pair → List Pair
 scene_members head elements files =
     (codes "type", quote (codes "excalidraw")) ∷ (codes "version", decimal 2) ∷ (codes "source", text_or_null head.source)
     ∷ (codes "elements", array_text (map element_text elements))
     ∷ (codes "appState", object_text (pairs head.app_state)) ∷ (codes "files", object_text files) ∷ []
 
 -- the text of the scene of these elements: with the files that they name
-unfoldable pub scene_text : Heading → List Drawn → List ℕ
+unfoldable pub scene_text : Heading → List ElementValue → List ℕ
 scene_text head elements = object_text (scene_members head elements (referred_files head.files elements))
 
 -- the text of all that is stored: with all files
-unfoldable pub state_text : Heading → List Drawn → List ℕ
+unfoldable pub state_text : Heading → List ElementValue → List ℕ
 state_text head stored = object_text (scene_members head stored head.files)

@@ -7,8 +7,8 @@ use Rattle.scene_json.specs.Compact.{Member as Pair}
 use Rattle.scene_json.specs.Members.{pairs}
 use Rattle.scene_json.specs.Named.{HaveRisingNames}
 use Rattle.scene_json.specs.Parts.{AreMembers}
-use Rattle.elem.specs.Drawn.{Drawn}
-use Rattle.elem_read.specs.Reading.{IsWhole}
+use Rattle.elem.specs.ElementValue.{ElementValue}
+use Rattle.elem_read.specs.Reading.{IsWholeElement}
 use Rattle.file_table.specs.References.{references}
 use Rattle.scene_file.specs.Heads.{Heading}
 use Rattle.scene_file.specs.declared.scene.Scene.{Scene}
@@ -22,17 +22,17 @@ pub record IsWholeHead (head : Heading) : Type 0 where
   pub files_ordered : HaveRisingNames head.files
 
 -- Each element has a key.
-abbrev pub HaveKeys : List Drawn → Type 0
-HaveKeys elements = list_all (λ (e : Drawn). is_some e.index) elements ≡ true
+abbrev pub HaveKeys : List ElementValue → Type 0
+HaveKeys elements = list_all (λ (e : ElementValue). is_some e.index) elements ≡ true
 
 -- Its head is whole; each element is what its text is read as, and has a key.
 pub record IsWholeScene (scene : Scene) : Type 0 where
   pub head : IsWholeHead scene.head
-  pub elements : All IsWhole scene.elements
+  pub elements : All IsWholeElement scene.elements
   pub keys : HaveKeys scene.elements
 
 -- the head with those of its files alone that elements name
-abbrev pub with_named_files : Heading → List Drawn → Heading
+abbrev pub with_named_files : Heading → List ElementValue → Heading
 with_named_files head elements = record head {
   files = filter (λ (file : Pair). list_any (bytes_eq file.0) (references elements)) head.files;
 }

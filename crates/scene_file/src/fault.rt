@@ -2,7 +2,7 @@
 
 ghost use Rattle.std.specs.Prelude.{◌≡◌};
 ghost use Rattle.board_io.specs.Pieces.{line_text};
-ghost use Rattle.scene_file.specs.Faults.{fault_words};
+ghost use Rattle.scene_file.specs.Faults.{scene_fault_words};
 
 use board_io::Piece;
 use elem_read::ElemFault;
@@ -30,7 +30,7 @@ pub enum SceneFault {
 impl SceneFault {
     /// What is told of this fault, in pieces.
     pub fn pieces(self) -> [Piece; 4]
-        ensures { line_text result ≡ fault_words self }
+        ensures { line_text result ≡ scene_fault_words self }
     {
         match self {
             SceneFault::Json(fault) => {

@@ -5,9 +5,9 @@ ghost use Rattle.scene_json.specs.Compact.{Member as Pair};
 ghost use Rattle.scene_json.specs.Members.{pairs};
 ghost use Rattle.scene_json.specs.Named.{AreSameMembers, HaveRisingNames};
 ghost use Rattle.scene_json.specs.Parts.{AreMembers};
-ghost use Rattle.file_table.specs.Table.{AreFilesOf, EntriesNest};
+ghost use Rattle.file_table.specs.Table.{AreLeastEntries, EntriesNest};
 ghost use Rattle.scene_file.specs.Heads.{Heading, IsJoinedHead, lesser_source};
-ghost use Rattle.scene_file.specs.Reading.{given, HasMembers, IsHeadOf};
+ghost use Rattle.scene_file.specs.Reading.{value_unless_null, HasMembers, IsHeadOf};
 
 use board_io::List;
 use file_table::Files;
@@ -104,7 +104,7 @@ fn table_of(
 ) -> Result<Files, AllocError>
     requires nest { EntriesNest 126 (pairs members.now) }
     requires others_nest { EntriesNest 126 (pairs others.now) }
-    ensures { IfOk result (AreFilesOf (pairs members.now ++ pairs others.now)) }
+    ensures { IfOk result (AreLeastEntries (pairs members.now ++ pairs others.now)) }
 {
     let mut table = Files::new(alloc);
     take_all(&mut table, members)?;
@@ -115,7 +115,7 @@ fn table_of(
 /// Takes all these members into the table. After want of memory it may have some of them.
 fn take_all(table: &mut Files, members: &List<Member>) -> Result<(), AllocError>
     requires { EntriesNest 126 (pairs members.now) }
-    ensures { OnOk result ((given : Items Pair) → AreFilesOf given table.old → AreFilesOf (given ++ pairs members.now) table.new) }
+    ensures { OnOk result ((given : Items Pair) → AreLeastEntries given table.old → AreLeastEntries (given ++ pairs members.now) table.new) }
 {
     for member in members.as_slice() {
         let copy = member.try_clone()?;
@@ -132,8 +132,8 @@ pub(crate) fn head_of(
     entries: List<Member>,
 ) -> Result<Head, AllocError>
     requires are_members { AreMembers 127 (pairs members.now) }
-    requires settings { HasMembers (given (codes "appState") (pairs members.now)) (pairs settings) }
-    requires entries { HasMembers (given (codes "files") (pairs members.now)) (pairs entries) }
+    requires settings { HasMembers (value_unless_null (codes "appState") (pairs members.now)) (pairs settings) }
+    requires entries { HasMembers (value_unless_null (codes "files") (pairs members.now)) (pairs entries) }
     ensures { IfOk result (IsHeadOf (pairs members.now)) }
 {
     let source = text_named(alloc, members, "source")?;

@@ -3,12 +3,12 @@
 ghost use Rattle.std.specs.Prelude.{◌≡◌, ◌↔◌, ◌⊎◌, ◌<◌, ◌≤◌, ℕ, List, ◌++◌, All, Contains, true, Some, None, drop, flat_map, length, map};
 ghost use Rattle.scene_json.specs.Characters.{is_blank};
 ghost use Rattle.scene_json.specs.Value.{IsCompact};
-ghost use Rattle.elem.specs.Drawn.{Drawn};
-ghost use Rattle.elem_read.specs.Reading.{IsWhole};
+ghost use Rattle.elem.specs.ElementValue.{ElementValue};
+ghost use Rattle.elem_read.specs.Reading.{IsWholeElement};
 ghost use Rattle.elem_store.specs.Updates.{AreStored};
 ghost use Rattle.view.specs.Shown.{live_elements, shown};
 ghost use Rattle.scene_file.specs.Heads.{Heading, HaveSameHeads, IsJoinedHead, IsLeastSource, least_source};
-ghost use Rattle.scene_file.specs.Reading.{IsSceneOf, IsSceneAt, IsFaultAt};
+ghost use Rattle.scene_file.specs.Reading.{IsSceneOf, IsSceneAt, IsSceneFaultAt};
 ghost use Rattle.scene_file.specs.Scenes.{scene_text, state_text};
 ghost use Rattle.scene_file.specs.Texts.{IsSceneText};
 ghost use Rattle.scene_file.specs.Whole.{IsWholeHead, HaveKeys, IsWholeScene, with_named_files};
@@ -28,9 +28,9 @@ pub fn scene_is_unique()
 /// A text has at most one first fault at an offset, and no scene stands where a fault is.
 pub fn fault_is_unique()
     ensures once { (bytes : List ℕ) (at : ℕ) (fault other : SceneFault)
-        → IsFaultAt bytes at fault → IsFaultAt bytes at other → fault ≡ other }
+        → IsSceneFaultAt bytes at fault → IsSceneFaultAt bytes at other → fault ≡ other }
     ensures none { (bytes : List ℕ) (at : ℕ) (fault : SceneFault) (scene : Scene) (rest : List ℕ)
-        → IsFaultAt bytes at fault → IsSceneAt (drop at bytes) scene rest → ⊥ }
+        → IsSceneFaultAt bytes at fault → IsSceneAt (drop at bytes) scene rest → ⊥ }
 {}
 
 /// At each offset a scene stands, behind white space, or there is a first fault.
@@ -38,7 +38,7 @@ pub fn scene_or_fault_exists()
     ensures { (bytes : List ℕ) (at : ℕ) → at ≤ length bytes
         → ((scene : Scene) × (end : ℕ) × (at < end) × (end ≤ length bytes)
         × IsSceneAt (drop at bytes) scene (drop end bytes))
-        ⊎ ((fault : SceneFault) × IsFaultAt bytes at fault) }
+        ⊎ ((fault : SceneFault) × IsSceneFaultAt bytes at fault) }
 {}
 
 /// Whatever heads there are, they are joined to a head.
@@ -68,12 +68,12 @@ pub fn least_source_is_least()
 /// The text of what is shown of scenes is a compact text, which nests at most 128; and a compact text is written in each
 /// layout.
 pub fn shown_scene_is_written()
-    ensures compact { (scenes : List Scene) (head : Heading) (stored : List Drawn)
+    ensures compact { (scenes : List Scene) (head : Heading) (stored : List ElementValue)
         → All (λ scene. (text : List ℕ) × IsSceneOf text scene) scenes
         → IsJoinedHead (map (λ (scene : Scene). scene.head) scenes) head
         → AreStored (flat_map (λ (scene : Scene). scene.elements) scenes) stored
         → IsCompact 128 (scene_text head (shown (live_elements stored))) }
-    ensures written { (layout : Layout) (head : Heading) (elements : List Drawn)
+    ensures written { (layout : Layout) (head : Heading) (elements : List ElementValue)
         → IsCompact 128 (scene_text head elements) → (written : List ℕ) × IsSceneText layout head elements written }
 {}
 
@@ -83,21 +83,21 @@ pub fn scenes_are_whole()
     ensures read { (bytes : List ℕ) (scene : Scene) (rest : List ℕ) → IsSceneAt bytes scene rest → IsWholeScene scene }
     ensures joined { (heads : List Heading) (head : Heading)
         → All IsWholeHead heads → IsJoinedHead heads head → IsWholeHead head }
-    ensures stored { (updates elements : List Drawn)
-        → All IsWhole updates → AreStored updates elements → All IsWhole elements }
-    ensures shown { (live : List Drawn) → All IsWhole live → All IsWhole (shown live) }
+    ensures stored { (updates elements : List ElementValue)
+        → All IsWholeElement updates → AreStored updates elements → All IsWholeElement elements }
+    ensures shown { (live : List ElementValue) → All IsWholeElement live → All IsWholeElement (shown live) }
 {}
 
 /// The text of a whole scene, in whatever layout and whatever follows it, is read as that scene: with its elements, and
 /// under its head with those of the files that the elements name, which have the same text. The text of all that is stored
 /// is read as that, under its whole head.
 pub fn texts_are_read_back()
-    ensures scene { (layout : Layout) (head : Heading) (elements : List Drawn) (written rest : List ℕ)
-        → IsWholeHead head → All IsWhole elements → HaveKeys elements → IsSceneText layout head elements written
+    ensures scene { (layout : Layout) (head : Heading) (elements : List ElementValue) (written rest : List ℕ)
+        → IsWholeHead head → All IsWholeElement elements → HaveKeys elements → IsSceneText layout head elements written
         → IsSceneAt (written ++ rest) (record { head = with_named_files head elements; elements = elements }) rest }
-    ensures same { (head : Heading) (elements : List Drawn)
+    ensures same { (head : Heading) (elements : List ElementValue)
         → scene_text (with_named_files head elements) elements ≡ scene_text head elements }
-    ensures state { (head : Heading) (stored : List Drawn) (rest : List ℕ)
-        → IsWholeHead head → All IsWhole stored → HaveKeys stored
+    ensures state { (head : Heading) (stored : List ElementValue) (rest : List ℕ)
+        → IsWholeHead head → All IsWholeElement stored → HaveKeys stored
         → IsSceneAt (state_text head stored ++ rest) (record { head = head; elements = stored }) rest }
 {}

@@ -12,7 +12,7 @@ ghost use Rattle.scene_json.specs.Value.{IsCompact};
 ghost use Rattle.elem.specs.Texts.{element_text, text_or_null};
 ghost use Rattle.file_table.specs.Table.{EntriesNest};
 ghost use Rattle.view.specs.Shown.{shown, HaveRisingKeys};
-ghost use Rattle.scene_file.specs.Printing.{front, back};
+ghost use Rattle.scene_file.specs.Printing.{text_before_elements, text_behind_elements};
 ghost use Rattle.scene_file.specs.Scenes as scenes;
 ghost use Rattle.scene_file.specs.Texts.{IsSceneText};
 
@@ -114,7 +114,7 @@ fn push_element_lines(
 
 /// Appends what stands before the elements.
 fn push_front(out: &mut Vec<u8>, source: &Option<Text>) -> Result<(), AllocError>
-    ensures text { OnOk result (out.new.items ≡ out.old.items ++ front source.now) }
+    ensures text { OnOk result (out.new.items ≡ out.old.items ++ text_before_elements source.now) }
     ensures nests { OnOk result (IsCompact 0 (text_or_null source.now)) }
 {
     out.extend_from_slice(b"{\"type\":\"excalidraw\",\"version\":2,\"source\":")?;
@@ -144,7 +144,7 @@ fn push_back(
     requires settings_nest { EntriesNest 126 (pairs settings.now) }
     requires files_distinct { IsDistinct bytes_eq (names_of (pairs files.now)) }
     requires files_nest { EntriesNest 126 (pairs files.now) }
-    ensures text { OnOk result (out.new.items ≡ out.old.items ++ back (pairs settings.now) (pairs files.now)) }
+    ensures text { OnOk result (out.new.items ≡ out.old.items ++ text_behind_elements (pairs settings.now) (pairs files.now)) }
     ensures settings { OnOk result (IsCompact 127 (object_text (pairs settings.now))) }
     ensures files { OnOk result (IsCompact 127 (object_text (pairs files.now))) }
 {

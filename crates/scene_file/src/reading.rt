@@ -6,7 +6,7 @@ ghost use Rattle.scene_json.specs.Compact.{Member as Pair};
 ghost use Rattle.scene_json.specs.Members.{pairs};
 ghost use Rattle.elem_read.specs.Elements.{AreRead, IsFirstFaulty};
 ghost use Rattle.elem_read.specs.declared.fault.ElemFault.{ElemFault};
-ghost use Rattle.scene_file.specs.Reading.{given, loaded, HasItems, HasMembers, IsSceneOf, IsSceneFault, IsSceneAt, IsFaultAt};
+ghost use Rattle.scene_file.specs.Reading.{value_unless_null, loaded, HasItems, HasMembers, IsSceneOf, IsSceneFault, IsSceneAt, IsSceneFaultAt};
 ghost use Rattle.scene_file.specs.declared.scene.Scene.{Scene};
 ghost use Rattle.scene_file.specs.declared.fault.SceneFault.{SceneFault};
 
@@ -30,7 +30,7 @@ pub fn read_scene(
     requires { at ≤ length bytes.now }
     ensures within { IfOk result (λ found. (at < found.1) × (found.1 ≤ length bytes.now)) }
     ensures scene { IfOk result (λ found. IsSceneAt (drop at bytes.now) found.0 (drop found.1 bytes.now)) }
-    ensures fault { (fault : SceneFault) → result ≡ Err (Stop.Fault fault) → IsFaultAt bytes.now at fault }
+    ensures fault { (fault : SceneFault) → result ≡ Err (Stop.Fault fault) → IsSceneFaultAt bytes.now at fault }
 {
     let (value, end) = match scan(alloc, bytes, at) {
         Ok(found) => found,
@@ -70,7 +70,7 @@ pub fn scene_of(alloc: Global, value: &Raw) -> Result<Scene, Stop<SceneFault>>
 
 /// The value of the first member with this name; null counts as missing.
 fn given<'a>(members: &'a List<Member>, name: &str) -> Option<&'a Raw>
-    ensures { option_copied result ≡ given name.now (pairs members.now) }
+    ensures { option_copied result ≡ value_unless_null name.now (pairs members.now) }
 {
     match value_named(members, name) {
         Some(value) if !is_null(value) => Some(value),
@@ -85,8 +85,8 @@ fn items_given(
     name: &str,
 ) -> Result<Option<List<Raw>>, AllocError>
     ensures { IfOk result (λ found. MatchOption found
-        ((values : Items (Items ℕ)) → HasItems (given name.now (pairs members.now)) values → ⊥)
-        (HasItems (given name.now (pairs members.now)))) }
+        ((values : Items (Items ℕ)) → HasItems (value_unless_null name.now (pairs members.now)) values → ⊥)
+        (HasItems (value_unless_null name.now (pairs members.now)))) }
 {
     match given(members, name) {
         Some(value) => shaped(items(alloc, value)),
@@ -101,8 +101,8 @@ fn members_given(
     name: &str,
 ) -> Result<Option<List<Member>>, AllocError>
     ensures { IfOk result (λ found. MatchOption found
-        ((others : Items Pair) → HasMembers (given name.now (pairs from.now)) others → ⊥)
-        (λ some. HasMembers (given name.now (pairs from.now)) (pairs some))) }
+        ((others : Items Pair) → HasMembers (value_unless_null name.now (pairs from.now)) others → ⊥)
+        (λ some. HasMembers (value_unless_null name.now (pairs from.now)) (pairs some))) }
 {
     match given(from, name) {
         Some(value) => shaped(members(alloc, value)),

@@ -3,7 +3,7 @@ use Rattle.std.proofs.Common.{◌≡◌, ℕ, List, [], ◌∷◌, ◌++◌, Boo
 use Rattle.std.proofs.lemmas.Bool.{cases_Bool, false_from_ne_true, false≢true, or_parts}
 use Rattle.std.proofs.lemmas.Slice.Eq.{bytes_eq-Decides}
 use Rattle.std.specs.List.{AllByRecursion, IsDistinct, list_any}
-use Rattle.scene_json.specs.Compact.{Member, is_other, last_value, collapsed}
+use Rattle.scene_json.specs.Compact.{Member, has_other_name, last_value, collapsed}
 
 -- equal names are told by `bytes_eq`
 pub bytes_eq-true : (a b : List ℕ) → bytes_eq a b ≡ true → a ≡ b
@@ -50,22 +50,22 @@ last_value-All P name value (m ∷ ms) here h = elim (cases_Bool (bytes_eq name 
 
 pub collapsed-names : (P : List ℕ → Type 0) (ms : List Member) → AllByRecursion (λ m. P m.0) ms → AllByRecursion (λ m. P m.0) (collapsed ms)
 collapsed-names P [] h = tt
-collapsed-names P (m ∷ ms) h = (h.0, filter-All (λ m. P m.0) (is_other m.0) (collapsed ms) (collapsed-names P ms h.1))
+collapsed-names P (m ∷ ms) h = (h.0, filter-All (λ m. P m.0) (has_other_name m.0) (collapsed ms) (collapsed-names P ms h.1))
 
 pub collapsed-values : (P : List ℕ → Type 0) (ms : List Member) → AllByRecursion (λ m. P m.1) ms → AllByRecursion (λ m. P m.1) (collapsed ms)
 collapsed-values P [] h = tt
 collapsed-values P (m ∷ ms) h =
-    (last_value-All P m.0 m.1 ms h.0 h.1, filter-All (λ m. P m.1) (is_other m.0) (collapsed ms) (collapsed-values P ms h.1))
+    (last_value-All P m.0 m.1 ms h.0 h.1, filter-All (λ m. P m.1) (has_other_name m.0) (collapsed ms) (collapsed-values P ms h.1))
 
 -- collapsed names are distinct
-filter-IsAbsent-other : (name other : List ℕ) (ms : List Member) → IsAbsent name ms → IsAbsent name (filter (is_other other) ms)
+filter-IsAbsent-other : (name other : List ℕ) (ms : List Member) → IsAbsent name ms → IsAbsent name (filter (has_other_name other) ms)
 filter-IsAbsent-other name other [] h = tt
 filter-IsAbsent-other name other (m ∷ ms) h = elim (cases_Bool (bytes_eq other m.0)) [
   | inl e ↦ rw e (filter-IsAbsent-other name other ms h.1)
   | inr e ↦ rw e (h.0, filter-IsAbsent-other name other ms h.1)
 ]
 
-filter-distinct : (name : List ℕ) (ms : List Member) → IsDistinct bytes_eq (names_of ms) → IsDistinct bytes_eq (names_of (filter (is_other name) ms))
+filter-distinct : (name : List ℕ) (ms : List Member) → IsDistinct bytes_eq (names_of ms) → IsDistinct bytes_eq (names_of (filter (has_other_name name) ms))
 unfolding IsDistinct
 filter-distinct name [] h = tt
 filter-distinct name (m ∷ ms) h = elim (cases_Bool (bytes_eq name m.0)) [
@@ -73,7 +73,7 @@ filter-distinct name (m ∷ ms) h = elim (cases_Bool (bytes_eq name m.0)) [
   | inr e ↦ rw e (filter-IsAbsent-other m.0 name ms h.0, filter-distinct name ms h.1)
 ]
 
-filter-IsAbsent : (name : List ℕ) (ms : List Member) → IsAbsent name (filter (is_other name) ms)
+filter-IsAbsent : (name : List ℕ) (ms : List Member) → IsAbsent name (filter (has_other_name name) ms)
 filter-IsAbsent name [] = tt
 filter-IsAbsent name (m ∷ ms) = elim (cases_Bool (bytes_eq name m.0)) [
   | inl e ↦ rw e (filter-IsAbsent name ms)
@@ -86,7 +86,7 @@ collapsed-distinct [] = tt
 collapsed-distinct (m ∷ ms) = (filter-IsAbsent m.0 (collapsed ms), filter-distinct m.0 (collapsed ms) (collapsed-distinct ms))
 
 -- distinct names are left as they are
-filter-same : (name : List ℕ) (ms : List Member) → IsAbsent name ms → filter (is_other name) ms ≡ ms
+filter-same : (name : List ℕ) (ms : List Member) → IsAbsent name ms → filter (has_other_name name) ms ≡ ms
 filter-same name [] h = refl
 filter-same name (m ∷ ms) h = rw h.0 (ap (λ rest. m ∷ rest) (filter-same name ms h.1))
 
@@ -113,7 +113,7 @@ last_value-push name value (m ∷ ms) new = elim (cases_Bool (bytes_eq name m.0)
   | inr e ↦ rw e (last_value-push name value ms new)
 ]
 
-filter-insert_entry-same : (name value : List ℕ) (ms : List Member) → filter (is_other name) (insert_entry ms name value) ≡ filter (is_other name) ms
+filter-insert_entry-same : (name value : List ℕ) (ms : List Member) → filter (has_other_name name) (insert_entry ms name value) ≡ filter (has_other_name name) ms
 filter-insert_entry-same name value [] = rw (bytes_eq-same name) refl
 filter-insert_entry-same name value (m ∷ ms) = elim (cases_Bool (bytes_eq name m.0)) [
   | inl e ↦ rw (e, e) refl
@@ -121,7 +121,7 @@ filter-insert_entry-same name value (m ∷ ms) = elim (cases_Bool (bytes_eq name
 ]
 
 filter-insert_entry-other : (name value other : List ℕ) (ms : List Member) → bytes_eq other name ≡ false →
-    filter (is_other other) (insert_entry ms name value) ≡ insert_entry (filter (is_other other) ms) name value
+    filter (has_other_name other) (insert_entry ms name value) ≡ insert_entry (filter (has_other_name other) ms) name value
 filter-insert_entry-other name value other [] apart = rw apart refl
 filter-insert_entry-other name value other (m ∷ ms) apart = elim (cases_Bool (bytes_eq name m.0)) [
   | inl e ↦
@@ -140,7 +140,7 @@ collapsed-push (m ∷ ms) name value = elim (cases_Bool (bytes_eq m.0 name)) [
   | inl e ↦
       let same : m.0 ≡ name = bytes_eq-true m.0 name e in
       let flipped : bytes_eq name m.0 ≡ true = rw same (bytes_eq-same name) in
-      let kept : filter (is_other m.0) (insert_entry (collapsed ms) name value) ≡ filter (is_other m.0) (collapsed ms) =
+      let kept : filter (has_other_name m.0) (insert_entry (collapsed ms) name value) ≡ filter (has_other_name m.0) (collapsed ms) =
       rw same (filter-insert_entry-same name value (collapsed ms)) in
       rw (last_value-push m.0 m.1 ms (name, value), e, flipped, collapsed-push ms name value, kept) refl
   | inr e ↦

@@ -4,8 +4,8 @@ use Rattle.std.specs.Prelude.{slice_get}
 use Rattle.std.specs.Char.{IsScalar, encode_utf8}
 use Rattle.std.proofs.lemmas.Bool.{cases_order, false_from_ne_true}
 use Rattle.std.proofs.lemmas.List.{drop-drop}
-use Rattle.scene_json.specs.Value.{Begins, IsUnfinished, IsTooDeep, IsBrokenOff, IsStray, IsBadUtf8}
-use Rattle.scene_json.specs.Faults.{IsFaultOf}
+use Rattle.scene_json.specs.Value.{Begins, IsUnfinished, IsTooDeepBracket, IsBrokenOff, IsStray, IsBadUtf8}
+use Rattle.scene_json.specs.Faults.{IsJsonFault}
 use Rattle.scene_json.specs.declared.fault.JsonFault.{JsonFault}
 use Rattle.scene_json.specs.declared.fault.JsonFault.TheVariants.{Syntax, Depth, Utf8}
 use Rattle.scene_json.specs.declared.sequence.Tail.{Tail}
@@ -74,7 +74,7 @@ sequence_refuses limit b (Quoted r (Sequence size tail)) st small h =
 sequence_refuses limit b _ st small h = absurd h
 
 module _ (bytes : List ℕ) where
-  deep_not_broken : (k n : ℕ) → IsTooDeep bytes n → IsBrokenOff bytes k n → ⊥
+  deep_not_broken : (k n : ℕ) → IsTooDeepBracket bytes n → IsBrokenOff bytes k n → ⊥
   deep_not_broken k n deep broken = elim deep.bracket [ inl got ↦ by 91 (lit< tt) got | inr got ↦ by 123 (lit< tt) got ]
     where
       by : (b : ℕ) → b < 128 → slice_get bytes n ≡ Some b → ⊥
@@ -86,7 +86,7 @@ module _ (bytes : List ℕ) where
           sym (run-append 129 start (take n bytes) (b ∷ []) ∙ ap (λ o. run 129 o (b ∷ [])) front.reached ∙ sequence_refuses 129 b front.mode front.brackets small inside) ∙ whole.reached in
           cc
 
-  deep_not_stray : (n : ℕ) → IsTooDeep bytes n → IsStray bytes n → ⊥
+  deep_not_stray : (n : ℕ) → IsTooDeepBracket bytes n → IsStray bytes n → ⊥
   deep_not_stray n deep stray = elim deep.bracket [ inl got ↦ by 91 refl got | inr got ↦ by 123 refl got ]
     where
       by : (b : ℕ) → is_stray b ≡ false → slice_get bytes n ≡ Some b → ⊥
@@ -94,7 +94,7 @@ module _ (bytes : List ℕ) where
           let same : stray.byte ≡ b = let e : Some stray.byte ≡ Some b = sym stray.read ∙ got in cc in
           stray_some b low (subst (λ x. (c : ℕ) (more : List ℕ) → IsScalar c → encode_utf8 c ≡ x ∷ more → ⊥) same stray.begins_none)
 
-  deep_not_utf8 : (n m : ℕ) → IsTooDeep bytes n → IsBadUtf8 bytes m → ⊥
+  deep_not_utf8 : (n m : ℕ) → IsTooDeepBracket bytes n → IsBadUtf8 bytes m → ⊥
   deep_not_utf8 n m deep (inl (i, broken)) = deep_not_broken m n deep (subst (IsBrokenOff bytes m) (longest_one bytes n i deep.longest broken.longest) broken)
   deep_not_utf8 n m deep (inr stray) = deep_not_stray n deep (subst (IsStray bytes) (longest_one bytes n m deep.longest stray.longest) stray)
 
@@ -112,11 +112,11 @@ module _ (bytes : List ℕ) where
   utf8_one m k (inr a) (inl (i, b)) = absurd (broken_not_stray k i m b a)
   utf8_one m k (inr a) (inr b) = longest_one bytes k m b.longest a.longest
 
-pub fault-once : (bytes : List ℕ) (at : ℕ) (fault other : JsonFault) → IsFaultOf bytes at fault → IsFaultOf bytes at other → fault ≡ other
+pub fault-once : (bytes : List ℕ) (at : ℕ) (fault other : JsonFault) → IsJsonFault bytes at fault → IsJsonFault bytes at other → fault ≡ other
 fault-once bytes at (Syntax p) (Syntax q) (n, e, a) (i, f, b) = ap Syntax (e ∙ ap (λ x. at + x) (longest_one (drop at bytes) i n b.longest a.longest) ∙ sym f)
-fault-once bytes at (Syntax p) (Depth q) (n, e, a) (i, f, b) = absurd (a.not_deep (subst (IsTooDeep (drop at bytes)) (longest_one (drop at bytes) n i a.longest b.longest) b))
+fault-once bytes at (Syntax p) (Depth q) (n, e, a) (i, f, b) = absurd (a.not_deep (subst (IsTooDeepBracket (drop at bytes)) (longest_one (drop at bytes) n i a.longest b.longest) b))
 fault-once bytes at (Syntax p) (Utf8 q) (n, e, a) (i, f, b) = absurd (a.not_utf8 i b)
-fault-once bytes at (Depth p) (Syntax q) (n, e, a) (i, f, b) = absurd (b.not_deep (subst (IsTooDeep (drop at bytes)) (longest_one (drop at bytes) i n b.longest a.longest) a))
+fault-once bytes at (Depth p) (Syntax q) (n, e, a) (i, f, b) = absurd (b.not_deep (subst (IsTooDeepBracket (drop at bytes)) (longest_one (drop at bytes) i n b.longest a.longest) a))
 fault-once bytes at (Depth p) (Depth q) (n, e, a) (i, f, b) = ap Depth (e ∙ ap (λ x. at + x) (longest_one (drop at bytes) i n b.longest a.longest) ∙ sym f)
 fault-once bytes at (Depth p) (Utf8 q) (n, e, a) (i, f, b) = absurd (deep_not_utf8 (drop at bytes) n i a b)
 fault-once bytes at (Utf8 p) (Syntax q) (n, e, a) (i, f, b) = absurd (b.not_utf8 n a)

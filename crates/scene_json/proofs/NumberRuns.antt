@@ -3,7 +3,7 @@ use Rattle.std.proofs.Common.{◌≡◌, ◌≢◌, ◌⊎◌, ◌==◌, ◌||�
 use Rattle.std.specs.List.{list_all}
 use Rattle.std.proofs.lemmas.Bool.{cases_Bool, and_parts, and_from, or_cases, eqb-true, eqb-false, false≢true}
 use Rattle.scene_json.specs.Characters.{is_digit}
-use Rattle.scene_json.specs.Tree.{AreDigits, IsSign, IsWhole, IsFraction, IsExponent, IsNumber}
+use Rattle.scene_json.specs.Tree.{AreDigits, IsSign, IsIntegerPart, IsFraction, IsExponent, IsNumber}
 use Rattle.scene_json.specs.Value.{extends_number}
 use Rattle.scene_json.specs.declared.number.Part.{Part}
 use Rattle.scene_json.specs.declared.number.Part.TheVariants.{Minus, Zero, Whole, Dot, Fraction, Letter, Sign, Exponent}
@@ -72,7 +72,7 @@ abbrev pub IsRun : (ℕ → Option Part) → List ℕ → Type 0
 IsRun begins [] = ⊥
 IsRun begins (b ∷ s) = on_part (ends s) (begins b) ≡ true
 
-counted_ends : (whole fraction exponent : List ℕ) → IsWhole whole → IsFraction fraction → IsExponent exponent → IsRun whole_begun (whole ++ (fraction ++ exponent))
+counted_ends : (whole fraction exponent : List ℕ) → IsIntegerPart whole → IsFraction fraction → IsExponent exponent → IsRun whole_begun (whole ++ (fraction ++ exponent))
 counted_ends whole fraction exponent (inl zero) parted scaled = subst (λ w. IsRun whole_begun (w ++ (fraction ++ exponent))) (sym zero) (point_ends Zero refl refl refl refl fraction exponent parted scaled)
 counted_ends whole fraction exponent (inr (b, s, e, other, all)) parted scaled =
     let p = parts b s (subst (λ d. list_all is_digit d ≡ true) e all) in

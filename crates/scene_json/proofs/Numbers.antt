@@ -6,14 +6,14 @@ use Rattle.std.proofs.lemmas.Bool.Decides.{nat_tests}
 use Rattle.std.proofs.lemmas.Fmt.{decimal_by_steps}
 use Rattle.std.specs.List.{list_all}
 use Rattle.scene_json.specs.Characters.{is_digit}
-use Rattle.scene_json.specs.Tree.{IsNumber, IsSign, IsWhole, IsFraction, IsExponent}
+use Rattle.scene_json.specs.Tree.{IsNumber, IsSign, IsIntegerPart, IsFraction, IsExponent}
 
 -- four parts spell a number, and a whole part alone does
-pub number : (sign whole fraction exponent : List ℕ) → IsSign sign → IsWhole whole → IsFraction fraction → IsExponent exponent → IsNumber (sign ++ (whole ++ (fraction ++ exponent)))
+pub number : (sign whole fraction exponent : List ℕ) → IsSign sign → IsIntegerPart whole → IsFraction fraction → IsExponent exponent → IsNumber (sign ++ (whole ++ (fraction ++ exponent)))
 number sign whole fraction exponent s w f e =
     record { sign = sign; whole = whole; fraction = fraction; exponent = exponent; spells = refl; signed = s; counted = w; parted = f; scaled = e }
 
-pub whole_number : (s : List ℕ) → IsWhole s → IsNumber s
+pub whole_number : (s : List ℕ) → IsIntegerPart s → IsNumber s
 whole_number s w = subst IsNumber (append-nil s) (number [] s [] [] (inl refl) w (inl refl) (inl refl))
 
 -- the digits of a number: `0` alone, or digits that don't begin with `0`

@@ -5,7 +5,7 @@ use Rattle.std.specs.List.{AllByRecursion}
 use Rattle.std.proofs.lemmas.List.{drop-drop, drop-take, get_or-drop, drop_all, take-append-drop, take-take}
 use Rattle.std.proofs.lemmas.Option.{slice_get-get_or, slice_get_past}
 use Rattle.scene_json.specs.Value.{Stands}
-use Rattle.scene_json.specs.Faults.{IsFirstFault, IsFaultOf}
+use Rattle.scene_json.specs.Faults.{IsFirstFault, IsJsonFault}
 use Rattle.scene_json.specs.declared.brackets.Bracket.{Bracket}
 use Rattle.scene_json.specs.declared.machine.Mode.{Mode}
 use Rattle.scene_json.specs.declared.machine.Move.TheVariants.{To}
@@ -59,7 +59,7 @@ module _ (bytes : List ℕ) (at i : ℕ) (low : at ≤ i) where
         let place : at + (i - at) ≡ i = omega arith in
         record {
           faulty = refused_faulty (drop at bytes) (i - at) m st is (get_or bytes i 0) (got high) e;
-          first = subst (λ k. IsFaultOf bytes at (fault_of m (top st) (Some (get_or bytes i 0)) k)) place
+          first = subst (λ k. IsJsonFault bytes at (fault_of m (top st) (Some (get_or bytes i 0)) k)) place
               (told bytes at (i - at) (omega (arith, length-drop at bytes)) m st is (λ b g. subst (λ x. step 128 m st x ≡ refused) (same b g) e) (Some (get_or bytes i 0)) (got high));
         }
       where
@@ -88,6 +88,6 @@ module _ (bytes : List ℕ) (at i : ℕ) (low : at ≤ i) where
           let place : at + (i - at) ≡ length bytes = omega arith in
           record {
             faulty = undone_faulty (drop at bytes) (i - at) m st is all undone;
-            first = subst (λ k. IsFaultOf bytes at (fault_of m (top st) None k)) place
+            first = subst (λ k. IsJsonFault bytes at (fault_of m (top st) None k)) place
                 (told bytes at (i - at) (omega (arith, length-drop at bytes)) m st is (λ b g. let s : None ≡ Some b = sym none ∙ g in cc) None none);
           }

@@ -7,8 +7,8 @@ use Rattle.std.proofs.lemmas.Bool.{cases_lt, cases_order, false≢true, leb-true
 use Rattle.std.proofs.lemmas.Str.{encode_ascii}
 use Rattle.std.proofs.lemmas.Option.{slice_get-get_or}
 use Rattle.std.proofs.lemmas.List.{take-take, drop_at, length-take-le}
-use Rattle.scene_json.specs.Value.{Begins, IsLongest, IsInString, IsUnfinished, IsTooDeep, IsBrokenOff, IsStray, IsBadSyntax}
-use Rattle.scene_json.specs.Faults.{IsFaultOf}
+use Rattle.scene_json.specs.Value.{Begins, IsLongest, IsInString, IsUnfinished, IsTooDeepBracket, IsBrokenOff, IsStray, IsBadSyntax}
+use Rattle.scene_json.specs.Faults.{IsJsonFault}
 use Rattle.scene_json.specs.declared.fault.JsonFault.{JsonFault}
 use Rattle.scene_json.specs.declared.fault.JsonFault.TheVariants.{Syntax, Depth, Utf8}
 use Rattle.scene_json.specs.declared.sequence.Tail.{Tail}
@@ -145,7 +145,7 @@ module _ (bytes : List ℕ) (n : ℕ) (within : n ≤ length bytes) where
     }
 
     -- a bracket that is one too many
-    deep_opens_here : IsTooDeep bytes n → (b : ℕ) × (slice_get bytes n ≡ Some b) × (opens (moved m (top st) b) ≡ true)
+    deep_opens_here : IsTooDeepBracket bytes n → (b : ℕ) × (slice_get bytes n ≡ Some b) × (opens (moved m (top st) b) ≡ true)
     deep_opens_here d = elim d.bracket [ inl g ↦ by 91 g | inr g ↦ by 123 g ]
       where
         by : (b : ℕ) → slice_get bytes n ≡ Some b → (b : ℕ) × (slice_get bytes n ≡ Some b) × (opens (moved m (top st) b) ≡ true)
@@ -168,7 +168,7 @@ module _ (bytes : List ℕ) (n : ℕ) (within : n ≤ length bytes) where
     keeps : Keeps (take n bytes) m
     keeps = subst (OnState (Keeps (take n bytes))) is (run_keeps 128 [] (take n bytes) start tt)
 
-    too_deep : (b : ℕ) → slice_get bytes n ≡ Some b → opens (moved m (top st) b) ≡ true → IsTooDeep bytes n
+    too_deep : (b : ℕ) → slice_get bytes n ≡ Some b → opens (moved m (top st) b) ≡ true → IsTooDeepBracket bytes n
     too_deep b g o =
         let fits : length st ≤ 128 = subst (λ x. IsWithin 128 x) is (run_within 128 start (take n bytes) (omega arith)) in
         let d = opens_deeper 128 st b (moved m (top st) b) fits o in
@@ -185,7 +185,7 @@ module _ (bytes : List ℕ) (n : ℕ) (within : n ≤ length bytes) where
         let same : i ≡ n = longest_one bytes n i longest broken.longest in
         none (unfinished_sequence 128 (take n bytes) k m st (subst (λ x. IsUnfinished (drop k (take x bytes))) same broken.unfinished) is)
 
-    syntax : (IsTooDeep bytes n → ⊥) → (IsSequence m → ⊥) → (IsStray bytes n → ⊥) → IsBadSyntax bytes n
+    syntax : (IsTooDeepBracket bytes n → ⊥) → (IsSequence m → ⊥) → (IsStray bytes n → ⊥) → IsBadSyntax bytes n
     syntax deep sequence stray = record {
       longest = longest;
       not_deep = deep;
@@ -232,18 +232,18 @@ module _ (every : List ℕ) (at n : ℕ) (within : n ≤ length (drop at every))
   bytes = drop at every
 
   abbrev Told : JsonFault → Type 0
-  Told fault = IsFaultOf every at fault
+  Told fault = IsJsonFault every at fault
 
   told_syntax : IsBadSyntax (drop at every) n → Told (Syntax (at + n))
   told_syntax bad = (n, refl, bad)
 
-  shallow : (b : ℕ) → slice_get (drop at every) n ≡ Some b → opens (moved m (top st) b) ≡ false → IsTooDeep (drop at every) n → ⊥
+  shallow : (b : ℕ) → slice_get (drop at every) n ≡ Some b → opens (moved m (top st) b) ≡ false → IsTooDeepBracket (drop at every) n → ⊥
   shallow b g shut d =
       let o = deep_opens_here (drop at every) n within m st is stops d in
       let same : b ≡ o.0 = let e : Some b ≡ Some o.0 = sym g ∙ o.1 in cc in
       false≢true (sym shut ∙ ap (λ x. opens (moved m (top st) x)) same ∙ o.2)
 
-  at_end : slice_get (drop at every) n ≡ None → IsTooDeep (drop at every) n → ⊥
+  at_end : slice_get (drop at every) n ≡ None → IsTooDeepBracket (drop at every) n → ⊥
   at_end none d =
       let o = deep_opens_here (drop at every) n within m st is stops d in
       let e : None ≡ Some o.0 = sym none ∙ o.1 in
@@ -272,7 +272,7 @@ module _ (every : List ℕ) (at n : ℕ) (within : n ≤ length (drop at every))
         }),
       )
 
-  told_stray : IsInside place → (IsSequence (Quoted r place) → ⊥) → (next : Option ℕ) → slice_get (drop at every) n ≡ next → IsFaultOf every at (stray_fault next (at + n))
+  told_stray : IsInside place → (IsSequence (Quoted r place) → ⊥) → (next : Option ℕ) → slice_get (drop at every) n ≡ next → IsJsonFault every at (stray_fault next (at + n))
   told_stray in_string none None g = (
     n,
     refl,
@@ -281,7 +281,7 @@ module _ (every : List ℕ) (at n : ℕ) (within : n ≤ length (drop at every))
   )
   told_stray in_string none (Some b) g = by (is_stray b) refl
     where
-      by : (stray : Bool) → is_stray b ≡ stray → IsFaultOf every at (cond stray (Utf8 (at + n)) (Syntax (at + n)))
+      by : (stray : Bool) → is_stray b ≡ stray → IsJsonFault every at (cond stray (Utf8 (at + n)) (Syntax (at + n)))
       by true e = (
         n,
         refl,
@@ -312,7 +312,7 @@ unfinished (first ∷ more) tail some completes =
 
 told_sequence : (every : List ℕ) (at n : ℕ) (within : n ≤ length (drop at every)) (r : Role) (size : ℕ) (tail : Tail) (st : List Bracket)
     → (is : run 128 start (take n (drop at every)) ≡ state (Quoted r (Sequence size tail)) st) → Stops (drop at every) n within (Quoted r (Sequence size tail)) st
-    → IsFaultOf every at (Utf8 ((at + n) - (size - tail_length tail)))
+    → IsJsonFault every at (Utf8 ((at + n) - (size - tail_length tail)))
 told_sequence every at n within r size tail st is stops =
     let h : HasCome (take n (drop at every)) size tail = keeps (drop at every) n within (Quoted r (Sequence size tail)) st is stops in
     let long : length h.before + length h.come ≡ n = sym (length-append h.before h.come) ∙ ap length (sym h.parts) ∙ length-take-le n (drop at every) within in
@@ -332,7 +332,7 @@ told_sequence every at n within r size tail st is stops =
 -- the fault of the code is the first one
 pub told : (every : List ℕ) (at n : ℕ) (within : n ≤ length (drop at every)) (m : Mode) (st : List Bracket)
     → (is : run 128 start (take n (drop at every)) ≡ state m st) → Stops (drop at every) n within m st → (next : Option ℕ) → slice_get (drop at every) n ≡ next
-    → IsFaultOf every at (fault_of m (top st) next (at + n))
+    → IsJsonFault every at (fault_of m (top st) next (at + n))
 told every at n within (Quoted r (Sequence size tail)) st is stops next g = told_sequence every at n within r size tail st is stops
 told every at n within (Quoted r place) st is stops next g = told_stray every at n within r place st is stops tt (λ h. h) next g
 told every at n within m st is stops next g = told_bracket every at n within m st is stops tt (λ h. h) next g

@@ -5,7 +5,7 @@ use Rattle.std.specs.Str.{IsUtf8}
 use Rattle.std.proofs.lemmas.Bool.{cases_Bool, false≢true}
 use Rattle.scene_json.specs.Characters.{quote}
 use Rattle.scene_json.specs.Tree.{piece_spelling, string_spelling}
-use Rattle.scene_json.specs.Compact.{Member, is_other, last_value, collapsed, content}
+use Rattle.scene_json.specs.Compact.{Member, has_other_name, last_value, collapsed, content}
 use Rattle.scene_json.specs.Places.{quoted}
 use Rattle.scene_json.specs.Walk.{Quoted}
 use Rattle.scene_json.proofs.Collapsed.{bytes_eq-true, bytes_eq-same, bytes_eq-apart, collapsed-names}
@@ -33,7 +33,7 @@ last_value-quoted name value (m ∷ ms) u h = elim (cases_Bool (bytes_eq name m.
   | inr e ↦ rw (bytes_eq-quote name m.0 u h.0, e) (last_value-quoted name value ms u h.1)
 ]
 
-filter-quoted : (name : List ℕ) (ms : List Member) → IsUtf8 name → AllByRecursion (λ m. IsUtf8 m.0) ms → filter (is_other (quote name)) (map quoted ms) ≡ map quoted (filter (is_other name) ms)
+filter-quoted : (name : List ℕ) (ms : List Member) → IsUtf8 name → AllByRecursion (λ m. IsUtf8 m.0) ms → filter (has_other_name (quote name)) (map quoted ms) ≡ map quoted (filter (has_other_name name) ms)
 filter-quoted name [] u h = refl
 filter-quoted name (m ∷ ms) u h = elim (cases_Bool (bytes_eq name m.0)) [
   | inl e ↦ rw (bytes_eq-quote name m.0 u h.0, e) (filter-quoted name ms u h.1)

@@ -5,7 +5,7 @@ use Rattle.std.proofs.lemmas.Bool.{cases_Bool}
 use Rattle.std.proofs.lemmas.Map.Views.{any-filter_same}
 use Rattle.scene_json.specs.Characters.{quote}
 use Rattle.scene_json.specs.Tree.{opening, closing, array, object, Tree, scalar, text, empty, filled, Values, last, next}
-use Rattle.scene_json.specs.Compact.{Member, label_name, compact, members, array_text, object_text, last_value, is_other, collapsed}
+use Rattle.scene_json.specs.Compact.{Member, label_name, compact, members, array_text, object_text, last_value, has_other_name, collapsed}
 use Rattle.scene_json.specs.Parts.{names_of}
 use Rattle.scene_json.specs.Value.{Value, Stands}
 use Rattle.scene_json.specs.Alike.{AreAlike, AreItemsAlike, AreLastAlike, value_names, first_names, last_named}
@@ -17,7 +17,7 @@ abbrev member_at : List Member → List ℕ → Member
 member_at ms name = (name, last_value name [] ms)
 
 others_at : (name value : List ℕ) (ms : List Member) (names : List (List ℕ)) →
-    filter (is_other name) (map (member_at ms) names) ≡ map (member_at ((name, value) ∷ ms)) (filter (λ (other : List ℕ). not (bytes_eq name other)) names)
+    filter (has_other_name name) (map (member_at ms) names) ≡ map (member_at ((name, value) ∷ ms)) (filter (λ (other : List ℕ). not (bytes_eq name other)) names)
 others_at name value ms [] = refl
 others_at name value ms (n ∷ ns) = elim (cases_Bool (bytes_eq name n)) [
   | inl e ↦ rw e (others_at name value ms ns)

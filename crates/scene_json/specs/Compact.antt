@@ -44,8 +44,8 @@ label_name (named before name between after) = content name
 abbrev pub Member : Type 0
 Member = List ℕ × List ℕ
 
-abbrev pub is_other : List ℕ → Member → Bool
-is_other name member = not (bytes_eq name member.0)
+abbrev pub has_other_name : List ℕ → Member → Bool
+has_other_name name member = not (bytes_eq name member.0)
 
 -- the value of the last member with this name, and the given one where there is none
 abbrev pub last_value : List ℕ → List ℕ → List Member → List ℕ
@@ -57,7 +57,7 @@ last_value name value (member ∷ members) =
 abbrev pub collapsed : List Member → List Member
 collapsed [] = []
 collapsed (member ∷ members) =
-    (member.0, last_value member.0 member.1 members) ∷ filter (is_other member.0) (collapsed members)
+    (member.0, last_value member.0 member.1 members) ∷ filter (has_other_name member.0) (collapsed members)
 
 abbrev pub member_text : Member → List ℕ
 member_text member = quote member.0 ++ 58 ∷ member.1

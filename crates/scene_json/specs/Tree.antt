@@ -12,8 +12,8 @@ IsSign s = (s ≡ []) ⊎ (s ≡ 45 ∷ [])
 abbrev pub AreDigits : List ℕ → Type 0
 AreDigits s = (first : ℕ) × (more : List ℕ) × (s ≡ first ∷ more) × (list_all is_digit s ≡ true)
 
-abbrev pub IsWhole : List ℕ → Type 0
-IsWhole s = (s ≡ 48 ∷ []) ⊎ ((first : ℕ) × (more : List ℕ) × (s ≡ first ∷ more) × (first ≢ 48) × (list_all is_digit s ≡ true))
+abbrev pub IsIntegerPart : List ℕ → Type 0
+IsIntegerPart s = (s ≡ 48 ∷ []) ⊎ ((first : ℕ) × (more : List ℕ) × (s ≡ first ∷ more) × (first ≢ 48) × (list_all is_digit s ≡ true))
 
 abbrev pub IsFraction : List ℕ → Type 0
 IsFraction s = (s ≡ []) ⊎ ((digits : List ℕ) × (s ≡ 46 ∷ digits) × AreDigits digits)
@@ -29,7 +29,7 @@ pub record IsNumber (s : List ℕ) : Type 0 where
   pub exponent : List ℕ
   pub spells : s ≡ sign ++ (whole ++ (fraction ++ exponent))
   pub signed : IsSign sign
-  pub counted : IsWhole whole
+  pub counted : IsIntegerPart whole
   pub parted : IsFraction fraction
   pub scaled : IsExponent exponent
 

@@ -65,7 +65,7 @@ abbrev pub IsFaulty : List ℕ → Type 0
 IsFaulty bytes = (text rest : List ℕ) → Stands bytes text rest → ⊥
 
 -- Here a bracket stands that would be the 129th open one and could stand but for the limit.
-pub record IsTooDeep (bytes : List ℕ) (n : ℕ) : Type 0 where
+pub record IsTooDeepBracket (bytes : List ℕ) (n : ℕ) : Type 0 where
   pub longest : IsLongest bytes n
   pub bracket : (slice_get bytes n ≡ Some 91) ⊎ (slice_get bytes n ≡ Some 123)
   pub deeper : Begins 129 (take (suc n) bytes)
@@ -90,5 +90,5 @@ IsBadUtf8 bytes m = ((n : ℕ) × IsBrokenOff bytes m n) ⊎ IsStray bytes m
 -- any other fault: at the first byte that can't go on with a value, or at the text's end
 pub record IsBadSyntax (bytes : List ℕ) (n : ℕ) : Type 0 where
   pub longest : IsLongest bytes n
-  pub not_deep : IsTooDeep bytes n → ⊥
+  pub not_deep : IsTooDeepBracket bytes n → ⊥
   pub not_utf8 : (m : ℕ) → IsBadUtf8 bytes m → ⊥

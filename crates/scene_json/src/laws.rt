@@ -10,7 +10,7 @@ ghost use Rattle.scene_json.specs.Named.{AreSameMembers, HaveRisingNames, value_
 ghost use Rattle.scene_json.specs.Parts.{AreMembers, names_of};
 ghost use Rattle.scene_json.specs.Tree.{Tree, spelling, IsGood, depth};
 ghost use Rattle.scene_json.specs.Value.{IsCompact, Value, Stands};
-ghost use Rattle.scene_json.specs.Faults.{IsFaultOf, IsFirstFault};
+ghost use Rattle.scene_json.specs.Faults.{IsJsonFault, IsFirstFault};
 ghost use Rattle.scene_json.specs.declared.fault.JsonFault.{JsonFault};
 
 /// At most one value stands at the front of a text: its compact text and what follows it are determined.
@@ -22,7 +22,7 @@ pub fn value_is_unique()
 /// A text has at most one first fault at an offset: its kind and its place are determined.
 pub fn first_fault_is_unique()
     ensures { (bytes : List ℕ) (at : ℕ) (fault other : JsonFault)
-        → IsFaultOf bytes at fault → IsFaultOf bytes at other → fault ≡ other }
+        → IsJsonFault bytes at fault → IsJsonFault bytes at other → fault ≡ other }
 {}
 
 /// A text that is one value is read whole, and its compact text is read as itself.

@@ -8,7 +8,7 @@ use Rattle.elem.specs.declared.kind.Role.{Role}
 use Rattle.elem.specs.declared.kind.Role.TheVariants as roles
 use Rattle.elem.specs.declared.parts.BoundRef.{BoundRef}
 use Rattle.elem.specs.declared.parts.Binding.{Binding}
-use Rattle.elem.specs.Drawn.{Drawn}
+use Rattle.elem.specs.ElementValue.{ElementValue}
 use Rattle.elem.specs.Texts.{kind_name}
 
 abbrev Decided : {A : Type 0} → A → A → Type 0
@@ -75,20 +75,20 @@ truths true false = inr (λ e. cc)
 truths false true = inr (λ e. cc)
 truths false false = inl refl
 
-abbrev is_other : Kind → Bool
-is_other (Other name) = true
-is_other Rectangle = false
-is_other Diamond = false
-is_other Ellipse = false
-is_other Arrow = false
-is_other Line = false
-is_other Freedraw = false
-is_other Text = false
-is_other Image = false
-is_other Frame = false
-is_other Magicframe = false
-is_other Iframe = false
-is_other Embeddable = false
+abbrev is_other_kind : Kind → Bool
+is_other_kind (Other name) = true
+is_other_kind Rectangle = false
+is_other_kind Diamond = false
+is_other_kind Ellipse = false
+is_other_kind Arrow = false
+is_other_kind Line = false
+is_other_kind Freedraw = false
+is_other_kind Text = false
+is_other_kind Image = false
+is_other_kind Frame = false
+is_other_kind Magicframe = false
+is_other_kind Iframe = false
+is_other_kind Embeddable = false
 
 abbrev kind_named : List ℕ → Kind
 kind_named name =
@@ -107,7 +107,7 @@ kind_named name =
 abbrev kind_back : List ℕ × Bool → Kind
 kind_back p = if p.1 then Other p.0 else kind_named p.0
 
-kind_is : (kind : Kind) → kind_back (kind_name kind, is_other kind) ≡ kind
+kind_is : (kind : Kind) → kind_back (kind_name kind, is_other_kind kind) ≡ kind
 kind_is (Other name) = refl
 kind_is Rectangle = refl
 kind_is Diamond = refl
@@ -123,7 +123,7 @@ kind_is Iframe = refl
 kind_is Embeddable = refl
 
 kinds : (a b : Kind) → Decided a b
-kinds = retracted (λ kind. (kind_name kind, is_other kind)) kind_back kind_is (both bytes truths)
+kinds = retracted (λ kind. (kind_name kind, is_other_kind kind)) kind_back kind_is (both bytes truths)
 
 abbrev is_arrow_role : Role → Bool
 is_arrow_role roles.Arrow = true
@@ -159,13 +159,13 @@ Placed = Option (List ℕ) × (List (List ℕ) × (Option (List ℕ) × List Bou
 abbrev Linked : Type 0
 Linked = Option (List ℕ) × (Option Binding × (Option Binding × (Option (List ℕ) × List Member)))
 
-abbrev parts_of : Drawn → Stamped × (Placed × Linked)
+abbrev parts_of : ElementValue → Stamped × (Placed × Linked)
 parts_of e = (
   (e.id, (e.kind, (e.version, (e.nonce, (e.updated, e.deleted))))),
   ((e.index, (e.groups, (e.frame, e.bound))), (e.container, (e.start_binding, (e.end_binding, (e.file, e.rest))))),
 )
 
-abbrev drawn_back : Stamped × (Placed × Linked) → Drawn
+abbrev drawn_back : Stamped × (Placed × Linked) → ElementValue
 drawn_back p = record {
   id = p.0.0;
   kind = p.0.1.0;
@@ -184,7 +184,7 @@ drawn_back p = record {
   rest = p.1.1.1.1.1.1;
 }
 
-pub elements-decided : (a b : Drawn) → Decided a b
+pub elements-decided : (a b : ElementValue) → Decided a b
 elements-decided =
     retracted parts_of drawn_back (λ e. refl)
     (both (both bytes (both kinds (both numbers (both numbers (both numbers truths)))))

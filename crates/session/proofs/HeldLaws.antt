@@ -10,7 +10,7 @@ use Rattle.scene_json.proofs.Collapsed.{bytes_eq-true}
 use Rattle.frac_keys.specs.Keys.{bytes_less}
 use Rattle.elem.proofs.Sorting.{AllByRecursion-weaker, bytes_less-trans, bytes_less-turned}
 use Rattle.delta.proofs.Placing.{each-put}
-use Rattle.reconcile.specs.Ids.{is_held, AreRising, HasAdded, HasDropped}
+use Rattle.reconcile.specs.Ids.{is_held, AreStrictlySorted, HasAdded, HasDropped}
 use Rattle.reconcile.proofs.HeldIds.{held-unique}
 use Rattle.session.specs.Worlds.{with_id, without_id}
 
@@ -30,14 +30,14 @@ above-trans : (id other last : List ℕ) → IsAbove id other → IsAbove other 
 above-trans id other last h k = above id last (bytes_less-trans id other last (ap is_lt h) (ap is_lt k))
 
 -- ---- one more
-rising-more : (id : List ℕ) (ids : List (List ℕ)) → AreRising ids → AreRising (with_id id ids)
+rising-more : (id : List ℕ) (ids : List (List ℕ)) → AreStrictlySorted ids → AreStrictlySorted (with_id id ids)
 unfolding IsStrictlySortedBy
 rising-more id [] rise = (tt, tt)
 rising-more id (other ∷ ids) rise =
-    elim (bytes_less other id) as (λ b. bytes_less other id ≡ b → AreRising (if b then other ∷ with_id id ids else (if bytes_eq id other then id ∷ ids else id ∷ other ∷ ids))) [
+    elim (bytes_less other id) as (λ b. bytes_less other id ≡ b → AreStrictlySorted (if b then other ∷ with_id id ids else (if bytes_eq id other then id ∷ ids else id ∷ other ∷ ids))) [
       | true ↦ λ less. (each-put itself (IsAbove other) id ids (above other id less) rise.0, rising-more id ids rise.1)
       | false ↦ λ more.
-          elim (bytes_eq id other) as (λ b. bytes_eq id other ≡ b → AreRising (if b then id ∷ ids else id ∷ other ∷ ids)) [
+          elim (bytes_eq id other) as (λ b. bytes_eq id other ≡ b → AreStrictlySorted (if b then id ∷ ids else id ∷ other ∷ ids)) [
             | true ↦ λ same. (subst (λ k. AllByRecursion (IsAbove k) ids) (sym (bytes_eq-true id other same)) rise.0, rise.1)
             | false ↦ λ apart.
                 let below = above id other (bytes_less-turned id other apart more) in
@@ -67,7 +67,7 @@ held-more id (other ∷ ids) q =
           ] refl
     ]
 
-pub added-is : (old : List (List ℕ)) (id : List ℕ) (new : List (List ℕ)) → AreRising old → HasAdded old id new → new ≡ with_id id old
+pub added-is : (old : List (List ℕ)) (id : List ℕ) (new : List (List ℕ)) → AreStrictlySorted old → HasAdded old id new → new ≡ with_id id old
 added-is old id new rise added = held-unique new (with_id id old) added.ordered (rising-more id old rise) (λ q. added.each q ∙ sym (held-more id old q))
 
 -- ---- one fewer
@@ -76,7 +76,7 @@ held-fewer id ids q =
     any-filter_same (bytes_eq q) (λ other. not (bytes_eq other id)) (not (bytes_eq q id))
     (λ other same. ap (λ k. not (bytes_eq k id)) (sym (bytes_eq-true q other same))) ids
 
-pub dropped-is : (old : List (List ℕ)) (id : List ℕ) (new : List (List ℕ)) → AreRising old → HasDropped old id new → new ≡ without_id id old
+pub dropped-is : (old : List (List ℕ)) (id : List ℕ) (new : List (List ℕ)) → AreStrictlySorted old → HasDropped old id new → new ≡ without_id id old
 dropped-is old id new rise dropped =
     held-unique new (without_id id old) dropped.ordered (IsStrictlySortedBy-filter (slice_cmp nat_cmp) (λ other. not (bytes_eq other id)) old rise)
     (λ q. dropped.each q ∙ sym (held-fewer id old q))

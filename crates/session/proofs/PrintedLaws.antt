@@ -1,7 +1,7 @@
 -- The text of a report is that of its world; each session has one.
 use Rattle.std.proofs.Common.{◌≡◌, ◌≢◌, ◌⊎◌, inl, inr, ℕ, ◌+◌, List, [], ◌∷◌, ◌++◌, Option, Some, None, map, length, codes, decimal, refl, sym, ap, ap₂, ◌∙◌}
 use Rattle.scene_json.specs.Compact.{object_text, array_text}
-use Rattle.elem.specs.Drawn.{Drawn}
+use Rattle.elem.specs.ElementValue.{ElementValue}
 use Rattle.clash.specs.Firsts.{first_tied, HasClash, IsLikeFirst}
 use Rattle.scene_file.specs.Heads.{Heading}
 use Rattle.scene_file.specs.Scenes.{scene_text}
@@ -71,23 +71,23 @@ report-once session text other a b =
     a.told ∙ (ap (world_text session (last_world session)) (clashes-same [] (all_elements session (last_world session)) a.clashes b.clashes a.counted b.counted) ∙ sym b.told)
 
 -- ---- each list of elements has a number of clashes
-some-same : (a b : Drawn) → Some a ≡ Some b → a ≡ b
+some-same : (a b : ElementValue) → Some a ≡ Some b → a ≡ b
 some-same a b e = cc
 
-clash-decided : (before : List Drawn) (e : Drawn) → IsLikeFirst before e ⊎ HasClash before e
+clash-decided : (before : List ElementValue) (e : ElementValue) → IsLikeFirst before e ⊎ HasClash before e
 clash-decided before e = by (first_tied before e) refl
   where
-    by : (found : Option Drawn) → first_tied before e ≡ found → IsLikeFirst before e ⊎ HasClash before e
+    by : (found : Option ElementValue) → first_tied before e ≡ found → IsLikeFirst before e ⊎ HasClash before e
     by None is = inl (λ first found. absurd (none-some first (sym is ∙ found)))
       where
-        none-some : (first : Drawn) → None ≡ Some first → ⊥
+        none-some : (first : ElementValue) → None ≡ Some first → ⊥
         none-some first e = cc
     by (Some first) is = elim (elements-decided first e) [
       | inl same ↦ inl (λ other found. sym (some-same first other (sym is ∙ found)) ∙ same)
       | inr other ↦ inr (first, is, other)
     ]
 
-clashes-exist : (before elements : List Drawn) → (count : ℕ) × HaveClashes before elements count
+clashes-exist : (before elements : List ElementValue) → (count : ℕ) × HaveClashes before elements count
 clashes-exist before [] = (0, refl)
 clashes-exist before (e ∷ elements) =
     let more = clashes-exist (before ++ e ∷ []) elements in

@@ -4,7 +4,7 @@ use Rattle.std.proofs.lemmas.List.{length-map, length-reverse}
 use Rattle.std.proofs.lemmas.List.Sorted.{length_permutation}
 use Rattle.delta.specs.Delta.{Delta}
 use Rattle.delta.specs.Pairs.{Pair}
-use Rattle.elem.specs.Drawn.{Drawn}
+use Rattle.elem.specs.ElementValue.{ElementValue}
 use Rattle.elem_store.specs.Updates.{ids_of}
 use Rattle.history.specs.Pairs.{AreEntriesOf, StackStandsFor}
 
@@ -19,9 +19,9 @@ pub stack-long : (stack : List (List Delta)) (others : List (List Pair)) → Sta
 stack-long stack others stands = sym (length-reverse stack) ∙ entries-long (reverse stack) others stands
 
 -- as many elements are shown as there are live ones
-pub live-long : (live shown : List Drawn) → IsPermutation (ids_of live) (ids_of shown) → length shown ≡ length live
+pub live-long : (live shown : List ElementValue) → IsPermutation (ids_of live) (ids_of shown) → length shown ≡ length live
 live-long live shown moved =
-    sym (length-map shown (λ (e : Drawn). e.id)) ∙ length_permutation (ids_of live) (ids_of shown) moved ∙ length-map live (λ (e : Drawn). e.id)
+    sym (length-map shown (λ (e : ElementValue). e.id)) ∙ length_permutation (ids_of live) (ids_of shown) moved ∙ length-map live (λ (e : ElementValue). e.id)
 
 -- what holds of a result that is there
 pub ok-more : {A E : Type 0} (r : Result A E) (P Q : A → Type 0) → ((x : A) → P x → Q x) → IfOk r P → IfOk r Q

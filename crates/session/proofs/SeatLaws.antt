@@ -1,6 +1,6 @@
 -- What a replica holds and stores after each call, and what its seat then stands for.
 use Rattle.std.proofs.Common.{◌≡◌, ℕ, ◌+◌, List, [], ◌∷◌, ◌++◌, length, Option, Some, None, Result, Ok, Err, refl, sym, ap, ◌∙◌, subst, add-zero, length-append}
-use Rattle.elem.specs.Drawn.{Drawn}
+use Rattle.elem.specs.ElementValue.{ElementValue}
 use Rattle.delta.specs.Pairs.{Pair}
 use Rattle.view.specs.Shown.{live_elements, shown}
 use Rattle.effects.specs.Changed.{outcome}
@@ -8,14 +8,14 @@ use Rattle.effects.specs.declared.command.Capture.{Capture}
 use Rattle.effects.specs.declared.command.Capture.TheVariants.{Now, Later, Never}
 use Rattle.effects.specs.declared.command.Command.{Command}
 use Rattle.effects.specs.declared.command.Refusal.{Refusal}
-use Rattle.reconcile.specs.Ids.{AreRising, free_elements}
+use Rattle.reconcile.specs.Ids.{AreStrictlySorted, free_elements}
 use Rattle.history.specs.Pairs.{StackStandsFor}
 use Rattle.undoing.specs.Carrying.{taken_all}
 use Rattle.undoing.specs.Differing.{pending}
 use Rattle.undoing.specs.Steps.{Turn}
-use Rattle.replica.specs.Standing.{StandsFor, Kept}
+use Rattle.replica.specs.Standing.{ReplicaStandsFor, Kept}
 use Rattle.replica.specs.State.{State, noted, captured, stored_with, outcome_on, after_outcome, after_change, after_delivery, undo_on, after_undo, after_undo_of, redo_on, after_redo, after_redo_of}
-use Rattle.session.specs.declared.seat.Seat.{Seat as Held}
+use Rattle.session.specs.declared.seat.Seat.{Seat as KeptSeat}
 use Rattle.session.specs.declared.outcome.Outcome.{Outcome}
 use Rattle.session.specs.declared.outcome.Outcome.TheVariants.{Given, Refused}
 use Rattle.session.specs.Standing.{SeatStandsFor, IsActed}
@@ -36,13 +36,13 @@ noted-stored (pair ∷ pairs) s = refl
 pub captured-stored : (s : State) → (captured s).stored ≡ s.stored
 captured-stored s = noted-stored (pending s.snapshot s.stored) s
 
-pub outcome-held : (capture : Capture) (outcome : Result (List Drawn) Refusal) (s : State) → (after_outcome capture outcome s).held ≡ s.held
+pub outcome-held : (capture : Capture) (outcome : Result (List ElementValue) Refusal) (s : State) → (after_outcome capture outcome s).held ≡ s.held
 outcome-held Now (Ok given) s = captured-held (stored_with given s)
 outcome-held Later (Ok given) s = refl
 outcome-held Never (Ok given) s = refl
 outcome-held capture (Err refusal) s = refl
 
-pub outcome-stored : (capture : Capture) (outcome : Result (List Drawn) Refusal) (s : State) → (after_outcome capture outcome s).stored ≡ taken_all (given_of (of_command outcome)) s.stored
+pub outcome-stored : (capture : Capture) (outcome : Result (List ElementValue) Refusal) (s : State) → (after_outcome capture outcome s).stored ≡ taken_all (given_of (of_command outcome)) s.stored
 outcome-stored Now (Ok given) s = captured-stored (stored_with given s)
 outcome-stored Later (Ok given) s = refl
 outcome-stored Never (Ok given) s = refl
@@ -70,31 +70,31 @@ redo-stored (Some (Ok turn)) s = refl
 
 -- ---- a seat
 -- its replica comes to a state with the same held ids, and so many updates more are counted
-pub acted-stands : (act : Act) (old : Held) (s : Seat) (outcome : Outcome) (new : Held) → SeatStandsFor old s → StandsFor new.replica act.state → act.state.held ≡ s.state.held
+pub acted-stands : (act : Act) (old : KeptSeat) (s : Seat) (outcome : Outcome) (new : KeptSeat) → SeatStandsFor old s → ReplicaStandsFor new.replica act.state → act.state.held ≡ s.state.held
     → outcome ≡ act.outcome → new.taken ≡ old.taken + length (given_of outcome) → IsActed act s outcome new
 acted-stands act old s outcome new stands after held told counted = record {
   told = told;
   after = record {
     replica = after;
-    rising = subst AreRising (sym held) stands.rising;
+    rising = subst AreStrictlySorted (sym held) stands.rising;
     taken = counted ∙ (λ i. stands.taken i + length (given_of (told i))) ∙ sym (length-append s.taken (given_of act.outcome));
   };
 }
 
 -- a refusal leaves the replica as it was
-pub refused-stands : (act : Act) (old : Held) (s : Seat) (why : Option Refusal) (replica : Kept) → SeatStandsFor old s → replica ≡ old.replica → act.state ≡ s.state → Refused why ≡ act.outcome
+pub refused-stands : (act : Act) (old : KeptSeat) (s : Seat) (why : Option Refusal) (replica : Kept) → SeatStandsFor old s → replica ≡ old.replica → act.state ≡ s.state → Refused why ≡ act.outcome
     → IsActed act s (Refused why) (record { replica = replica; taken = old.taken })
 refused-stands act old s why replica stands same state told =
     acted-stands act old s (Refused why) (record { replica = replica; taken = old.taken }) stands
-    (subst (StandsFor replica) (sym state) (subst (λ (r : Kept). StandsFor r s.state) (sym same) stands.replica))
+    (subst (ReplicaStandsFor replica) (sym state) (subst (λ (r : Kept). ReplicaStandsFor r s.state) (sym same) stands.replica))
     (ap (λ (st : State). st.held) state) told (sym (add-zero old.taken))
 
 -- ---- a change
-module _ (command : Command) (capture : Capture) (time nonce : ℕ) (stored : List Drawn) (s : State) (same : stored ≡ s.stored) where
-  found : (answer : Result (List Drawn) Refusal) → outcome stored (shown (live_elements stored)) command time nonce ≡ answer → outcome_on command time nonce s ≡ answer
+module _ (command : Command) (capture : Capture) (time nonce : ℕ) (stored : List ElementValue) (s : State) (same : stored ≡ s.stored) where
+  found : (answer : Result (List ElementValue) Refusal) → outcome stored (shown (live_elements stored)) command time nonce ≡ answer → outcome_on command time nonce s ≡ answer
   found answer is = subst (λ es. outcome es (shown (live_elements es)) command time nonce ≡ answer) same is
 
-  pub change-given : (given : List Drawn) → outcome stored (shown (live_elements stored)) command time nonce ≡ Ok given → Given given ≡ (change_on command capture time nonce s).outcome
+  pub change-given : (given : List ElementValue) → outcome stored (shown (live_elements stored)) command time nonce ≡ Ok given → Given given ≡ (change_on command capture time nonce s).outcome
   unfolding change_on
   change-given given is = sym (ap of_command (found (Ok given) is))
 
@@ -110,7 +110,7 @@ pub change-held : (command : Command) (capture : Capture) (time nonce : ℕ) (s 
 unfolding change_on
 change-held command capture time nonce s = outcome-held capture (outcome_on command time nonce s) s
 
-pub change-state : (command : Command) (capture : Capture) (time nonce : ℕ) (s : State) (replica : Kept) → StandsFor replica (after_change command capture time nonce s) → StandsFor replica (change_on command capture time nonce s).state
+pub change-state : (command : Command) (capture : Capture) (time nonce : ℕ) (s : State) (replica : Kept) → ReplicaStandsFor replica (after_change command capture time nonce s) → ReplicaStandsFor replica (change_on command capture time nonce s).state
 unfolding change_on
 change-state command capture time nonce s replica stands = stands
 
@@ -127,7 +127,7 @@ pub undo_of-held : (time nonce : ℕ) (s : State) → (undo_of time nonce s).sta
 unfolding undo_of
 undo_of-held time nonce s = undo-held (undo_on time nonce s) s
 
-pub undo-state : (time nonce : ℕ) (s : State) (replica : Kept) → StandsFor replica (after_undo time nonce s) → StandsFor replica (undo_of time nonce s).state
+pub undo-state : (time nonce : ℕ) (s : State) (replica : Kept) → ReplicaStandsFor replica (after_undo time nonce s) → ReplicaStandsFor replica (undo_of time nonce s).state
 unfolding undo_of
 undo-state time nonce s replica stands = stands
 
@@ -143,12 +143,12 @@ pub redo_of-held : (time nonce : ℕ) (s : State) → (redo_of time nonce s).sta
 unfolding redo_of
 redo_of-held time nonce s = redo-held (redo_on time nonce s) s
 
-pub redo-state : (time nonce : ℕ) (s : State) (replica : Kept) → StandsFor replica (after_redo time nonce s) → StandsFor replica (redo_of time nonce s).state
+pub redo-state : (time nonce : ℕ) (s : State) (replica : Kept) → ReplicaStandsFor replica (after_redo time nonce s) → ReplicaStandsFor replica (redo_of time nonce s).state
 unfolding redo_of
 redo-state time nonce s replica stands = stands
 
 -- ---- a delivery, and held ids
-pub delivered-stands : (list : List Drawn) (old : Held) (s : Seat) (new : Held) → SeatStandsFor old s → StandsFor new.replica (after_delivery list s.state)
+pub delivered-stands : (list : List ElementValue) (old : KeptSeat) (s : Seat) (new : KeptSeat) → SeatStandsFor old s → ReplicaStandsFor new.replica (after_delivery list s.state)
     → new.taken ≡ old.taken + length (free_elements old.replica.held list) → SeatStandsFor new (delivered list s)
 unfolding delivered
 delivered-stands list old s new stands after counted = record {
@@ -157,7 +157,7 @@ delivered-stands list old s new stands after counted = record {
   taken = counted ∙ (λ i. stands.taken i + length (free_elements (stands.replica.held i) list)) ∙ sym (length-append s.taken (free_elements s.state.held list));
 }
 
-pub holding-stands : (old : Held) (s : Seat) (replica : Kept) (ids : List (List ℕ)) → SeatStandsFor old s → replica ≡ record old.replica { held = replica.held } → replica.held ≡ ids → AreRising replica.held
+pub holding-stands : (old : KeptSeat) (s : Seat) (replica : Kept) (ids : List (List ℕ)) → SeatStandsFor old s → replica ≡ record old.replica { held = replica.held } → replica.held ≡ ids → AreStrictlySorted replica.held
     → SeatStandsFor (record { replica = replica; taken = old.taken }) (holding ids s)
 holding-stands old s replica ids stands is same rising = record {
   replica = record {
@@ -167,6 +167,6 @@ holding-stands old s replica ids stands is same rising = record {
     redo = subst (λ (r : Kept). StackStandsFor r.stacks.redo s.state.redo) (sym is) stands.replica.redo;
     held = same;
   };
-  rising = subst AreRising same rising;
+  rising = subst AreStrictlySorted same rising;
   taken = stands.taken;
 }

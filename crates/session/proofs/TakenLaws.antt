@@ -3,7 +3,7 @@ use Rattle.std.proofs.Common.{◌≡◌, ℕ, zero, suc, not, List, [], ◌∷�
 use Rattle.std.specs.List.{AllByRecursion}
 use Rattle.std.proofs.lemmas.Grind.{flat_map-append}
 use Rattle.std.proofs.lemmas.List.Elements.{All-contains, All-from_recursion, Contains-append_left, Contains-append_right, Contains-append_cases}
-use Rattle.elem.specs.Drawn.{Drawn}
+use Rattle.elem.specs.ElementValue.{ElementValue}
 use Rattle.elem.specs.Said.{AreElements}
 use Rattle.elem_store.specs.Updates.{AreStored, HaveSameUpdates, stored_of}
 use Rattle.elem_store.proofs.Lists.{Contains-head, Contains-cons, Contains-cases, filter-Contains}
@@ -53,7 +53,7 @@ acted-stores : (s : Seat) (act : Act) → act.state.stored ≡ taken_all (given_
 acted-stores s act is stores =
     subst (λ es. AreStored (s.taken ++ given_of act.outcome) es) (sym is) (taken_all-stored s.taken s.state.stored (given_of act.outcome) stores)
 
-delivered-stores : (list : List Drawn) (s : Seat) → StoresTaken s → StoresTaken (delivered list s)
+delivered-stores : (list : List ElementValue) (s : Seat) → StoresTaken s → StoresTaken (delivered list s)
 unfolding delivered
 delivered-stores list s stores = taken_all-stored s.taken s.state.stored (free_elements s.state.held list) stores
 
@@ -109,53 +109,53 @@ same-stored session count s other among also are same =
     stores-converge s.taken other.taken s.state.stored other.state.stored same are (taken-stored session count s among) (taken-stored session count other also)
 
 -- ---- what was made
-abbrev message_of : List Drawn → List Drawn
+abbrev message_of : List ElementValue → List ElementValue
 message_of message = message
 
-abbrev flat : List (List Drawn) → List Drawn
+abbrev flat : List (List ElementValue) → List ElementValue
 flat messages = flat_map message_of messages
 
-flat-more : (messages : List (List Drawn)) (message : List Drawn) → flat (messages ++ message ∷ []) ≡ flat messages ++ message
+flat-more : (messages : List (List ElementValue)) (message : List ElementValue) → flat (messages ++ message ∷ []) ≡ flat messages ++ message
 flat-more messages message = flat_map-append message_of messages (message ∷ []) ∙ ap (λ es. flat messages ++ es) (append-nil message)
 
-module _ (opening : List Drawn) where
+module _ (opening : List ElementValue) where
   -- these are among the opening elements and those of the messages
-  abbrev AreMade : List (List Drawn) → List Drawn → Type 0
-  AreMade messages elements = (e : Drawn) → Contains elements e → Contains (opening ++ flat messages) e
+  abbrev AreMade : List (List ElementValue) → List ElementValue → Type 0
+  AreMade messages elements = (e : ElementValue) → Contains elements e → Contains (opening ++ flat messages) e
 
-  made-later : (messages : List (List Drawn)) (message elements : List Drawn) → AreMade messages elements → AreMade (messages ++ message ∷ []) elements
+  made-later : (messages : List (List ElementValue)) (message elements : List ElementValue) → AreMade messages elements → AreMade (messages ++ message ∷ []) elements
   made-later messages message elements made e among =
       subst (λ es. Contains es e) (append_assoc opening (flat messages) message ∙ ap (λ es. opening ++ es) (sym (flat-more messages message)))
       (Contains-append_left (opening ++ flat messages) message e (made e among))
 
-  made-now : (messages : List (List Drawn)) (message : List Drawn) → AreMade (messages ++ message ∷ []) message
+  made-now : (messages : List (List ElementValue)) (message : List ElementValue) → AreMade (messages ++ message ∷ []) message
   made-now messages message e among =
       subst (λ es. Contains es e) (append_assoc opening (flat messages) message ∙ ap (λ es. opening ++ es) (sym (flat-more messages message)))
       (Contains-append_right (opening ++ flat messages) message e among)
 
-  made-both : (messages : List (List Drawn)) (elements others : List Drawn) → AreMade messages elements → AreMade messages others → AreMade messages (elements ++ others)
+  made-both : (messages : List (List ElementValue)) (elements others : List ElementValue) → AreMade messages elements → AreMade messages others → AreMade messages (elements ++ others)
   made-both messages elements others made also e among =
       elim (Contains-append_cases elements others e among) [ inl first ↦ made e first | inr second ↦ also e second ]
 
-  none-made : (messages : List (List Drawn)) → AreMade messages []
+  none-made : (messages : List (List ElementValue)) → AreMade messages []
   none-made messages e among = absurd (omega (arith, among.1))
 
   -- what is in a message, and what is picked
-  in-message : (messages : List (List Drawn)) (number : ℕ) (e : Drawn) → Contains (get_or messages number []) e → Contains (flat messages) e
+  in-message : (messages : List (List ElementValue)) (number : ℕ) (e : ElementValue) → Contains (get_or messages number []) e → Contains (flat messages) e
   in-message [] number e among = absurd (omega (arith, among.1))
   in-message (message ∷ messages) zero e among = Contains-append_left message (flat messages) e among
   in-message (message ∷ messages) (suc number) e among = Contains-append_right message (flat messages) e (in-message messages number e among)
 
-  at-place : (elements : List Drawn) (place : ℕ) (e : Drawn) → Contains (option_to_list (slice_get elements place)) e → Contains elements e
+  at-place : (elements : List ElementValue) (place : ℕ) (e : ElementValue) → Contains (option_to_list (slice_get elements place)) e → Contains elements e
   at-place [] place e among = absurd (omega (arith, among.1))
   at-place (x ∷ elements) zero e among = elim (Contains-cases x [] e among) [ inl same ↦ subst (Contains (x ∷ elements)) same (Contains-head x elements) | inr later ↦ absurd (omega (arith, later.1)) ]
   at-place (x ∷ elements) (suc place) e among = Contains-cons x elements e (at-place elements place e among)
 
-  picked-made : (messages : List (List Drawn)) (pick : Pick) (e : Drawn) → Contains (picked messages pick) e → Contains (flat messages) e
+  picked-made : (messages : List (List ElementValue)) (pick : Pick) (e : ElementValue) → Contains (picked messages pick) e → Contains (flat messages) e
   picked-made messages (All number) e among = in-message messages number e among
   picked-made messages (One number place) e among = in-message messages number e (at-place (get_or messages number []) place e among)
 
-  all-picked-made : (messages : List (List Drawn)) (picks : List Pick) → AreMade messages (all_picked messages picks)
+  all-picked-made : (messages : List (List ElementValue)) (picks : List Pick) → AreMade messages (all_picked messages picks)
   all-picked-made messages [] e among = absurd (omega (arith, among.1))
   all-picked-made messages (pick ∷ picks) e among =
       elim (Contains-append_cases (picked messages pick) (all_picked messages picks) e among) [
@@ -163,22 +163,22 @@ module _ (opening : List Drawn) where
         | inr second ↦ all-picked-made messages picks e second
       ]
 
-  free-made : (messages : List (List Drawn)) (held : List (List ℕ)) (list : List Drawn) → AreMade messages list → AreMade messages (free_elements held list)
-  free-made messages held list made e among = made e (filter-Contains (λ (x : Drawn). not (is_held held x.id)) list e among).0
+  free-made : (messages : List (List ElementValue)) (held : List (List ℕ)) (list : List ElementValue) → AreMade messages list → AreMade messages (free_elements held list)
+  free-made messages held list made e among = made e (filter-Contains (λ (x : ElementValue). not (is_held held x.id)) list e among).0
 
   -- ---- of each seat
-  abbrev TookMade : List (List Drawn) → Seat → Type 0
+  abbrev TookMade : List (List ElementValue) → Seat → Type 0
   TookMade messages s = AreMade messages s.taken
 
   act-made : (at : ℕ) (act : Act) (w : World) → AllByRecursion (TookMade w.messages) w.seats → AllByRecursion (TookMade (after_act at act w).messages) (after_act at act w).seats
   act-made at act w all =
-      let given : List Drawn = given_of act.outcome in
-      let new : List (List Drawn) = w.messages ++ given ∷ [] in
+      let given : List ElementValue = given_of act.outcome in
+      let new : List (List ElementValue) = w.messages ++ given ∷ [] in
       let later : AllByRecursion (TookMade new) w.seats = each-weaker (TookMade w.messages) (TookMade new) w.seats (λ s. made-later w.messages given s.taken) all in
       each-set (TookMade new) w.seats at (acted act (seat_at w at))
       (made-both new (seat_at w at).taken given (each-at (TookMade new) w.seats at (none-made new) later) (made-now w.messages given)) later
 
-  delivered-made : (messages : List (List Drawn)) (list : List Drawn) (s : Seat) → AreMade messages list → TookMade messages s → TookMade messages (delivered list s)
+  delivered-made : (messages : List (List ElementValue)) (list : List ElementValue) (s : Seat) → AreMade messages list → TookMade messages s → TookMade messages (delivered list s)
   unfolding delivered
   delivered-made messages list s made took = made-both messages s.taken (free_elements s.state.held list) took (free-made messages s.state.held list made)
 
@@ -189,7 +189,7 @@ module _ (opening : List Drawn) where
   event-made (Change at time capture command) w all = act-made at (change_on command capture time (nonce_at w at) (state_at w at)) w all
   event-made (Update elements) w all = each-weaker (TookMade w.messages) (TookMade (w.messages ++ elements ∷ [])) w.seats (λ s. made-later w.messages elements s.taken) all
   event-made (Deliver to picks) w all =
-      let list : List Drawn = all_picked w.messages picks in
+      let list : List ElementValue = all_picked w.messages picks in
       each-set (TookMade w.messages) w.seats to (delivered list (seat_at w to)) (delivered-made w.messages list (seat_at w to) (all-picked-made w.messages picks) (at-made w to all)) all
   event-made (Hold at id) w all = each-set (TookMade w.messages) w.seats at (holding (with_id id (state_at w at).held) (seat_at w at)) (at-made w at all) all
   event-made (Release at id) w all = each-set (TookMade w.messages) w.seats at (holding (without_id id (state_at w at).held) (seat_at w at)) (at-made w at all) all
@@ -206,7 +206,7 @@ opened-made session =
     (delivered-made (opening_elements session) [] (opening_elements session) fresh (λ e among. Contains-append_left (opening_elements session) [] e among)
     (none-made (opening_elements session) []))
 
-pub taken-made : (session : Session) (count : ℕ) (s : Seat) (e : Drawn) → Contains (world_after session count).seats s → Contains s.taken e → Contains (all_elements session (world_after session count)) e
+pub taken-made : (session : Session) (count : ℕ) (s : Seat) (e : ElementValue) → Contains (world_after session count).seats s → Contains s.taken e → Contains (all_elements session (world_after session count)) e
 taken-made session count s e among among' =
     let w : World = world_after session count in
     each-contained (TookMade (opening_elements session) w.messages) w.seats s

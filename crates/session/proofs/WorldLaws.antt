@@ -3,16 +3,16 @@ use Rattle.std.proofs.Common.{◌≡◌, ℕ, zero, suc, ◌+◌, ◌<◌, ◌�
 use Rattle.std.specs.Vec.{with_item}
 use Rattle.std.proofs.lemmas.Grind.{flat_map-append}
 use Rattle.std.proofs.lemmas.List.{take_more}
-use Rattle.elem.specs.Drawn.{Drawn}
+use Rattle.elem.specs.ElementValue.{ElementValue}
 use Rattle.std.specs.List.{AllByRecursion, AllZip}
 use Rattle.std.proofs.lemmas.List.Elements.{All-from_recursion}
 use Rattle.session_text.specs.declared.event.Event.{Event}
 use Rattle.session_text.specs.declared.event.Pick.{Pick}
 use Rattle.session_text.specs.declared.session.Session.{Session}
-use Rattle.session.specs.declared.seat.Seat.{Seat as Held}
+use Rattle.session.specs.declared.seat.Seat.{Seat as KeptSeat}
 use Rattle.session.specs.declared.world.World.{World as Played}
 use Rattle.session.specs.declared.outcome.Outcome.{Outcome}
-use Rattle.session.specs.Standing.{SeatStandsFor, SeatsStandFor, WorldStandsFor, IsActed, IsAfter}
+use Rattle.session.specs.Standing.{SeatStandsFor, SeatsStandFor, WorldStandsFor, IsActed, IsWorldAfter}
 use Rattle.session.specs.Worlds.{Seat, World, Act, fresh, acted, seat_at, after_act, after_seat, after_event, after_events, all_picked, picked, given_of, last_world, next_generator, opened, with_refused, world_after}
 
 -- ---- two lists, place by place
@@ -55,11 +55,11 @@ module _ {A B : Type 0} (R : A → B → Type 0) where
 
 -- ---- events
 -- a replica made a change, an undo or a redo
-pub act-after : (old new : Played) (at : ℕ) (held : Held) (outcome : Outcome) (act : World → Act)
+pub act-after : (old new : Played) (at : ℕ) (held : KeptSeat) (outcome : Outcome) (act : World → Act)
     → new.seats ≡ with_item old.seats at held → new.generator ≡ next_generator old.generator
     → new.messages.items ≡ old.messages.items ++ given_of outcome ∷ [] → new.refused.items ≡ with_refused old.events outcome old.refused.items → new.events ≡ old.events + 1
     → ((w : World) → WorldStandsFor old w → IsActed (act w) (seat_at w at) outcome held)
-    → IsAfter old (λ w. after_act at (act w) w) new
+    → IsWorldAfter old (λ w. after_act at (act w) w) new
 act-after old new at held outcome act seats generator messages refused events each = record {
   world = λ w stands.
       let own = each w stands in
@@ -76,10 +76,10 @@ act-after old new at held outcome act seats generator messages refused events ea
 }
 
 -- a replica took a delivery, or holds an id, or doesn't hold one any more
-pub seat-after : (old new : Played) (at : ℕ) (held : Held) (comes : World → Seat)
+pub seat-after : (old new : Played) (at : ℕ) (held : KeptSeat) (comes : World → Seat)
     → new.seats ≡ with_item old.seats at held → new.generator ≡ old.generator → new.messages.items ≡ old.messages.items → new.refused.items ≡ old.refused.items → new.events ≡ old.events + 1
     → ((w : World) → WorldStandsFor old w → SeatStandsFor held (comes w))
-    → IsAfter old (λ w. after_seat at (comes w) w) new
+    → IsWorldAfter old (λ w. after_seat at (comes w) w) new
 seat-after old new at held comes seats generator messages refused events each = record {
   world = λ w stands. record {
     seats = subst (λ hs. SeatsStandFor hs (set w.seats at (comes w))) (sym (ap vec_items seats)) (zip-set SeatStandsFor old.seats.items w.seats at held (comes w) stands.seats (each w stands));
@@ -92,10 +92,10 @@ seat-after old new at held comes seats generator messages refused events each = 
   events = events;
 }
 
-pub seat-stands : (old : Played) (w : World) (at : ℕ) (held : Held) → WorldStandsFor old w → at < vec_len old.seats → held ≡ get_or old.seats.items at held → SeatStandsFor held (seat_at w at)
+pub seat-stands : (old : Played) (w : World) (at : ℕ) (held : KeptSeat) → WorldStandsFor old w → at < vec_len old.seats → held ≡ get_or old.seats.items at held → SeatStandsFor held (seat_at w at)
 seat-stands old w at held stands l is =
     let within : at < length old.seats.items = omega (arith, old.seats.ok.0) in
-    subst (λ (h : Held). SeatStandsFor h (seat_at w at)) (sym is) (zip-at SeatStandsFor old.seats.items w.seats at held fresh stands.seats within)
+    subst (λ (h : KeptSeat). SeatStandsFor h (seat_at w at)) (sym is) (zip-at SeatStandsFor old.seats.items w.seats at held fresh stands.seats within)
 
 -- ---- several events
 pub events-append : (events more : List Event) (w : World) → after_events (events ++ more) w ≡ after_events more (after_events events w)
@@ -115,7 +115,7 @@ pub each-event : (P : Event → Type 0) (events : List Event) (i : ℕ) (event :
 each-event P events i event l here all = subst P (sym here) (All-from_recursion P events all i event l)
 
 -- ---- picks
-pub picked-step : (messages : List (List Drawn)) (picks : List Pick) (i : ℕ) (other : Pick) (old new : List Drawn) → i < length picks
+pub picked-step : (messages : List (List ElementValue)) (picks : List Pick) (i : ℕ) (other : Pick) (old new : List ElementValue) → i < length picks
     → old ≡ all_picked messages (take i picks) → new ≡ old ++ picked messages (get_or picks i other) → new ≡ all_picked messages (take (i + 1) picks)
 picked-step messages picks i other old new l was is =
     is ∙ ap (λ es. es ++ picked messages (get_or picks i other)) was

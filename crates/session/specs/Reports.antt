@@ -5,8 +5,8 @@ use Rattle.scene_file.specs.Heads.{Heading}
 use Rattle.scene_file.specs.Scenes.{scene_text}
 use Rattle.view.specs.Settled.{AreSettled}
 use Rattle.view.specs.Shown.{live_elements, shown, HaveRisingKeys}
-use Rattle.elem.specs.Drawn.{Drawn}
-use Rattle.replica.specs.Standing.{StandsFor}
+use Rattle.elem.specs.ElementValue.{ElementValue}
+use Rattle.replica.specs.Standing.{ReplicaStandsFor}
 use Rattle.session_text.specs.declared.session.Session.{Session}
 use Rattle.session.specs.declared.report.Report.{Report}
 use Rattle.session.specs.declared.report.ReplicaReport.{ReplicaReport}
@@ -14,14 +14,14 @@ use Rattle.session.specs.Clashes.{HaveClashes}
 use Rattle.session.specs.Worlds.{Seat, World, all_elements, head_of}
 
 -- what a replica shows
-abbrev pub shown_at : Seat → List Drawn
+abbrev pub shown_at : Seat → List ElementValue
 shown_at s = shown (live_elements s.state.stored)
 
 -- The report hands over the replica; the text is that of the scene that it shows, whose keys rise and whose elements agree on
 -- their links, frames and groups; and the numbers are those of its updates, its stored and its live elements, and its entries
 -- to undo and to redo.
 pub record IsReplicaReport (head : Heading) (s : Seat) (report : ReplicaReport) : Type 0 where
-  pub replica : StandsFor report.replica s.state
+  pub replica : ReplicaStandsFor report.replica s.state
   pub scene : report.scene ≡ scene_text head (shown_at s)
   pub rise : HaveRisingKeys (shown_at s)
   pub settled : AreSettled (shown_at s)

@@ -4,7 +4,7 @@ use Rattle.std.specs.Option.{option_map_or}
 use Rattle.rand_core.specs.Pcg32Seed.{pcg32_seed}
 use Rattle.rand_pcg.specs.Lcg.{Lcg}
 use Rattle.rand_pcg.specs.Pcg.{pcg32, pcg32_of_seed}
-use Rattle.elem.specs.Drawn.{Drawn}
+use Rattle.elem.specs.ElementValue.{ElementValue}
 use Rattle.delta.specs.Placed.{with_item}
 use Rattle.reconcile.specs.Ids.{free_elements}
 use Rattle.scene_file.specs.Heads.{Heading}
@@ -28,13 +28,13 @@ use Rattle.session.specs.declared.report.RefusedEvent.{RefusedEvent}
 -- ids weren't held.
 pub record Seat : Type 0 where
   pub state : State
-  pub taken : List Drawn
+  pub taken : List ElementValue
 
 -- The replicas in their order; the messages that were made; what the nonces are drawn from; how many events there were; and
 -- those that were refused.
 pub record World : Type 0 where
   pub seats : List Seat
-  pub messages : List (List Drawn)
+  pub messages : List (List ElementValue)
   pub generator : Lcg
   pub events : ℕ
   pub refused : List RefusedEvent
@@ -44,7 +44,7 @@ abbrev pub fresh : Seat
 fresh = record { state = nothing; taken = [] }
 
 -- after a list was delivered: the elements whose ids aren't held are taken
-unfoldable pub delivered : List Drawn → Seat → Seat
+unfoldable pub delivered : List ElementValue → Seat → Seat
 delivered list s = record { state = after_delivery list s.state; taken = s.taken ++ free_elements s.state.held list }
 
 -- the held ids, in the order of their bytes, with one more, and without one
@@ -58,7 +58,7 @@ abbrev pub holding : List (List ℕ) → Seat → Seat
 holding ids s = record s { state = record s.state { held = ids } }
 
 -- what a command comes to; and a step of undo or redo, which is refused without a cause where nothing comes
-abbrev pub of_command : Result (List Drawn) Refusal → Outcome
+abbrev pub of_command : Result (List ElementValue) Refusal → Outcome
 of_command (Ok given) = Given given
 of_command (Err refusal) = Refused (Some refusal)
 
@@ -83,7 +83,7 @@ unfoldable pub redo_of : ℕ → ℕ → State → Act
 redo_of time nonce s = record { state = after_redo time nonce s; outcome = of_step (redo_on time nonce s) }
 
 -- the elements that an outcome gives; none where it is a refusal
-abbrev pub given_of : Outcome → List Drawn
+abbrev pub given_of : Outcome → List ElementValue
 given_of (Given elements) = elements
 given_of (Refused why) = []
 
@@ -130,11 +130,11 @@ abbrev pub after_seat : ℕ → Seat → World → World
 after_seat at seat w = record w { seats = slice_set w.seats at seat; events = w.events + 1 }
 
 -- what is picked of messages: a whole one, or one element, if the message has so many
-abbrev pub picked : List (List Drawn) → Pick → List Drawn
+abbrev pub picked : List (List ElementValue) → Pick → List ElementValue
 picked messages (All message) = slice_index_or messages message []
 picked messages (One message element) = option_to_list (slice_get (slice_index_or messages message []) element)
 
-abbrev pub all_picked : List (List Drawn) → List Pick → List Drawn
+abbrev pub all_picked : List (List ElementValue) → List Pick → List ElementValue
 all_picked messages picks = flat_map (picked messages) picks
 
 -- what an event makes of a world
@@ -153,7 +153,7 @@ after_events (event ∷ events) w = after_events events (after_event event w)
 
 -- ---- a session
 -- the elements of its scene, if it has one, and their head, or an empty one
-abbrev pub opening_elements : Session → List Drawn
+abbrev pub opening_elements : Session → List ElementValue
 opening_elements session = option_map_or (λ (scene : Scene). scene.elements) session.scene []
 
 abbrev pub head_of : Session → Heading
@@ -181,5 +181,5 @@ abbrev pub last_world : Session → World
 last_world session = after_events session.events (opened session)
 
 -- all elements that there were: those of the scene, and then those of all messages
-abbrev pub all_elements : Session → World → List Drawn
-all_elements session w = opening_elements session ++ flat_map (λ (message : List Drawn). message) w.messages
+abbrev pub all_elements : Session → World → List ElementValue
+all_elements session w = opening_elements session ++ flat_map (λ (message : List ElementValue). message) w.messages

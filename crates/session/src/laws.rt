@@ -1,7 +1,7 @@
 //! Laws on sessions, for all of them. They do nothing when they run.
 
 ghost use Rattle.std.specs.Prelude.{◌≡◌, ℕ, List, [], ◌++◌, Contains, length, take};
-ghost use Rattle.elem.specs.Drawn.{Drawn};
+ghost use Rattle.elem.specs.ElementValue.{ElementValue};
 ghost use Rattle.elem.specs.Said.{AreElements};
 ghost use Rattle.elem_store.specs.Updates.{AreStored, HaveSameUpdates};
 ghost use Rattle.scene_file.specs.Scenes.{scene_text};
@@ -23,7 +23,7 @@ pub fn replicas_store_what_they_took()
 
 /// A replica takes nothing but elements of the scene and of messages.
 pub fn taken_updates_were_made()
-    ensures { (session : Session) (count : ℕ) (s : Seat) (e : Drawn)
+    ensures { (session : Session) (count : ℕ) (s : Seat) (e : ElementValue)
         → Contains (world_after session count).seats s → Contains s.taken e
         → Contains (all_elements session (world_after session count)) e }
 {}
@@ -41,6 +41,6 @@ pub fn replicas_converge()
 
 /// Elements have one number of clashes.
 pub fn clashes_are_counted_once()
-    ensures { (before elements : List Drawn) (count other : ℕ)
+    ensures { (before elements : List ElementValue) (count other : ℕ)
         → HaveClashes before elements count → HaveClashes before elements other → count ≡ other }
 {}

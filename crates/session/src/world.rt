@@ -3,8 +3,8 @@
 ghost use Rattle.std.specs.Prelude.{◌≡◌, ◌+◌, ◌*◌, ◌^◌, ◌<◌, ◌≤◌, [], ◌∷◌, ◌++◌, IfOk, OnOk, replicate, vec_len};
 ghost use Rattle.elem.specs.Facts.{greatest_whole};
 ghost use Rattle.effects.specs.Limits.{IsWithinLimits};
-ghost use Rattle.session_text.specs.Facts.{IsAmong, IsWithin};
-ghost use Rattle.session.specs.Standing.{IsAfter, IsNoted, SeatsStandFor, WorldStandsFor};
+ghost use Rattle.session_text.specs.Facts.{IsAmong, IsEventWithinLimits};
+ghost use Rattle.session.specs.Standing.{IsWorldAfter, IsNoted, SeatsStandFor, WorldStandsFor};
 ghost use Rattle.session.specs.Worlds.{after_event, delivered, fresh, given_of, next_generator, next_word, opened, opening_elements, with_refused};
 
 use crate::outcome::Outcome;
@@ -53,8 +53,8 @@ impl World {
         requires replicas { vec_len self.old.seats ≤ 64 }
         requires room { self.old.events + 1 < 2 ^ 64 }
         requires among { IsAmong (vec_len self.old.seats) event.now }
-        requires within { IsWithin event.now }
-        ensures { OnOk result (IsAfter self.old (after_event event.now) self.new) }
+        requires within { IsEventWithinLimits event.now }
+        ensures { OnOk result (IsWorldAfter self.old (after_event event.now) self.new) }
     {
         match event {
             Event::Change {
@@ -85,7 +85,7 @@ impl World {
         requires room { self.old.events + 1 < 2 ^ 64 }
         requires time { time ≤ greatest_whole }
         requires limits { IsWithinLimits command.now }
-        ensures { OnOk result (IsAfter self.old (after_event (Event.Change at time capture command.now)) self.new) }
+        ensures { OnOk result (IsWorldAfter self.old (after_event (Event.Change at time capture command.now)) self.new) }
     {
         let nonce = draw(&mut self.generator, at);
         let seat = &mut self.seats[at as usize];
@@ -100,7 +100,7 @@ impl World {
         requires replicas { vec_len self.old.seats ≤ 64 }
         requires room { self.old.events + 1 < 2 ^ 64 }
         requires time { time ≤ greatest_whole }
-        ensures { OnOk result (IsAfter self.old (after_event (Event.Undo at time)) self.new) }
+        ensures { OnOk result (IsWorldAfter self.old (after_event (Event.Undo at time)) self.new) }
     {
         let nonce = draw(&mut self.generator, at);
         let seat = &mut self.seats[at as usize];
@@ -115,7 +115,7 @@ impl World {
         requires replicas { vec_len self.old.seats ≤ 64 }
         requires room { self.old.events + 1 < 2 ^ 64 }
         requires time { time ≤ greatest_whole }
-        ensures { OnOk result (IsAfter self.old (after_event (Event.Redo at time)) self.new) }
+        ensures { OnOk result (IsWorldAfter self.old (after_event (Event.Redo at time)) self.new) }
     {
         let nonce = draw(&mut self.generator, at);
         let seat = &mut self.seats[at as usize];
@@ -138,7 +138,7 @@ impl World {
     /// Elements from elsewhere are a message.
     fn update(&mut self, elements: &List<Element>) -> Result<(), AllocError>
         requires { self.old.events + 1 < 2 ^ 64 }
-        ensures { OnOk result (IsAfter self.old (after_event (Event.Update elements.now)) self.new) }
+        ensures { OnOk result (IsWorldAfter self.old (after_event (Event.Update elements.now)) self.new) }
     {
         self.messages
             .push(elements.try_clone_with(Element::try_clone)?)?;
@@ -150,7 +150,7 @@ impl World {
     fn deliver(&mut self, to: u64, picks: &List<Pick>) -> Result<(), AllocError>
         requires to { to < vec_len self.old.seats }
         requires room { self.old.events + 1 < 2 ^ 64 }
-        ensures { OnOk result (IsAfter self.old (after_event (Event.Deliver to picks.now)) self.new) }
+        ensures { OnOk result (IsWorldAfter self.old (after_event (Event.Deliver to picks.now)) self.new) }
     {
         let alloc = *self.messages.allocator();
         let list = all_picked(alloc, &self.messages, picks.as_slice())?;
@@ -164,7 +164,7 @@ impl World {
     fn hold(&mut self, at: u64, id: &Text) -> Result<(), AllocError>
         requires at { at < vec_len self.old.seats }
         requires room { self.old.events + 1 < 2 ^ 64 }
-        ensures { OnOk result (IsAfter self.old (after_event (Event.Hold at id.now)) self.new) }
+        ensures { OnOk result (IsWorldAfter self.old (after_event (Event.Hold at id.now)) self.new) }
     {
         let seat = &mut self.seats[at as usize];
         seat.hold(id)?;
@@ -176,7 +176,7 @@ impl World {
     fn release(&mut self, at: u64, id: &Text) -> Result<(), AllocError>
         requires at { at < vec_len self.old.seats }
         requires room { self.old.events + 1 < 2 ^ 64 }
-        ensures { OnOk result (IsAfter self.old (after_event (Event.Release at id.now)) self.new) }
+        ensures { OnOk result (IsWorldAfter self.old (after_event (Event.Release at id.now)) self.new) }
     {
         let seat = &mut self.seats[at as usize];
         seat.release(id);

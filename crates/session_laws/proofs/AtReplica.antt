@@ -3,7 +3,7 @@ use Rattle.std.proofs.Common.{◌≡◌, ◌≢◌, ◌≤◌, ◌<◌, ◌==◌
 use Rattle.std.specs.List.{AllByRecursion}
 use Rattle.std.proofs.lemmas.Bool.{cases_Bool, eqb-true, eqb-false}
 use Rattle.std.proofs.lemmas.List.{get_or-set_same, get_or-set_other}
-use Rattle.elem.specs.Drawn.{Drawn}
+use Rattle.elem.specs.ElementValue.{ElementValue}
 use Rattle.elem.specs.Facts.{greatest_whole}
 use Rattle.elem.specs.Order.{unstamped}
 use Rattle.elem_store.specs.Updates.{element_of}
@@ -17,7 +17,7 @@ use Rattle.effects.proofs.OutcomeLaws.{given-seen}
 use Rattle.undoing.specs.Carrying.{taken_all}
 use Rattle.undoing.specs.Differing.{pending}
 use Rattle.undoing.specs.Steps.{Turn, step}
-use Rattle.replica.specs.Back.{Alters, IsChange, changed, changed_all, AreChanges, Call, IsDone, undone_all, redone_all, AreUndone, AreRedone}
+use Rattle.replica.specs.Back.{Alters, IsStoredChange, changed, changed_all, AreChanges, Call, IsDone, undone_all, redone_all, AreUndos, AreRedos}
 use Rattle.replica.specs.State.{State, noted, stored_with, outcome_on, after_outcome, after_delivery, undo_on, redo_on, after_undo_of, after_redo_of, after_undo, after_redo}
 use Rattle.replica.proofs.Delivering.{empty-stays}
 use Rattle.session_text.specs.declared.event.Event.{Event}
@@ -33,11 +33,11 @@ use Rattle.session_laws.proofs.SoundWorlds.{IsKeptWorld, IsKeptEvent, seat-kept,
 abbrev pub unheld : State → State
 unheld s = record s { held = [] }
 
-unheld-noted : (entry : List Pair) (s : State) (snapshot : List Drawn) → unheld (record (noted entry s) { snapshot = snapshot }) ≡ record (noted entry (unheld s)) { snapshot = snapshot }
+unheld-noted : (entry : List Pair) (s : State) (snapshot : List ElementValue) → unheld (record (noted entry s) { snapshot = snapshot }) ≡ record (noted entry (unheld s)) { snapshot = snapshot }
 unheld-noted [] s snapshot = refl
 unheld-noted (pair ∷ entry) s snapshot = refl
 
-unheld-changed : (given : List Drawn) (s : State) → unheld (changed given s) ≡ changed given (unheld s)
+unheld-changed : (given : List ElementValue) (s : State) → unheld (changed given s) ≡ changed given (unheld s)
 unheld-changed given s = unheld-noted (pending s.snapshot (taken_all given s.stored)) (stored_with given s) (taken_all given s.stored)
 
 noted-undo : (entry : List Pair) (s : State) → (noted entry (unheld s)).undo ≡ (noted entry s).undo
@@ -71,21 +71,21 @@ not-deleted false h = refl
 
 module _ (s : State) (kept : IsKept s) (command : Command) (time nonce : ℕ)
     (limits : IsWithinLimits command) (written : IsWrittenCommand command) (early : time ≤ greatest_whole) (small : nonce ≤ greatest_whole) where
-  module _ (given : List Drawn) (told : outcome_on command time nonce s ≡ Ok given) where
+  module _ (given : List ElementValue) (told : outcome_on command time nonce s ≡ Ok given) where
     are-given : AreGiven s.stored given
     are-given = command-given s kept command time nonce given limits written early small told
 
-    seen-alters : (e : Drawn) (o : Option Drawn) → Contains given e → element_of s.stored e.id ≡ o → IsSomeAnd o (λ (old : Drawn). (is_live old ≡ true) × (unstamped old ≢ unstamped e)) → Alters o e
+    seen-alters : (e : ElementValue) (o : Option ElementValue) → Contains given e → element_of s.stored e.id ≡ o → IsSomeAnd o (λ (old : ElementValue). (is_live old ≡ true) × (unstamped old ≢ unstamped e)) → Alters o e
     seen-alters e None c found seen = absurd seen
     seen-alters e (Some old) c found seen = (not-deleted old.deleted seen.0, are-given.kinds e old c found, seen.1)
 
-    given-alters : (e : Drawn) → Contains given e → Alters (element_of s.stored e.id) e
+    given-alters : (e : ElementValue) → Contains given e → Alters (element_of s.stored e.id) e
     given-alters e c = elim (given-seen s.stored (shown (live_elements s.stored)) command time nonce given told kept.stored_rise e c) [
       | inl change ↦ seen-alters e (element_of s.stored e.id) c refl change
       | inr new ↦ subst (λ o. Alters o e) (sym new.unknown) (not-deleted e.deleted new.live)
     ]
 
-    pub given-changes : given ≢ [] → IsChange s.stored given
+    pub given-changes : given ≢ [] → IsStoredChange s.stored given
     given-changes some = record {
       some = some;
       ordered = are-given.rise;
@@ -95,11 +95,11 @@ module _ (s : State) (kept : IsKept s) (command : Command) (time nonce : ℕ)
     }
 
   -- a change that is captured at once and gives some elements
-  pub change-done : given_of (change_on command Now time nonce s).outcome ≢ [] → (given : List Drawn) × ((change_on command Now time nonce s).state ≡ changed given s) × IsChange s.stored given
+  pub change-done : given_of (change_on command Now time nonce s).outcome ≢ [] → (given : List ElementValue) × ((change_on command Now time nonce s).state ≡ changed given s) × IsStoredChange s.stored given
   unfolding change_on
   change-done gives = by (outcome_on command time nonce s) refl gives
     where
-      by : (o : Result (List Drawn) Refusal) → outcome_on command time nonce s ≡ o → given_of (of_command o) ≢ [] → (given : List Drawn) × (after_outcome Now o s ≡ changed given s) × IsChange s.stored given
+      by : (o : Result (List ElementValue) Refusal) → outcome_on command time nonce s ≡ o → given_of (of_command o) ≢ [] → (given : List ElementValue) × (after_outcome Now o s ≡ changed given s) × IsStoredChange s.stored given
       by (Ok given) told some = (given, refl, given-changes given told some)
       by (Err refusal) told some = absurd (some refl)
 
@@ -111,7 +111,7 @@ redo_of-state : (time nonce : ℕ) (s : State) → (redo_of time nonce s).state 
 unfolding redo_of
 redo_of-state time nonce s = refl
 
-delivered-state : (list : List Drawn) (s : Seat) → (delivered list s).state ≡ after_delivery list s.state
+delivered-state : (list : List ElementValue) (s : Seat) → (delivered list s).state ≡ after_delivery list s.state
 unfolding delivered
 delivered-state list s = refl
 
@@ -141,7 +141,7 @@ module _ (replicas : ℕ) (few : replicas ≤ 64) (at : ℕ) (among : at < repli
         ap (λ (seat : Seat). unheld seat.state) (other-put other (acted (change_on command capture time (nonce_at w other) (state_at w other)) (seat_at w other)) apart)
     keeps-away (Update elements) away = refl
     keeps-away (Deliver to picks) none =
-        let list : List Drawn = all_picked w.messages picks in
+        let list : List ElementValue = all_picked w.messages picks in
         put-unheld to (delivered list (seat_at w to)) (λ same.
         ap unheld (delivered-state list (seat_at w to)
         ∙ ap (λ (i : ℕ). after_delivery list (state_at w i)) same
@@ -163,7 +163,7 @@ module _ (replicas : ℕ) (few : replicas ≤ 64) (at : ℕ) (among : at < repli
     acted-here act = ap (λ (seat : Seat). seat.state) (own-put (acted act (seat_at w at)))
 
     change-here : (event : Event) → IsKeptEvent replicas event → IsChangeAt at event w
-        → (given : List Drawn) × (unheld (state_at (after_event event w) at) ≡ changed given (unheld (state_at w at))) × IsChange (state_at w at).stored given
+        → (given : List ElementValue) × (unheld (state_at (after_event event w) at) ≡ changed given (unheld (state_at w at))) × IsStoredChange (state_at w at).stored given
     change-here event is change =
         let it = subst (IsKeptEvent replicas) change.is is in
         let act : Act = change_on change.command Now change.time (nonce_at w at) (state_at w at) in
@@ -204,7 +204,7 @@ module _ (replicas : ℕ) (few : replicas ≤ 64) (at : ℕ) (among : at < repli
   -- ---- several events
   -- so many changes lead from a state to another one
   pub record ChangesLead (n : ℕ) (s now : State) : Type 0 where
-    pub givens : List (List Drawn)
+    pub givens : List (List ElementValue)
     pub many : length givens ≡ n
     pub changes : AreChanges givens s
     pub comes : now ≡ changed_all givens s
@@ -212,13 +212,13 @@ module _ (replicas : ℕ) (few : replicas ≤ 64) (at : ℕ) (among : at < repli
   pub record UndosLead (n : ℕ) (s now : State) : Type 0 where
     pub calls : List Call
     pub many : length calls ≡ n
-    pub done : AreUndone calls s
+    pub done : AreUndos calls s
     pub comes : now ≡ undone_all calls s
 
   pub record RedosLead (n : ℕ) (s now : State) : Type 0 where
     pub calls : List Call
     pub many : length calls ≡ n
-    pub done : AreRedone calls s
+    pub done : AreRedos calls s
     pub comes : now ≡ redone_all calls s
 
   -- the state after events, without its held ids

@@ -6,19 +6,19 @@ use Rattle.std.proofs.lemmas.Option.{none-some, same_Some}
 use Rattle.std.proofs.lemmas.List.Elements.{All-head, All-tail}
 use Rattle.scene_json.proofs.Collapsed.{bytes_eq-true, bytes_eq-same}
 use Rattle.frac_keys.specs.Rising.{are_rising}
-use Rattle.elem.specs.Drawn.{Drawn}
+use Rattle.elem.specs.ElementValue.{ElementValue}
 use Rattle.elem.specs.Facts.{IsElement}
-use Rattle.elem.specs.Order.{unstamped}
-use Rattle.elem.specs.Said.{IsWritten, AreElements}
-use Rattle.elem_store.specs.Updates.{Taking, is_of, element_of, ids_of, is_taken, takings}
+use Rattle.elem.specs.Order.{unstamped, has_id}
+use Rattle.elem.specs.Said.{HasValidTexts, AreElements}
+use Rattle.elem_store.specs.Updates.{Taking, element_of, ids_of, is_taken, takings}
 use Rattle.elem_store.proofs.Rising.{same_elements}
 use Rattle.delta.specs.Headers.{scalar_of}
-use Rattle.delta.specs.Joined.{are_same, joined, stays, is_gained, first_occurrences, entries_same}
+use Rattle.delta.specs.Joined.{are_same, joined, stays, is_gained, first_occurrences, same_listing_entry}
 use Rattle.delta.specs.Pairs.{Pair}
 use Rattle.delta.specs.Parts.{scalars_same}
 use Rattle.delta.specs.Undone.{undone_scalar, undone_list}
 use Rattle.delta.proofs.JoinLaws.{are_same-exact, are_same-same}
-use Rattle.delta.specs.Entries.{entries_same-exact, entries_same-same}
+use Rattle.delta.specs.Entries.{same_listing_entry-exact, same_listing_entry-same}
 use Rattle.delta.proofs.PartLaws.{same-unstamped}
 use Rattle.undoing.specs.Carrying.{with_put, taken, taken_all, followed, carried_over, carried, carried_all}
 use Rattle.undoing.specs.Differing.{same_kind}
@@ -35,8 +35,8 @@ use Rattle.replica.proofs.Leading.{SameAs, bare_of}
 use Rattle.session_laws.proofs.SoundStates.{IsKept}
 
 -- an element as its type keeps it
-abbrev Is : Drawn → Type 0
-Is e = IsElement e × IsWritten e
+abbrev Is : ElementValue → Type 0
+Is e = IsElement e × HasValidTexts e
 
 -- ---- undoing from what is after a change makes what is before it
 scalars-exact : (a b : Option (List ℕ)) → scalars_same a b ≡ true → a ≡ b
@@ -61,7 +61,7 @@ module _ {T : Type 0} (same : T → T → Bool) (exact : (a b : T) → same a b 
     | inr f ↦ ap (λ s. if s then a else joined same a b a) f ∙ joined-all a b
   ]
 
-undone-unstamped : (pair : Pair) (now : Drawn) → unstamped (undone pair now) ≡ unstamped (undone pair (unstamped now))
+undone-unstamped : (pair : Pair) (now : ElementValue) → unstamped (undone pair now) ≡ unstamped (undone pair (unstamped now))
 unfolding undone
 undone-unstamped pair now =
     elim (same_kind pair.after.kind now.kind) as (λ b. unstamped (cond b (undone_in pair now) now) ≡ unstamped (cond b (undone_in pair (unstamped now)) (unstamped now))) [
@@ -78,30 +78,30 @@ module _ (pair : Pair) (of : IsOfElements pair) (id : pair.before.id ≡ pair.af
       (λ n. undoes.scalars n ∙ scalar-back (scalar_of pair.before n) (scalar_of pair.after n))
       (undoes.stamp.id ∙ sym id)
       (undoes.groups ∙ list-back bytes_eq bytes_eq-true bytes_eq-same pair.before.groups pair.after.groups)
-      (undoes.bound ∙ list-back entries_same entries_same-exact entries_same-same pair.before.bound pair.after.bound)
+      (undoes.bound ∙ list-back same_listing_entry same_listing_entry-exact same_listing_entry-same pair.before.bound pair.after.bound)
 
-  now-back : (now : Drawn) → unstamped now ≡ unstamped pair.after → unstamped (undone pair now) ≡ unstamped pair.before
+  now-back : (now : ElementValue) → unstamped now ≡ unstamped pair.after → unstamped (undone pair now) ≡ unstamped pair.before
   now-back now same =
       undone-unstamped pair now ∙ ap (λ e. unstamped (undone pair e)) same ∙ sym (undone-unstamped pair pair.after) ∙ after-back
 
 -- ---- an element that is put into lists that are the same but for stamps
-put-bare : (e : Drawn) (elements : List Drawn) (id : List ℕ) → are_rising (ids_of elements) ≡ true → bare_of (with_put e elements) id ≡ cond (is_of id e) (Some (unstamped e)) (bare_of elements id)
-put-bare e elements id rise = ap (option_map unstamped) ((put-each e elements rise).1 id) ∙ out (is_of id e) (element_of elements id)
+put-bare : (e : ElementValue) (elements : List ElementValue) (id : List ℕ) → are_rising (ids_of elements) ≡ true → bare_of (with_put e elements) id ≡ cond (has_id id e) (Some (unstamped e)) (bare_of elements id)
+put-bare e elements id rise = ap (option_map unstamped) ((put-each e elements rise).1 id) ∙ out (has_id id e) (element_of elements id)
   where
-    out : (b : Bool) (o : Option Drawn) → option_map unstamped (cond b (Some e) o) ≡ cond b (Some (unstamped e)) (option_map unstamped o)
+    out : (b : Bool) (o : Option ElementValue) → option_map unstamped (cond b (Some e) o) ≡ cond b (Some (unstamped e)) (option_map unstamped o)
     out true o = refl
     out false o = refl
 
-put-same : (e u : Drawn) (snapshot stored : List Drawn) → are_rising (ids_of snapshot) ≡ true → are_rising (ids_of stored) ≡ true → unstamped u ≡ unstamped e → SameAs snapshot stored → SameAs (with_put u snapshot) (with_put e stored)
+put-same : (e u : ElementValue) (snapshot stored : List ElementValue) → are_rising (ids_of snapshot) ≡ true → are_rising (ids_of stored) ≡ true → unstamped u ≡ unstamped e → SameAs snapshot stored → SameAs (with_put u snapshot) (with_put e stored)
 put-same e u snapshot stored rise rise' alike same id =
     put-bare u snapshot id rise
-    ∙ (λ i. cond (is_of id (alike i)) (Some (alike i)) (same id i))
+    ∙ (λ i. cond (has_id id (alike i)) (Some (alike i)) (same id i))
     ∙ sym (put-bare e stored id rise')
 
 -- ---- an update that becomes stored is carried
-module _ (snapshot stored : List Drawn) (e : Drawn) (rise : are_rising (ids_of snapshot) ≡ true) (rise' : are_rising (ids_of stored) ≡ true)
+module _ (snapshot stored : List ElementValue) (e : ElementValue) (rise : are_rising (ids_of snapshot) ≡ true) (rise' : are_rising (ids_of stored) ≡ true)
     (are : AreElements snapshot) (are' : AreElements stored) (is : Is e) (same : SameAs snapshot stored) where
-  followed-same : (old : Drawn) (o : Option Drawn) → element_of stored e.id ≡ Some old → old.kind ≡ e.kind → element_of snapshot e.id ≡ o → SameAs (followed o old e snapshot) (with_put e stored)
+  followed-same : (old : ElementValue) (o : Option ElementValue) → element_of stored e.id ≡ Some old → old.kind ≡ e.kind → element_of snapshot e.id ≡ o → SameAs (followed o old e snapshot) (with_put e stored)
   followed-same old None was kind none =
       absurd (none-some (unstamped old) (sym (ap (option_map unstamped) none) ∙ same e.id ∙ ap (option_map unstamped) was))
   followed-same old (Some held) was kind found =
@@ -110,19 +110,19 @@ module _ (snapshot stored : List Drawn) (e : Drawn) (rise : are_rising (ids_of s
       let pair : Pair = record { before = e; after = old } in
       put-same e (undone pair held) snapshot stored rise rise' (now-back pair (is, own.0) (sym own.1) (sym kind) held alike) same
 
-  carried-same : (o : Option Drawn) → element_of stored e.id ≡ o → SameAs (carried_over o e snapshot) (with_put e stored)
+  carried-same : (o : Option ElementValue) → element_of stored e.id ≡ o → SameAs (carried_over o e snapshot) (with_put e stored)
   carried-same None none = put-same e e snapshot stored rise rise' refl same
   carried-same (Some old) was =
       cond_both (same_kind old.kind e.kind) (followed (element_of snapshot e.id) old e snapshot) (with_put e snapshot) (λ es. SameAs es (with_put e stored))
       (λ t. followed-same old (element_of snapshot e.id) was (same_kind-true old.kind e.kind (found-is stored e.id old are' was).0.0.kind is.0.kind t) refl)
       (λ f. put-same e e snapshot stored rise rise' refl same)
 
-before-is : (stored : List Drawn) (id : List ℕ) (o : Option Drawn) → AreElements stored → element_of stored id ≡ o → IfSome o Is
+before-is : (stored : List ElementValue) (id : List ℕ) (o : Option ElementValue) → AreElements stored → element_of stored id ≡ o → IfSome o Is
 before-is stored id None are found = tt
 before-is stored id (Some old) are found = (found-is stored id old are found).0
 
 -- and so is each of a list
-all-same : (list snapshot stored : List Drawn) → are_rising (ids_of snapshot) ≡ true → are_rising (ids_of stored) ≡ true → AreElements snapshot → AreElements stored → AreElements list → SameAs snapshot stored
+all-same : (list snapshot stored : List ElementValue) → are_rising (ids_of snapshot) ≡ true → are_rising (ids_of stored) ≡ true → AreElements snapshot → AreElements stored → AreElements list → SameAs snapshot stored
     → SameAs (carried_all (takings stored list) snapshot) (taken_all list stored)
 all-same [] snapshot stored rise rise' are are' all same = same
 all-same (e ∷ more) snapshot stored rise rise' are are' all same =
@@ -147,24 +147,24 @@ all-same (e ∷ more) snapshot stored rise rise' are are' all same =
     ])
 
 -- ---- lists whose ids rise
-find-unstamped : (id : List ℕ) (es : List Drawn) → bare_of es id ≡ element_of (map unstamped es) id
+find-unstamped : (id : List ℕ) (es : List ElementValue) → bare_of es id ≡ element_of (map unstamped es) id
 find-unstamped id [] = refl
 find-unstamped id (e ∷ es) =
-    elim (is_of id e) as (λ b. option_map unstamped (cond b (Some e) (element_of es id)) ≡ cond b (Some (unstamped e)) (element_of (map unstamped es) id)) [
+    elim (has_id id e) as (λ b. option_map unstamped (cond b (Some e) (element_of es id)) ≡ cond b (Some (unstamped e)) (element_of (map unstamped es) id)) [
       | true ↦ refl
       | false ↦ find-unstamped id es
     ]
 
-ids-unstamped : (es : List Drawn) → ids_of (map unstamped es) ≡ ids_of es
+ids-unstamped : (es : List ElementValue) → ids_of (map unstamped es) ≡ ids_of es
 ids-unstamped [] = refl
 ids-unstamped (e ∷ es) = ap (λ ids. e.id ∷ ids) (ids-unstamped es)
 
-bare-same : (a b : List Drawn) → are_rising (ids_of a) ≡ true → are_rising (ids_of b) ≡ true → SameAs a b → map unstamped a ≡ map unstamped b
+bare-same : (a b : List ElementValue) → are_rising (ids_of a) ≡ true → are_rising (ids_of b) ≡ true → SameAs a b → map unstamped a ≡ map unstamped b
 bare-same a b rise rise' same =
     same_elements (map unstamped a) (map unstamped b) (ap are_rising (ids-unstamped a) ∙ rise) (ap are_rising (ids-unstamped b) ∙ rise')
     (λ id. sym (find-unstamped id a) ∙ same id ∙ find-unstamped id b)
 
-pub carried-captured : (s : State) (list : List Drawn) → IsKept s → AreElements list → IsCaptured s → IsCaptured (carried_with list s)
+pub carried-captured : (s : State) (list : List ElementValue) → IsKept s → AreElements list → IsCaptured s → IsCaptured (carried_with list s)
 carried-captured s list kept are still =
     bare-same (carried_all (takings s.stored list) s.snapshot) (taken_all list s.stored) (carried_all-rising (takings s.stored list) s.snapshot kept.snapshot_rise)
     (taken_all-rising s.stored list kept.stored_rise)

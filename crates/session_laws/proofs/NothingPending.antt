@@ -3,10 +3,10 @@ use Rattle.std.proofs.Common.{◌≡◌, ◌≤◌, ◌<◌, ◌==◌, ℕ, zero
 use Rattle.std.specs.List.{AllByRecursion}
 use Rattle.std.proofs.lemmas.Bool.{cases_Bool, eqb-true, eqb-false}
 use Rattle.std.proofs.lemmas.List.Elements.{All-filter}
-use Rattle.elem.specs.Drawn.{Drawn}
+use Rattle.elem.specs.ElementValue.{ElementValue}
 use Rattle.elem.specs.Facts.{IsElement, greatest_whole}
 use Rattle.elem.specs.Order.{unstamped}
-use Rattle.elem.specs.Said.{IsWritten, AreElements}
+use Rattle.elem.specs.Said.{HasValidTexts, AreElements}
 use Rattle.delta.specs.Pairs.{Pair}
 use Rattle.reconcile.specs.Ids.{is_held, free_elements}
 use Rattle.effects.specs.declared.command.Capture.{Capture}
@@ -46,15 +46,15 @@ redo-still None s still = captured-still s
 redo-still (Some (Err id)) s still = still
 redo-still (Some (Ok turn)) s still = refl
 
-outcome-still : (capture : Capture) (o : Result (List Drawn) Refusal) (s : State) → IsKept s → ((given : List Drawn) → o ≡ Ok given → AreElements given) → (capture ≡ Later → ⊥) → IsCaptured s → IsCaptured (after_outcome capture o s)
+outcome-still : (capture : Capture) (o : Result (List ElementValue) Refusal) (s : State) → IsKept s → ((given : List ElementValue) → o ≡ Ok given → AreElements given) → (capture ≡ Later → ⊥) → IsCaptured s → IsCaptured (after_outcome capture o s)
 outcome-still Now (Ok given) s kept are soon still = captured-still (stored_with given s)
 outcome-still Later (Ok given) s kept are soon still = absurd (soon refl)
 outcome-still Never (Ok given) s kept are soon still = carried-captured s given kept (are given refl) still
 outcome-still capture (Err refusal) s kept are soon still = still
 
-delivery-still : (list : List Drawn) (s : State) → IsKept s → AreElements list → IsCaptured s → IsCaptured (after_delivery list s)
+delivery-still : (list : List ElementValue) (s : State) → IsKept s → AreElements list → IsCaptured s → IsCaptured (after_delivery list s)
 delivery-still list s kept are still =
-    carried-captured s (free_elements s.held list) kept (All-filter (λ (e : Drawn). not (is_held s.held e.id)) (λ e. IsElement e × IsWritten e) list are) still
+    carried-captured s (free_elements s.held list) kept (All-filter (λ (e : ElementValue). not (is_held s.held e.id)) (λ e. IsElement e × HasValidTexts e) list are) still
 
 undo_of-still : (time nonce : ℕ) (s : State) → IsCaptured s → IsCaptured (undo_of time nonce s).state
 unfolding undo_of
@@ -64,11 +64,11 @@ redo_of-still : (time nonce : ℕ) (s : State) → IsCaptured s → IsCaptured (
 unfolding redo_of
 redo_of-still time nonce s still = redo-still (redo_on time nonce s) s still
 
-delivered-still : (list : List Drawn) (s : Seat) → IsKept s.state → AreElements list → IsCaptured s.state → IsCaptured (delivered list s).state
+delivered-still : (list : List ElementValue) (s : Seat) → IsKept s.state → AreElements list → IsCaptured s.state → IsCaptured (delivered list s).state
 unfolding delivered
 delivered-still list s kept are still = delivery-still list s.state kept are still
 
-change_on-still : (command : Command) (capture : Capture) (time nonce : ℕ) (s : State) → IsKept s → ((given : List Drawn) → outcome_on command time nonce s ≡ Ok given → AreElements given) → (capture ≡ Later → ⊥) → IsCaptured s
+change_on-still : (command : Command) (capture : Capture) (time nonce : ℕ) (s : State) → IsKept s → ((given : List ElementValue) → outcome_on command time nonce s ≡ Ok given → AreElements given) → (capture ≡ Later → ⊥) → IsCaptured s
     → IsCaptured (change_on command capture time nonce s).state
 unfolding change_on
 change_on-still command capture time nonce s kept are soon still = outcome-still capture (outcome_on command time nonce s) s kept are soon still

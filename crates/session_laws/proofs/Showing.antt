@@ -3,7 +3,7 @@ use Rattle.std.proofs.Common.{◌≡◌, ℕ, Contains, ap}
 use Rattle.std.proofs.ByRecursion.{All-weaker}
 use Rattle.std.proofs.lemmas.List.Elements.{recursion_from_All}
 use Rattle.elem.specs.Facts.{IsElement}
-use Rattle.elem.specs.Said.{IsWritten}
+use Rattle.elem.specs.Said.{HasValidTexts}
 use Rattle.elem_store.specs.Updates.{HaveSameUpdates}
 use Rattle.scene_file.specs.Scenes.{scene_text}
 use Rattle.view.specs.Settled.{AreSettled}
@@ -30,8 +30,8 @@ module _ (session : Session) (is : IsSession session) (count : ℕ) where
     live-are : AreKept (live_elements s.state.stored)
     live-are =
         live-kept s.state.stored
-        (All-weaker (λ e. IsElement e × IsWritten e) IsKept (λ e h. record { element = h.0; written = h.1 }) s.state.stored
-        (recursion_from_All (λ e. IsElement e × IsWritten e) s.state.stored (states-sound session is count s among).stored_elements))
+        (All-weaker (λ e. IsElement e × HasValidTexts e) IsKept (λ e h. record { element = h.0; written = h.1 }) s.state.stored
+        (recursion_from_All (λ e. IsElement e × HasValidTexts e) s.state.stored (states-sound session is count s among).stored_elements))
 
     pub shows-rising : HaveRisingKeys (shown_at s)
     shows-rising = shown-keys (live_elements s.state.stored) (kept-keys (live_elements s.state.stored) live-are)

@@ -4,10 +4,11 @@ use Rattle.std.proofs.lemmas.Bool.{cases_Bool, both_ways, cond-true, cond-false}
 use Rattle.std.proofs.lemmas.Option.{none-some, same_Some}
 use Rattle.std.proofs.lemmas.List.Elements.{All-nil, All-cons, All-head, All-tail, All-filter}
 use Rattle.frac_keys.specs.Rising.{are_rising}
-use Rattle.elem.specs.Drawn.{Drawn}
+use Rattle.elem.specs.ElementValue.{ElementValue}
 use Rattle.elem.specs.Facts.{IsElement, greatest_whole}
-use Rattle.elem.specs.Said.{IsWritten, AreElements}
-use Rattle.elem_store.specs.Updates.{is_of, element_of, ids_of, is_taken, takings}
+use Rattle.elem.specs.Said.{HasValidTexts, AreElements}
+use Rattle.elem.specs.Order.{has_id}
+use Rattle.elem_store.specs.Updates.{element_of, ids_of, is_taken, takings}
 use Rattle.elem_store.proofs.Ids.{same_id, of_same}
 use Rattle.elem_store.proofs.Lists.{find-Some, filter-Contains, Contains-cases, Contains-head, Contains-cons}
 use Rattle.elem_store.proofs.Rising.{member}
@@ -39,7 +40,7 @@ use Rattle.given_elements.specs.Written.{IsWrittenCommand}
 use Rattle.given_elements.proofs.GivenLaws.{board-given}
 
 -- something is stored of the id
-abbrev pub IsStoredIn : List Drawn → List ℕ → Type 0
+abbrev pub IsStoredIn : List ElementValue → List ℕ → Type 0
 IsStoredIn stored id = IsSome (element_of stored id)
 
 -- this holds of the id of each pair of a stack's entries
@@ -86,8 +87,8 @@ pub kept-nothing : IsKept nothing
 kept-nothing = record {
   stored_rise = refl;
   snapshot_rise = refl;
-  stored_elements = All-nil (λ e. IsElement e × IsWritten e);
-  snapshot_elements = All-nil (λ e. IsElement e × IsWritten e);
+  stored_elements = All-nil (λ e. IsElement e × HasValidTexts e);
+  snapshot_elements = All-nil (λ e. IsElement e × HasValidTexts e);
   kinds = kinds-stored [];
   undo_entries = All-nil IsEntry;
   redo_entries = All-nil IsEntry;
@@ -96,19 +97,19 @@ kept-nothing = record {
 }
 
 -- ---- what is stored stays stored
-pub id-stays : (stored list : List Drawn) (id : List ℕ) → are_rising (ids_of stored) ≡ true → IsStoredIn stored id → IsStoredIn (taken_all list stored) id
+pub id-stays : (stored list : List ElementValue) (id : List ℕ) → are_rising (ids_of stored) ≡ true → IsStoredIn stored id → IsStoredIn (taken_all list stored) id
 id-stays stored list id rise some =
     let itself = AreStored-itself stored rise in
     ids-stay stored list stored (taken_all list stored) id itself (taken_all-stored stored stored list itself) some
 
-ids-kept : (stored list : List Drawn) (stack : List (List Pair)) → are_rising (ids_of stored) ≡ true → HaveIds (IsStoredIn stored) stack → HaveIds (IsStoredIn (taken_all list stored)) stack
+ids-kept : (stored list : List ElementValue) (stack : List (List Pair)) → are_rising (ids_of stored) ≡ true → HaveIds (IsStoredIn stored) stack → HaveIds (IsStoredIn (taken_all list stored)) stack
 ids-kept stored list stack rise ids entry pair c d = id-stays stored list pair.after.id rise (ids entry pair c d)
 
 -- ---- a capture
-pending-ids : (snapshot stored : List Drawn) → are_rising (ids_of stored) ≡ true → (pair : Pair) → Contains (pending snapshot stored) pair → IsStoredIn stored pair.after.id
+pending-ids : (snapshot stored : List ElementValue) → are_rising (ids_of stored) ≡ true → (pair : Pair) → Contains (pending snapshot stored) pair → IsStoredIn stored pair.after.id
 pending-ids snapshot stored rise pair c =
     let among = (filter-Contains is_changed (pairs_from (element_of snapshot) stored) pair c).0 in
-    let of = Contains-map (λ (e : Drawn). pair_with (element_of snapshot e.id) e) stored pair among in
+    let of = Contains-map (λ (e : ElementValue). pair_with (element_of snapshot e.id) e) stored pair among in
     subst (λ (p : Pair). IsStoredIn stored p.after.id) of.2 (subst IsSome (sym (member None None stored of.0 rise of.1)) refl)
 
 noted-kept : (entry : List Pair) (s : State) → IsKept s → IsEntry entry → ((pair : Pair) → Contains entry pair → IsStoredIn s.stored pair.after.id) → IsKept (record (noted entry s) { snapshot = s.stored })
@@ -142,31 +143,31 @@ captured-kept s kept =
 
 -- ---- a change
 -- elements of the stored kinds were taken
-given-kinds : (snapshot stored given : List Drawn) → are_rising (ids_of stored) ≡ true → are_rising (ids_of given) ≡ true → ((e : Drawn) → Contains given e → is_taken stored e ≡ true)
-    → ((e old : Drawn) → Contains given e → element_of stored e.id ≡ Some old → old.kind ≡ e.kind) → AreOfStoredKinds snapshot stored → AreOfStoredKinds snapshot (taken_all given stored)
+given-kinds : (snapshot stored given : List ElementValue) → are_rising (ids_of stored) ≡ true → are_rising (ids_of given) ≡ true → ((e : ElementValue) → Contains given e → is_taken stored e ≡ true)
+    → ((e old : ElementValue) → Contains given e → element_of stored e.id ≡ Some old → old.kind ≡ e.kind) → AreOfStoredKinds snapshot stored → AreOfStoredKinds snapshot (taken_all given stored)
 given-kinds snapshot stored given rise ordered taken alike kinds id x has = by (element_of given id) refl
   where
-    by : (o : Option Drawn) → element_of given id ≡ o → (own : Drawn) × (element_of (taken_all given stored) id ≡ Some own) × (same_kind x.kind own.kind ≡ true)
+    by : (o : Option ElementValue) → element_of given id ≡ o → (own : ElementValue) × (element_of (taken_all given stored) id ≡ Some own) × (same_kind x.kind own.kind ≡ true)
     by (Some e) found =
-        let among = find-Some (is_of id) given e found in
+        let among = find-Some (has_id id) given e found in
         let same : id ≡ e.id = same_id id e among.1 in
         let own = kinds id x has in
         let kind : own.0.kind ≡ e.kind = alike e own.0 among.0 (ap (element_of stored) (sym same) ∙ own.1) in
         (e, ap (element_of (taken_all given stored)) same ∙ taken-at stored given e rise ordered taken among.0, ap (same_kind x.kind) (sym kind) ∙ own.2)
     by None none =
         let own = kinds id x has in
-        let apart : (e : Drawn) → Contains given e → e.id ≡ id → ⊥ = λ e c same. both_ways (is_of id e) (absent id given e none c) (of_same id e (sym same)) in
+        let apart : (e : ElementValue) → Contains given e → e.id ≡ id → ⊥ = λ e c same. both_ways (has_id id e) (absent id given e none c) (of_same id e (sym same)) in
         (own.0, taken-else stored given id rise apart ∙ own.1, own.2)
 
 -- What a change gives: elements in the order of their ids that are taken and of the stored kinds.
-pub record AreGiven (stored given : List Drawn) : Type 0 where
+pub record AreGiven (stored given : List ElementValue) : Type 0 where
   pub rise : are_rising (ids_of given) ≡ true
   pub elements : AreElements given
-  pub taken : (e : Drawn) → Contains given e → is_taken stored e ≡ true
-  pub kinds : (e old : Drawn) → Contains given e → element_of stored e.id ≡ Some old → old.kind ≡ e.kind
+  pub taken : (e : ElementValue) → Contains given e → is_taken stored e ≡ true
+  pub kinds : (e old : ElementValue) → Contains given e → element_of stored e.id ≡ Some old → old.kind ≡ e.kind
 
 module _ (s : State) (kept : IsKept s) where
-  stored-kept : (given : List Drawn) → AreGiven s.stored given → IsKept (stored_with given s)
+  stored-kept : (given : List ElementValue) → AreGiven s.stored given → IsKept (stored_with given s)
   stored-kept given are = record {
     stored_rise = taken_all-rising s.stored given kept.stored_rise;
     snapshot_rise = kept.snapshot_rise;
@@ -179,7 +180,7 @@ module _ (s : State) (kept : IsKept s) where
     redo_ids = ids-kept s.stored given s.redo kept.stored_rise kept.redo_ids;
   }
 
-  carried-kept : (list : List Drawn) → AreElements list → IsKept (carried_with list s)
+  carried-kept : (list : List ElementValue) → AreElements list → IsKept (carried_with list s)
   carried-kept list are = record {
     stored_rise = taken_all-rising s.stored list kept.stored_rise;
     snapshot_rise = carried_all-rising (takings s.stored list) s.snapshot kept.snapshot_rise;
@@ -192,17 +193,17 @@ module _ (s : State) (kept : IsKept s) where
     redo_ids = ids-kept s.stored list s.redo kept.stored_rise kept.redo_ids;
   }
 
-  given-kept : (capture : Capture) (given : List Drawn) → AreGiven s.stored given → IsKept (after_given capture given s)
+  given-kept : (capture : Capture) (given : List ElementValue) → AreGiven s.stored given → IsKept (after_given capture given s)
   given-kept Now given are = captured-kept (stored_with given s) (stored-kept given are)
   given-kept Later given are = stored-kept given are
   given-kept Never given are = carried-kept given are.elements
 
-  outcome-kept : (capture : Capture) (o : Result (List Drawn) Refusal) → ((given : List Drawn) → o ≡ Ok given → AreGiven s.stored given) → IsKept (after_outcome capture o s)
+  outcome-kept : (capture : Capture) (o : Result (List ElementValue) Refusal) → ((given : List ElementValue) → o ≡ Ok given → AreGiven s.stored given) → IsKept (after_outcome capture o s)
   outcome-kept capture (Ok given) are = given-kept capture given (are given refl)
   outcome-kept capture (Err refusal) are = kept
 
   -- what a command of a user gives
-  pub command-given : (command : Command) (time nonce : ℕ) (given : List Drawn) → IsWithinLimits command → IsWrittenCommand command → time ≤ greatest_whole → nonce ≤ greatest_whole
+  pub command-given : (command : Command) (time nonce : ℕ) (given : List ElementValue) → IsWithinLimits command → IsWrittenCommand command → time ≤ greatest_whole → nonce ≤ greatest_whole
       → outcome_on command time nonce s ≡ Ok given → AreGiven s.stored given
   command-given command time nonce given limits written early small told = record {
     rise = given-rise s.stored (shown (live_elements s.stored)) command time nonce given told kept.stored_rise;
@@ -217,9 +218,9 @@ module _ (s : State) (kept : IsKept s) where
       outcome-kept capture (outcome_on command time nonce s) (λ given told. command-given command time nonce given limits written early small told)
 
   -- ---- a delivery
-  pub delivery-kept : (list : List Drawn) → AreElements list → IsKept (after_delivery list s)
+  pub delivery-kept : (list : List ElementValue) → AreElements list → IsKept (after_delivery list s)
   delivery-kept list are =
-      carried-kept (free_elements s.held list) (All-filter (λ (e : Drawn). not (is_held s.held e.id)) (λ e. IsElement e × IsWritten e) list are)
+      carried-kept (free_elements s.held list) (All-filter (λ (e : ElementValue). not (is_held s.held e.id)) (λ e. IsElement e × HasValidTexts e) list are)
 
 -- ---- one step of undo or redo
 module _ (K : List ℕ → Type 0) where
@@ -229,7 +230,7 @@ module _ (K : List ℕ → Type 0) where
       subst (λ (p : Pair). K p.after.id) of.2 (subst K (sym (is.each of.0 of.1).1.id) (ids of.0 of.1))
 
   -- what holds of the ids of both stacks holds of those of both stacks once the topmost entry that is seen is gone
-  sought-ids : (stored : List Drawn) (stack to : List (List Pair)) (seen : Sought) → AreEntries stack → HaveIds K stack → HaveIds K to → sought stored stack to ≡ Some seen
+  sought-ids : (stored : List ElementValue) (stack to : List (List Pair)) (seen : Sought) → AreEntries stack → HaveIds K stack → HaveIds K to → sought stored stack to ≡ Some seen
       → HaveIds K seen.below × HaveIds K seen.to
   sought-ids stored [] to seen are ids ids' h = absurd (none-some seen h)
   sought-ids stored (entry ∷ stack) to seen are ids ids' h =
@@ -247,27 +248,27 @@ module _ (K : List ℕ → Type 0) where
       ]
 
 -- an element that a step gives has a stored id
-given-id : (stored : List Drawn) (time nonce : ℕ) (pairs : List Pair) (e : Drawn) → AreElements stored → Contains (given stored time nonce pairs) e → IsStoredIn stored e.id
+given-id : (stored : List ElementValue) (time nonce : ℕ) (pairs : List Pair) (e : ElementValue) → AreElements stored → Contains (given stored time nonce pairs) e → IsStoredIn stored e.id
 given-id stored time nonce pairs e are c =
     let gives = given-each stored time nonce pairs e c in
     let id : e.id ≡ gives.pair.after.id =
-    ap (λ (x : Drawn). x.id) gives.is ∙ (undone-stamp gives.pair gives.now).id ∙ (found-is stored gives.pair.after.id gives.now are gives.found).1 in
+    ap (λ (x : ElementValue). x.id) gives.is ∙ (undone-stamp gives.pair gives.now).id ∙ (found-is stored gives.pair.after.id gives.now are gives.found).1 in
     subst IsSome (sym (ap (element_of stored) id ∙ gives.found)) refl
 
-made-ids : (stored : List Drawn) (time nonce : ℕ) (pairs : List Pair) → AreElements stored → (pair : Pair) → Contains (made stored (given stored time nonce pairs)) pair → IsStoredIn stored pair.after.id
+made-ids : (stored : List ElementValue) (time nonce : ℕ) (pairs : List Pair) → AreElements stored → (pair : Pair) → Contains (made stored (given stored time nonce pairs)) pair → IsStoredIn stored pair.after.id
 made-ids stored time nonce pairs are pair c =
-    let of = Contains-map (λ (e : Drawn). pair_with (element_of stored e.id) e) (given stored time nonce pairs) pair c in
+    let of = Contains-map (λ (e : ElementValue). pair_with (element_of stored e.id) e) (given stored time nonce pairs) pair c in
     subst (λ (p : Pair). IsStoredIn stored p.after.id) of.2 (given-id stored time nonce pairs of.0 are of.1)
 
 -- What a step leaves: elements that are taken, and stacks of entries of stored ids.
-pub record IsKeptTurn (stored : List Drawn) (turn : Turn) : Type 0 where
+pub record IsKeptTurn (stored : List ElementValue) (turn : Turn) : Type 0 where
   pub elements : AreElements turn.given
   pub from : AreEntries turn.from
   pub to : AreEntries turn.to
   pub from_ids : HaveIds (IsStoredIn stored) turn.from
   pub to_ids : HaveIds (IsStoredIn stored) turn.to
 
-step-kept : (stored : List Drawn) (time nonce : ℕ) (from to : List (List Pair)) (turn : Turn) → AreElements stored → AreEntries from → AreEntries to → HaveIds (IsStoredIn stored) from → HaveIds (IsStoredIn stored) to
+step-kept : (stored : List ElementValue) (time nonce : ℕ) (from to : List (List Pair)) (turn : Turn) → AreElements stored → AreEntries from → AreEntries to → HaveIds (IsStoredIn stored) from → HaveIds (IsStoredIn stored) to
     → time ≤ greatest_whole → nonce ≤ greatest_whole → step stored time nonce from to ≡ Some (Ok turn) → IsKeptTurn stored turn
 step-kept stored time nonce from to turn are entries others ids ids' early small is =
     let sound = step-sound stored time nonce from to turn are entries others early small is in

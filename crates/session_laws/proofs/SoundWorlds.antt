@@ -7,9 +7,9 @@ use Rattle.std.proofs.lemmas.Nat.{or_lt}
 use Rattle.std.proofs.lemmas.List.{length-replicate}
 use Rattle.std.proofs.lemmas.List.Elements.{All-nil, All-cons, All-head, All-tail, All-append, All-push, All-set, All-get_or, All-replicate, All-contains, All-filter}
 use Rattle.rand_pcg.specs.Lcg.{Lcg}
-use Rattle.elem.specs.Drawn.{Drawn}
+use Rattle.elem.specs.ElementValue.{ElementValue}
 use Rattle.elem.specs.Facts.{IsElement, greatest_whole}
-use Rattle.elem.specs.Said.{IsWritten, AreElements}
+use Rattle.elem.specs.Said.{HasValidTexts, AreElements}
 use Rattle.effects.specs.declared.command.Capture.{Capture}
 use Rattle.effects.specs.declared.command.Command.{Command}
 use Rattle.effects.specs.declared.command.Refusal.{Refusal}
@@ -19,7 +19,7 @@ use Rattle.reconcile.specs.Ids.{is_held, free_elements}
 use Rattle.replica.specs.Sound.{IsSoundState}
 use Rattle.replica.specs.State.{State, outcome_on, undo_on, redo_on}
 use Rattle.scene_file.specs.declared.scene.Scene.{Scene}
-use Rattle.session_text.specs.Facts.{IsAmong, IsWithin, BringsElements, IsSession}
+use Rattle.session_text.specs.Facts.{IsAmong, IsEventWithinLimits, BringsElements, IsSession}
 use Rattle.session_text.specs.declared.event.Event.{Event}
 use Rattle.session_text.specs.declared.event.Event.TheVariants.{Change, Update, Deliver, Hold, Release, Undo, Redo}
 use Rattle.session_text.specs.declared.event.Pick.{Pick}
@@ -30,8 +30,8 @@ use Rattle.given_elements.specs.Written.{IsWrittenCommand}
 use Rattle.session_laws.proofs.SoundStates.{IsKept, kept-sound, kept-nothing, change-kept, command-given, delivery-kept, undo-kept, redo-kept, undo-turn, redo-turn}
 
 -- an element as its type keeps it
-abbrev Is : Drawn → Type 0
-Is e = IsElement e × IsWritten e
+abbrev Is : ElementValue → Type 0
+Is e = IsElement e × HasValidTexts e
 
 -- ---- nonces
 rotated-below : (n by : ℕ) → n < 2 ^ 32 → rotate_right w32 n by < 2 ^ 32
@@ -63,7 +63,7 @@ pub record IsKeptWorld (replicas : ℕ) (w : World) : Type 0 where
 -- an event at a seat that there is, within its limits, that brings elements
 pub record IsKeptEvent (replicas : ℕ) (event : Event) : Type 0 where
   pub among : IsAmong replicas event
-  pub within : IsWithin event
+  pub within : IsEventWithinLimits event
   pub brings : BringsElements event
 
 kept-fresh : IsKeptSeat fresh
@@ -94,26 +94,26 @@ module _ (replicas : ℕ) (w : World) (kept : IsKeptWorld replicas w) where
       }
 
 -- ---- what is picked
-message-elements : (messages : List (List Drawn)) (number : ℕ) → All AreElements messages → AreElements (get_or messages number [])
+message-elements : (messages : List (List ElementValue)) (number : ℕ) → All AreElements messages → AreElements (get_or messages number [])
 message-elements [] number all = All-nil Is
 message-elements (message ∷ messages) zero all = All-head AreElements message messages all
 message-elements (message ∷ messages) (suc number) all = message-elements messages number (All-tail AreElements message messages all)
 
-one-elements : (elements : List Drawn) (place : ℕ) → AreElements elements → AreElements (option_to_list (slice_get elements place))
+one-elements : (elements : List ElementValue) (place : ℕ) → AreElements elements → AreElements (option_to_list (slice_get elements place))
 one-elements [] place are = All-nil Is
 one-elements (e ∷ elements) zero are = All-cons Is e [] (All-head Is e elements are) (All-nil Is)
 one-elements (e ∷ elements) (suc place) are = one-elements elements place (All-tail Is e elements are)
 
-pick-elements : (messages : List (List Drawn)) (pick : Pick) → All AreElements messages → AreElements (picked messages pick)
+pick-elements : (messages : List (List ElementValue)) (pick : Pick) → All AreElements messages → AreElements (picked messages pick)
 pick-elements messages (Whole number) all = message-elements messages number all
 pick-elements messages (One number place) all = one-elements (get_or messages number []) place (message-elements messages number all)
 
-pub picked-elements : (messages : List (List Drawn)) (picks : List Pick) → All AreElements messages → AreElements (all_picked messages picks)
+pub picked-elements : (messages : List (List ElementValue)) (picks : List Pick) → All AreElements messages → AreElements (all_picked messages picks)
 picked-elements messages [] all = All-nil Is
 picked-elements messages (pick ∷ picks) all = All-append Is (picked messages pick) (all_picked messages picks) (pick-elements messages pick all) (picked-elements messages picks all)
 
 -- ---- what acts come to
-command-elements : (o : Result (List Drawn) Refusal) → ((given : List Drawn) → o ≡ Ok given → AreElements given) → AreElements (given_of (of_command o))
+command-elements : (o : Result (List ElementValue) Refusal) → ((given : List ElementValue) → o ≡ Ok given → AreElements given) → AreElements (given_of (of_command o))
 command-elements (Ok given) are = are given refl
 command-elements (Err refusal) are = All-nil Is
 
@@ -145,11 +145,11 @@ module _ (s : State) (kept : IsKept s) (time nonce : ℕ) (early : time ≤ grea
     step-elements (redo_on time nonce s) (λ turn is. (redo-turn s kept time nonce early small turn is).elements),
   )
 
-delivered-kept : (list : List Drawn) (s : Seat) → AreElements list → IsKeptSeat s → IsKeptSeat (delivered list s)
+delivered-kept : (list : List ElementValue) (s : Seat) → AreElements list → IsKeptSeat s → IsKeptSeat (delivered list s)
 unfolding delivered
 delivered-kept list s are kept = record {
   state = delivery-kept s.state kept.state list are;
-  taken = All-append Is s.taken (free_elements s.state.held list) kept.taken (All-filter (λ (e : Drawn). not (is_held s.state.held e.id)) Is list are);
+  taken = All-append Is s.taken (free_elements s.state.held list) kept.taken (All-filter (λ (e : ElementValue). not (is_held s.state.held e.id)) Is list are);
 }
 
 holding-kept : (ids : List (List ℕ)) (s : Seat) → IsKeptSeat s → IsKeptSeat (holding ids s)
@@ -203,7 +203,7 @@ module _ (replicas : ℕ) (few : replicas ≤ 64) where
   events-kept (event ∷ events) w all kept = events-kept events (after_event event w) all.1 (event-kept event w all.0 kept)
 
 -- ---- sessions
-all-events : (replicas : ℕ) (events : List Event) → AllByRecursion (IsAmong replicas) events → AllByRecursion IsWithin events → AllByRecursion BringsElements events → AllByRecursion (IsKeptEvent replicas) events
+all-events : (replicas : ℕ) (events : List Event) → AllByRecursion (IsAmong replicas) events → AllByRecursion IsEventWithinLimits events → AllByRecursion BringsElements events → AllByRecursion (IsKeptEvent replicas) events
 all-events replicas [] places limits brings = tt
 all-events replicas (event ∷ events) places limits brings =
     (record { among = places.0; within = limits.0; brings = brings.0 }, all-events replicas events places.1 limits.1 brings.1)
@@ -250,5 +250,5 @@ module _ (session : Session) (is : IsSession session) (count : ℕ) where
   pub taken-elements : (s : Seat) → Contains (world_after session count).seats s → AreElements s.taken
   taken-elements s among = (All-contains IsKeptSeat (world_after session count).seats s world-kept.seats among).taken
 
-  pub messages-elements : (message : List Drawn) → Contains (world_after session count).messages message → AreElements message
+  pub messages-elements : (message : List ElementValue) → Contains (world_after session count).messages message → AreElements message
   messages-elements message among = All-contains AreElements (world_after session count).messages message world-kept.messages among

@@ -2,11 +2,11 @@
 use Rattle.std.proofs.Common.{◌≡◌, ◌≤◌, ◌<◌, ◌+◌, ◌-◌, ℕ, List, [], ◌∷◌, ◌++◌, length, take, drop, map, None, refl, sym, ap, ◌∙◌, subst, length-append, arith}
 use Rattle.std.specs.List.{AllByRecursion}
 use Rattle.std.proofs.Math.Seq.{take-append_seam}
-use Rattle.elem.specs.Drawn.{Drawn}
+use Rattle.elem.specs.ElementValue.{ElementValue}
 use Rattle.elem.specs.Order.{unstamped}
 use Rattle.delta.specs.Pairs.{Pair}
 use Rattle.undoing.specs.Differing.{pending}
-use Rattle.replica.specs.Back.{IsAs, IsCaptured, changed, changed_all, AreChanges, undone_all, redone_all, AreUndone, AreRedone}
+use Rattle.replica.specs.Back.{IsAs, IsCaptured, changed, changed_all, AreChanges, undone_all, redone_all, AreUndos, AreRedos}
 use Rattle.replica.specs.Sound.{IsSoundState}
 use Rattle.replica.specs.State.{State, noted, stored_with, undo_on, redo_on}
 use Rattle.replica.proofs.Moving.{undone-all, undo-is_found, redone-is, redo-is_found}
@@ -35,11 +35,11 @@ held-as : (was now : State) → IsAs (unheld was) (unheld now) → IsAs was now
 held-as was now is = record { agrees = is.agrees; looks = is.looks }
 
 -- ---- several changes, one part after another
-changed-append : (givens more : List (List Drawn)) (s : State) → changed_all (givens ++ more) s ≡ changed_all more (changed_all givens s)
+changed-append : (givens more : List (List ElementValue)) (s : State) → changed_all (givens ++ more) s ≡ changed_all more (changed_all givens s)
 changed-append [] more s = refl
 changed-append (given ∷ givens) more s = changed-append givens more (changed given s)
 
-changes-append : (givens more : List (List Drawn)) (s : State) → AreChanges givens s → AreChanges more (changed_all givens s) → AreChanges (givens ++ more) s
+changes-append : (givens more : List (List ElementValue)) (s : State) → AreChanges givens s → AreChanges more (changed_all givens s) → AreChanges (givens ++ more) s
 changes-append [] more s are are' = are'
 changes-append (given ∷ givens) more s are are' = (are.0, changes-append givens more (changed given s) are.1 are')
 
@@ -48,12 +48,12 @@ noted-stored : (entry : List Pair) (s : State) → (noted entry s).stored ≡ s.
 noted-stored [] s = refl
 noted-stored (pair ∷ entry) s = refl
 
-changed-captured : (given : List Drawn) (s : State) → IsCaptured (changed given s)
+changed-captured : (given : List ElementValue) (s : State) → IsCaptured (changed given s)
 changed-captured given s =
     let t : State = stored_with given s in
     ap (map unstamped) (sym (noted-stored (pending t.snapshot t.stored) t))
 
-all-captured : (givens : List (List Drawn)) (s : State) → 1 ≤ length givens → IsCaptured (changed_all givens s)
+all-captured : (givens : List (List ElementValue)) (s : State) → 1 ≤ length givens → IsCaptured (changed_all givens s)
 all-captured [] s some = absurd (omega arith)
 all-captured (given ∷ []) s some = changed-captured given s
 all-captured (given ∷ other ∷ more) s some = all-captured (other ∷ more) (changed given s) (omega arith)
@@ -79,7 +79,7 @@ module _ (replicas : ℕ) (few : replicas ≤ 64) (w : World) (kept : IsKeptWorl
         let next : World = after changes in
         let lead = changes-lead replicas few at among changes w n all kept are in
         let lead' = undos-lead replicas few at among undos next n all' (events-kept replicas few changes w all kept) are' in
-        let done : AreUndone lead'.calls (changed_all lead.givens s) = subst (AreUndone lead'.calls) lead.comes lead'.done in
+        let done : AreUndos lead'.calls (changed_all lead.givens s) = subst (AreUndos lead'.calls) lead.comes lead'.done in
         let comes : unheld (state_at (after_events undos next) at) ≡ undone_all lead'.calls (changed_all lead.givens s) = lead'.comes ∙ ap (undone_all lead'.calls) lead.comes in
         let many = lead.many in
         let many' = lead'.many in
@@ -94,7 +94,7 @@ module _ (replicas : ℕ) (few : replicas ≤ 64) (w : World) (kept : IsKeptWorl
         let next : World = after changes in
         let lead = changes-lead replicas few at among changes w n all kept are in
         let lead' = undos-lead replicas few at among undos next j all' (events-kept replicas few changes w all kept) are' in
-        let done : AreUndone lead'.calls (changed_all lead.givens s) = subst (AreUndone lead'.calls) lead.comes lead'.done in
+        let done : AreUndos lead'.calls (changed_all lead.givens s) = subst (AreUndos lead'.calls) lead.comes lead'.done in
         let comes : unheld (state_at (after_events undos next) at) ≡ undone_all lead'.calls (changed_all lead.givens s) = lead'.comes ∙ ap (undone_all lead'.calls) lead.comes in
         let many = lead.many in
         let many' = lead'.many in
@@ -114,9 +114,9 @@ module _ (replicas : ℕ) (few : replicas ≤ 64) (w : World) (kept : IsKeptWorl
         let lead = changes-lead replicas few at among changes w n all kept are in
         let lead-2 = undos-lead replicas few at among undos w-2 j all-2 kept-2 are-2 in
         let lead-3 = redos-lead replicas few at among redos w-3 k all-3 kept-3 are-3 in
-        let undone : AreUndone lead-2.calls (changed_all lead.givens s) = subst (AreUndone lead-2.calls) lead.comes lead-2.done in
+        let undone : AreUndos lead-2.calls (changed_all lead.givens s) = subst (AreUndos lead-2.calls) lead.comes lead-2.done in
         let comes-2 : unheld (state_at w-3 at) ≡ undone_all lead-2.calls (changed_all lead.givens s) = lead-2.comes ∙ ap (undone_all lead-2.calls) lead.comes in
-        let redone : AreRedone lead-3.calls (undone_all lead-2.calls (changed_all lead.givens s)) = subst (AreRedone lead-3.calls) comes-2 lead-3.done in
+        let redone : AreRedos lead-3.calls (undone_all lead-2.calls (changed_all lead.givens s)) = subst (AreRedos lead-3.calls) comes-2 lead-3.done in
         let comes-3 : unheld (state_at (after_events redos w-3) at) ≡ redone_all lead-3.calls (undone_all lead-2.calls (changed_all lead.givens s)) =
         lead-3.comes ∙ ap (redone_all lead-3.calls) comes-2 in
         let many = lead.many in
@@ -142,13 +142,13 @@ module _ (replicas : ℕ) (few : replicas ≤ 64) (w : World) (kept : IsKeptWorl
         let lead-2 = changes-lead replicas few at among others w-2 l all-2 kept-2 are-2 in
         let lead-3 = undos-lead replicas few at among undos w-3 (r + l) all-3 kept-3 are-3 in
         let lead-4 = redos-lead replicas few at among redos w-4 r all-4 kept-4 are-4 in
-        let givens : List (List Drawn) = lead.givens ++ lead-2.givens in
+        let givens : List (List ElementValue) = lead.givens ++ lead-2.givens in
         let comes-3 : unheld (state_at w-3 at) ≡ changed_all givens s =
         lead-2.comes ∙ ap (changed_all lead-2.givens) lead.comes ∙ sym (changed-append lead.givens lead-2.givens s) in
         let changes : AreChanges givens s = changes-append lead.givens lead-2.givens s lead.changes (subst (AreChanges lead-2.givens) lead.comes lead-2.changes) in
-        let undone : AreUndone lead-3.calls (changed_all givens s) = subst (AreUndone lead-3.calls) comes-3 lead-3.done in
+        let undone : AreUndos lead-3.calls (changed_all givens s) = subst (AreUndos lead-3.calls) comes-3 lead-3.done in
         let comes-4 : unheld (state_at w-4 at) ≡ undone_all lead-3.calls (changed_all givens s) = lead-3.comes ∙ ap (undone_all lead-3.calls) comes-3 in
-        let redone : AreRedone lead-4.calls (undone_all lead-3.calls (changed_all givens s)) = subst (AreRedone lead-4.calls) comes-4 lead-4.done in
+        let redone : AreRedos lead-4.calls (undone_all lead-3.calls (changed_all givens s)) = subst (AreRedos lead-4.calls) comes-4 lead-4.done in
         let comes-5 : unheld (state_at (after_events redos w-4) at) ≡ redone_all lead-4.calls (undone_all lead-3.calls (changed_all givens s)) =
         lead-4.comes ∙ ap (redone_all lead-4.calls) comes-4 in
         let many = lead.many in

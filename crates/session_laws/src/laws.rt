@@ -2,7 +2,7 @@
 
 ghost use Rattle.std.specs.Prelude.{◌≡◌, ◌≢◌, ◌≤◌, ◌<◌, ◌+◌, ℕ, List, ◌++◌, None, Contains, drop, take};
 ghost use Rattle.std.specs.List.{AllByRecursion};
-ghost use Rattle.elem.specs.Drawn.{Drawn};
+ghost use Rattle.elem.specs.ElementValue.{ElementValue};
 ghost use Rattle.elem.specs.Said.{AreElements};
 ghost use Rattle.elem_store.specs.Updates.{HaveSameUpdates};
 ghost use Rattle.replica.specs.Back.{IsAs, IsCaptured};
@@ -24,7 +24,7 @@ pub fn states_are_sound()
         → Contains (world_after session count).seats s → IsSoundState s.state }
     ensures taken { (session : Session) (count : ℕ) (s : Seat) → IsSession session
         → Contains (world_after session count).seats s → AreElements s.taken }
-    ensures messages { (session : Session) (count : ℕ) (message : List Drawn) → IsSession session
+    ensures messages { (session : Session) (count : ℕ) (message : List ElementValue) → IsSession session
         → Contains (world_after session count).messages message → AreElements message }
 {}
 

@@ -3,7 +3,7 @@ use Rattle.std.proofs.Common.{◌≡◌, ◌⊎◌, inl, inr, ℕ, ◌+◌, ◌�
 use Rattle.std.specs.List.{list_all, prefix_len}
 use Rattle.scene_json.specs.Characters.{is_blank, is_space}
 use Rattle.session_text.specs.Events.{EventText}
-use Rattle.session_text.specs.Sessions.{most_events, StandsAs, IsFaultAt, messages_of, made_after, LeadTo, IsSessionFault}
+use Rattle.session_text.specs.Sessions.{most_events, StandsAs, IsTextFaultAt, messages_of, made_after, LeadTo, IsSessionFault}
 use Rattle.session_text.specs.declared.event.Event.{Event}
 use Rattle.session_text.specs.declared.event.Event.TheVariants.{Change, Update, Deliver, Hold, Release, Undo, Redo}
 use Rattle.session_text.specs.declared.fault.TextFault.{TextFault}
@@ -68,7 +68,7 @@ too-many bytes head events made at are full more =
     record { head = head; events = events; end = at; lead = are.lead; full = full; more = more-at bytes at are.lead.within more }
 
 pub faulty-event : (bytes : List ℕ) (head : Header) (events : List Event) (made at number : ℕ) (fault : TextFault) → AreRead bytes head events made at → (length events ≡ most_events → ⊥)
-    → at + prefix_len is_space (drop at bytes) < length bytes → number ≡ length events + 2 → IsFaultAt (EventText head.replicas made) bytes at fault → IsSessionFault bytes (In number fault)
+    → at + prefix_len is_space (drop at bytes) < length bytes → number ≡ length events + 2 → IsTextFaultAt (EventText head.replicas made) bytes at fault → IsSessionFault bytes (In number fault)
 faulty-event bytes head events made at number fault are open_yet more counted is = inr (record {
   head = head;
   events = events;
@@ -77,5 +77,5 @@ faulty-event bytes head events made at number fault are open_yet more counted is
   more = more-at bytes at are.lead.within more;
   fewer = omega (arith, are.lead.few, open_yet);
   counted = counted;
-  faulty = subst (λ n. IsFaultAt (EventText head.replicas n) bytes at fault) are.counted is;
+  faulty = subst (λ n. IsTextFaultAt (EventText head.replicas n) bytes at fault) are.counted is;
 })

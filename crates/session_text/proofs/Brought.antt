@@ -9,14 +9,14 @@ use Rattle.scene_json.specs.Named.{value_at}
 use Rattle.scene_json.specs.declared.text.Member.{Member}
 use Rattle.scene_json.proofs.Lookups.{rising_distinct}
 use Rattle.index_repair.specs.Repair.{repaired}
-use Rattle.elem.specs.Drawn.{Drawn}
+use Rattle.elem.specs.ElementValue.{ElementValue}
 use Rattle.elem.specs.Facts.{IsElement, names}
 use Rattle.elem.specs.Forms.{find_in}
-use Rattle.elem.specs.Said.{IsWritten, AreElements}
+use Rattle.elem.specs.Said.{HasValidTexts, AreElements}
 use Rattle.elem.specs.Texts.{element_text}
 use Rattle.elem.proofs.FormsOnce.{names-rise}
 use Rattle.elem_read.specs.Elements.{AreRead}
-use Rattle.elem_read.specs.Reading.{IsWhole}
+use Rattle.elem_read.specs.Reading.{IsWholeElement}
 use Rattle.elem_read.proofs.Keeping.{found-has, found-self}
 use Rattle.elem_read.proofs.ReadElements.{All-whole}
 use Rattle.elem_read.proofs.Whole.{IsSound-read}
@@ -24,7 +24,7 @@ use Rattle.view.specs.Shown.{index_of, keyed}
 use Rattle.view.proofs.Kept.{keyed-elements}
 use Rattle.effects.specs.declared.command.Command.{Command}
 use Rattle.effects.specs.declared.command.Side.{Side}
-use Rattle.scene_file.specs.Reading.{given, loaded}
+use Rattle.scene_file.specs.Reading.{value_unless_null, loaded}
 use Rattle.scene_file.specs.declared.scene.Scene.{Scene as Board}
 use Rattle.session_text.specs.Commands.{EndOf, IdsAnd, CommandNamed}
 use Rattle.session_text.specs.Events.{SceneOf, CommandIn, EventNamed, HeaderText, EventText}
@@ -43,14 +43,14 @@ use Rattle.session_text.proofs.Readings.{then-ok, gives-ok}
 use Rattle.given_elements.specs.Written.{IsWrittenCommand}
 
 -- ---- elements
-read-elements : (values : List (List ℕ)) (elements : List Drawn) → AreRead values elements → AreElements elements
+read-elements : (values : List (List ℕ)) (elements : List ElementValue) → AreRead values elements → AreElements elements
 read-elements values elements read =
-    All-weaker IsWhole (λ e. IsElement e × IsWritten e)
+    All-weaker IsWholeElement (λ e. IsElement e × HasValidTexts e)
     (λ e whole. let sound = IsSound-read (element_text e) e whole in (sound.is_element, sound.written)) elements (All-whole values elements read)
 
-loaded-elements : (elements : List Drawn) → AreElements elements → AreElements (loaded elements)
+loaded-elements : (elements : List ElementValue) → AreElements elements → AreElements (loaded elements)
 loaded-elements elements are =
-    cond_both (list_all (λ (e : Drawn). is_some e.index) elements) elements (keyed elements (repaired (map index_of elements))) AreElements
+    cond_both (list_all (λ (e : ElementValue). is_some e.index) elements) elements (keyed elements (repaired (map index_of elements))) AreElements
     (λ t. are) (λ f. keyed-elements elements are)
 
 -- ---- the further members of a binding
@@ -191,4 +191,4 @@ header-elements text head says =
     let (replicas, few, next) = then-ok _ _ head more in
     let (seed, whole, behind) = then-ok _ _ head next in
     let (scene, is, last) = then-ok _ _ head behind in
-    subst (λ (h : Header). IfSome h.scene (λ (board : Board). AreElements board.elements)) (sym (gives-ok _ head last)) (scene-elements (given (codes "scene") members) scene is)
+    subst (λ (h : Header). IfSome h.scene (λ (board : Board). AreElements board.elements)) (sym (gives-ok _ head last)) (scene-elements (value_unless_null (codes "scene") members) scene is)

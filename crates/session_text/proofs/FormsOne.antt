@@ -16,13 +16,13 @@ use Rattle.scene_json.proofs.Forms.{StartsWith, quote-starts, array-starts, obje
 use Rattle.scene_json.proofs.Strings.{heads-differ}
 use Rattle.first_texts.specs.FirstOccurrences.{first_occurrences}
 use Rattle.elem.specs.Facts.{greatest_whole}
-use Rattle.elem.specs.Forms.{find_in, IsText, IsWhole, IsObject, AreTexts, AreOthers}
+use Rattle.elem.specs.Forms.{find_in, IsText, IsWholeNumber, IsObject, AreTexts, AreOthers}
 use Rattle.elem.proofs.FormsOnce.{text-once, whole-once, texts-once, members-once, others-once}
 use Rattle.elem.proofs.Once.{array-once}
 use Rattle.elem_read.proofs.Decided.{Decided, Fits, fits-in, text-or-not, texts-or-not, whole-or-not, others-exist}
 use Rattle.effects.specs.declared.command.Spot.{Spot}
 use Rattle.effects.specs.declared.command.Spot.TheVariants as spots
-use Rattle.session_text.specs.Forms.{IsFrom, IsThere, IsArray, HasMembers, IsShallow, AreIds, IsCapture, IsSide, IsAfter, IsSpot, IsRest, IsPair, IsPick, ArePicks, HasPicks, capture_text, side_text}
+use Rattle.session_text.specs.Forms.{IsFrom, IsThere, IsArray, HasObject, IsShallow, AreIds, IsCapture, IsSide, IsSpotAfter, IsSpot, IsRest, IsPair, IsPick, ArePicks, HasPicks, capture_text, side_text}
 use Rattle.effects.specs.declared.command.Capture.{Capture}
 use Rattle.effects.specs.declared.command.Capture.TheVariants as captures
 use Rattle.session_text.specs.declared.event.Pick.{Pick}
@@ -72,14 +72,14 @@ object-decided value is = elim (object-or-not value is) [
   | inr none ↦ inr (λ members object. none members object.spelled)
 ]
 
-pub has-decided : (found : Option (List ℕ)) → Fits found → Decided (HasMembers found)
+pub has-decided : (found : Option (List ℕ)) → Fits found → Decided (HasObject found)
 has-decided None fits = inr (λ members is. let e = is.1 in cc)
 has-decided (Some value) fits = elim (object-decided value fits) [
   | inl (members, object) ↦ inl (members, (value, refl, object))
   | inr none ↦ inr (λ members is. none members (subst (λ v. IsObject v members) (same-some (sym is.1)) is.2))
 ]
 
-pub has-once : (found : Option (List ℕ)) (a b : List Pair) → HasMembers found a → HasMembers found b → a ≡ b
+pub has-once : (found : Option (List ℕ)) (a b : List Pair) → HasObject found a → HasObject found b → a ≡ b
 has-once found a b one two = members-once two.0 a b (subst (λ v. IsObject v a) (same-some (sym one.1 ∙ two.1)) one.2) two.2
 
 pub shallow-decided : (found : Option (List ℕ)) → Fits found → Decided (IsShallow found)
@@ -135,7 +135,7 @@ quote-object text value members e object =
     let braced = object-starts members in
     heads-differ 34 123 quoted.0 braced.0 refl (sym quoted.1 ∙ (sym e ∙ (object.spelled ∙ braced.1)))
 
-after-once : (value a b : List ℕ) → IsAfter value a → IsAfter value b → a ≡ b
+after-once : (value a b : List ℕ) → IsSpotAfter value a → IsSpotAfter value b → a ≡ b
 after-once value a b one two =
     text-once (value_at (codes "after") two.0) a b (subst (λ ms. IsText (value_at (codes "after") ms) a) (members-once value one.0 two.0 one.1 two.1) one.2) two.2
 
@@ -151,7 +151,7 @@ spot-once (Some value) (spots.After a) spots.Top one two = absurd (quote-object 
 spot-once (Some value) (spots.After a) spots.Bottom one two = absurd (quote-object (codes "bottom") value one.0 two one.1)
 spot-once (Some value) (spots.After a) (spots.After b) one two = ap (λ id. spots.After id) (after-once value a b one two)
 
-after-decided : (value : List ℕ) → IsCompact 128 value → Decided (IsAfter value)
+after-decided : (value : List ℕ) → IsCompact 128 value → Decided (IsSpotAfter value)
 after-decided value is = elim (object-decided value is) [
   | inr none ↦ inr (λ id after. none after.0 after.1)
   | inl (members, object) ↦ elim (text-or-not (value_at (codes "after") members) (fits-in 127 members (lit≤ tt) object.are_members (codes "after"))) [
@@ -160,7 +160,7 @@ after-decided value is = elim (object-decided value is) [
   ]
 ]
 
-pub no-spot : (value : List ℕ) → value ≢ quote (codes "top") → value ≢ quote (codes "bottom") → ((id : List ℕ) → IsAfter value id → ⊥) → (spot : Spot) → IsSpot (Some value) spot → ⊥
+pub no-spot : (value : List ℕ) → value ≢ quote (codes "top") → value ≢ quote (codes "bottom") → ((id : List ℕ) → IsSpotAfter value id → ⊥) → (spot : Spot) → IsSpot (Some value) spot → ⊥
 no-spot value top bottom after spots.Top is = top is
 no-spot value top bottom after spots.Bottom is = bottom is
 no-spot value top bottom after (spots.After id) is = after id is
@@ -205,7 +205,7 @@ rest-once (Some value) a b (deep, (members, object, are)) (deep', (others, objec
 
 -- ---- picks
 -- a number is no array
-pub number-array : (item : List ℕ) (n : ℕ) (parts : List (List ℕ)) → IsWhole (Some item) n → IsArray (Some item) parts → ⊥
+pub number-array : (item : List ℕ) (n : ℕ) (parts : List (List ℕ)) → IsWholeNumber (Some item) n → IsArray (Some item) parts → ⊥
 number-array item n parts whole array =
     let starts = array-starts parts in
     let is : item ≡ 91 ∷ starts.0 = same-some array.1 ∙ starts.1 in
@@ -218,7 +218,7 @@ pair-once made parts a b (first, second, e, from, whole) (first', second', e', f
     let heads : first' ≡ first = head-same (sym e' ∙ e) in
     let seconds : second' ≡ second = second-same (sym e' ∙ e) in
     ap₂ (λ m i. (m, i)) (from-once 0 made (Some first) a.0 b.0 from (subst (λ v. IsFrom 0 made (Some v) b.0) heads from'))
-    (whole-once (Some second) a.1 b.1 whole (subst (λ v. IsWhole (Some v) b.1) seconds whole'))
+    (whole-once (Some second) a.1 b.1 whole (subst (λ v. IsWholeNumber (Some v) b.1) seconds whole'))
   where
     head-same : {x y : List ℕ} {xs ys : List (List ℕ)} → x ∷ xs ≡ y ∷ ys → x ≡ y
     head-same e = cc
@@ -241,7 +241,7 @@ pair-decided made (first ∷ second ∷ third ∷ more) = inr (λ pair is. let e
 pair-decided made (first ∷ second ∷ []) = elim (from-or-not 0 made (Some first)) [
   | inr none ↦ inr (λ pair is. none pair.0 (subst (λ v. IsFrom 0 made (Some v) pair.0) (let e = is.2 in cc) is.3))
   | inl (m, from) ↦ elim (whole-or-not (Some second)) [
-    | inr none ↦ inr (λ pair is. none pair.1 (subst (λ v. IsWhole (Some v) pair.1) (let e = is.2 in cc) is.4))
+    | inr none ↦ inr (λ pair is. none pair.1 (subst (λ v. IsWholeNumber (Some v) pair.1) (let e = is.2 in cc) is.4))
     | inl (i, whole) ↦ inl ((m, i), (first, second, refl, from, whole))
   ]
 ]

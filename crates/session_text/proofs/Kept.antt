@@ -16,13 +16,13 @@ use Rattle.effects.specs.Limits.{IsWithinLimits}
 use Rattle.effects.specs.Limits as limits
 use Rattle.effects.specs.declared.command.Command.{Command}
 use Rattle.effects.specs.declared.command.Command.TheVariants as commands
-use Rattle.scene_file.specs.Reading.{given}
+use Rattle.scene_file.specs.Reading.{value_unless_null}
 use Rattle.scene_file.specs.Whole.{HaveKeys}
 use Rattle.scene_file.specs.declared.scene.Scene.{Scene as Board}
 use Rattle.scene_file.proofs.Sound.{loaded-keys}
 use Rattle.session_text.specs.Commands.{CommandNamed, CommandOf}
 use Rattle.session_text.specs.Events.{HeaderOf, SceneOf, TimeOf, HeldOf, CommandIn, EventNamed, HeaderText, EventText, header}
-use Rattle.session_text.specs.Facts.{IsAmong, IsWithin, IsOfMade, PicksMade, PickMade, IsSession}
+use Rattle.session_text.specs.Facts.{IsAmong, IsEventWithinLimits, IsOfMade, PicksMade, PickMade, IsSession}
 use Rattle.session_text.specs.Forms.{IsRest, IsPick, ArePicks, HasPicks}
 use Rattle.session_text.specs.Sessions.{most_events, messages_of, EventsLead, IsSessionOf}
 use Rattle.session_text.specs.declared.command.Asked.{Asked}
@@ -127,7 +127,7 @@ picks-made made (item ∷ items) all (pick, others, same, is, are) =
 -- what holds of an event
 record IsKept (replicas made : ℕ) (event : Event) : Type 0 where
   place : IsAmong replicas event
-  limits : IsWithin event
+  limits : IsEventWithinLimits event
   picks : PicksMade made event
 
 time-kept : (replicas : ℕ) (members : List Pair) (when : ℕ × ℕ) → TimeOf replicas members (Ok when) → (when.0 < replicas) × (when.1 ≤ greatest_whole)
@@ -180,7 +180,7 @@ event-kept replicas made text event says =
 -- what holds of events
 record AreKept (replicas made : ℕ) (all : List Event) : Type 0 where
   places : AllByRecursion (IsAmong replicas) all
-  limits : AllByRecursion IsWithin all
+  limits : AllByRecursion IsEventWithinLimits all
   picks : PickMade made all
 
 events-kept : (replicas made : ℕ) (bytes rest : List ℕ) (all : List Event) → EventsLead replicas made bytes all rest → AreKept replicas made all
@@ -210,7 +210,7 @@ header-kept text head says =
     let (replicas, few, next) = then-ok _ _ head more in
     let (seed, whole, behind) = then-ok _ _ head next in
     let (scene, is, last) = then-ok _ _ head behind in
-    subst IsHead (sym (gives-ok _ head last)) (record { some = few.1; most = omega (arith, few.2); seed = whole.0; keys = scene-keys (given (codes "scene") members) scene is })
+    subst IsHead (sym (gives-ok _ head last)) (record { some = few.1; most = omega (arith, few.2); seed = whole.0; keys = scene-keys (value_unless_null (codes "scene") members) scene is })
 
 pub session-kept : (bytes : List ℕ) (session : Session) → IsSessionOf bytes session → IsSession session
 session-kept bytes session is =

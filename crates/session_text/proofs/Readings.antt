@@ -3,7 +3,7 @@ use Rattle.std.proofs.Common.{◌≡◌, ◌⊎◌, inl, inr, Result, Ok, Err, r
 use Rattle.board_io.specs.declared.stop.Stop.{Stop}
 use Rattle.board_io.specs.declared.stop.Stop.TheVariants.{Fault, Memory}
 use Rattle.elem_read.proofs.Decided.{Decided}
-use Rattle.session_text.specs.Reads.{Or, Gives, Then, Answers, IsAnswer}
+use Rattle.session_text.specs.Reads.{Or, Gives, Then, Answers, IsReadResult}
 use Rattle.session_text.specs.Reads.Then.{goes_on, ends}
 use Rattle.session_text.specs.declared.fault.TextFault.{TextFault}
 
@@ -68,7 +68,7 @@ gives-ok x y e = given-same e
 
 -- ---- calls
 pub went_on : {A B : Type 0} {First : Result A TextFault → Type 0} {Next : A → Result B TextFault → Type 0} {x : A} {result : Result B (Stop TextFault)}
-    → IsAnswer First (Ok x) → IsAnswer (Next x) result → IsAnswer (Then First Next) result
+    → IsReadResult First (Ok x) → IsReadResult (Next x) result → IsReadResult (Then First Next) result
 went_on {A = A} {B = B} {First = First} {Next = Next} {x = x} {result = result} is more = record { read = by result more.read }
   where
     by : (r : Result B (Stop TextFault)) → Answers (Next x) r → Answers (Then First Next) r
@@ -77,22 +77,22 @@ went_on {A = A} {B = B} {First = First} {Next = Next} {x = x} {result = result} 
     by (Err Memory) reads = tt
 
 pub stopped : {A B : Type 0} {First : Result A TextFault → Type 0} {Next : A → Result B TextFault → Type 0} {stop : Stop TextFault}
-    → IsAnswer First (Err stop) → IsAnswer (Then First Next) (Err stop)
+    → IsReadResult First (Err stop) → IsReadResult (Then First Next) (Err stop)
 stopped {A = A} {B = B} {First = First} {Next = Next} {stop = stop} is = record { read = by stop is.read }
   where
     by : (s : Stop TextFault) → Answers {A = A} First (Err s) → Answers {A = B} (Then First Next) (Err s)
     by (Fault fault) reads = ends fault reads refl
     by Memory reads = tt
 
-pub given_last : {A : Type 0} {x : A} → IsAnswer (Gives x) (Ok x)
+pub given_last : {A : Type 0} {x : A} → IsReadResult (Gives x) (Ok x)
 given_last = record { read = refl }
 
 -- want of memory
-pub wanting : {A : Type 0} {Reads : Result A TextFault → Type 0} → IsAnswer Reads (Err Memory)
+pub wanting : {A : Type 0} {Reads : Result A TextFault → Type 0} → IsReadResult Reads (Err Memory)
 wanting = record { read = tt }
 
-pub told : {A : Type 0} (Reads : Result A TextFault → Type 0) (stop : Stop TextFault) (fault : TextFault) → IsAnswer Reads (Err stop) → stop ≡ Fault fault → Reads (Err fault)
-told Reads stop fault is same = by (subst (λ (s : Stop TextFault). IsAnswer Reads (Err s)) same is)
+pub told : {A : Type 0} (Reads : Result A TextFault → Type 0) (stop : Stop TextFault) (fault : TextFault) → IsReadResult Reads (Err stop) → stop ≡ Fault fault → Reads (Err fault)
+told Reads stop fault is same = by (subst (λ (s : Stop TextFault). IsReadResult Reads (Err s)) same is)
   where
-    by : IsAnswer Reads (Err (Fault fault)) → Reads (Err fault)
+    by : IsReadResult Reads (Err (Fault fault)) → Reads (Err fault)
     by is = is.read

@@ -4,13 +4,13 @@ use Rattle.scene_json.specs.Compact.{Member as Pair}
 use Rattle.scene_json.specs.Named.{value_at}
 use Rattle.scene_json.specs.Parts.{AreMembers}
 use Rattle.scene_json.specs.Value.{IsCompact}
-use Rattle.elem.specs.Forms.{IsText, IsWhole, IsObject}
+use Rattle.elem.specs.Forms.{IsText, IsWholeNumber, IsObject}
 use Rattle.elem.proofs.FormsOnce.{text-once, whole-once, members-once}
 use Rattle.elem_read.proofs.Decided.{Decided, Fits, fits-in, text-or-not, whole-or-not}
 use Rattle.scene_file.specs.Reading as scene_reading
 use Rattle.session_text.specs.Commands.{asked_text, IsAsked, TextOf, ElementOf, IdsOf, IdsAnd, EndOf, CommandNamed, CommandOf}
 use Rattle.session_text.specs.Events.{HeaderOf, happening_text, IsHappening, TimeOf, HeldOf, CommandIn, ElementsIn, EventNamed, EventOf, HeaderText, EventText}
-use Rattle.session_text.specs.Forms.{IsFrom, IsThere, IsArray, HasMembers, IsShallow, AreIds, IsCapture, IsSide, IsSpot, IsRest, HasPicks, side_text}
+use Rattle.session_text.specs.Forms.{IsFrom, IsThere, IsArray, HasObject, IsShallow, AreIds, IsCapture, IsSide, IsSpot, IsRest, HasPicks, side_text}
 use Rattle.session_text.specs.Names.{word_of}
 use Rattle.session_text.specs.Reads.{Or, MemberOf, ObjectOf}
 use Rattle.session_text.specs.declared.command.Asked.{Asked}
@@ -23,14 +23,14 @@ use Rattle.session_text.specs.declared.name.MemberName.{MemberName}
 use Rattle.session_text.specs.declared.name.MemberName.TheVariants as names
 use Rattle.session_text.proofs.FormsOne.{from-once, from-or-not, there-or-not, there-once, array-decided, array-alike, object-decided, has-decided, has-once, shallow-decided, shallow-once, ids-decided, ids-once, told-decided, told-once, capture-decided, capture-once, side-decided, spot-once, spot-decided, rest-decided, rest-once, has_picks-decided, has_picks-once}
 use Rattle.session_text.proofs.Readings.{IsOne, gives-one, or-one, then-one}
-use Rattle.session_text.proofs.Values.{scene-one, fits-given, drawn-one, drawings-one}
+use Rattle.session_text.proofs.Values.{scene-one, fits-value_unless_null, drawn-one, drawings-one}
 use Rattle.session_text.proofs.Words.{all_sides, sides-told, all_asked, asked-told, all_happenings, happenings-told}
 
 fits : (members : List Pair) → AreMembers 127 members → (name : MemberName) → Fits (value_at (word_of name) members)
 fits members are name = fits-in 127 members (lit≤ tt) are (word_of name)
 
 -- ---- members
-whole-one : (members : List Pair) (name : MemberName) → IsOne (MemberOf name IsWhole members)
+whole-one : (members : List Pair) (name : MemberName) → IsOne (MemberOf name IsWholeNumber members)
 whole-one members name = or-one _ _ (whole-or-not (value_at (word_of name) members)) (whole-once (value_at (word_of name) members))
 
 from-one : (least limit : ℕ) (members : List Pair) (name : MemberName) → IsOne (MemberOf name (IsFrom least limit) members)
@@ -122,7 +122,7 @@ header-one members are =
     then-one _ _ (from-one 1 2 members names.Session) (λ version is.
     then-one _ _ (from-one 1 65 members names.Replicas) (λ replicas also.
     then-one _ _ (whole-one members names.Seed) (λ seed too.
-    then-one _ _ (scene-one (scene_reading.given (codes "scene") members) (fits-given (codes "scene") members are)) (λ scene last. gives-one _))))
+    then-one _ _ (scene-one (scene_reading.value_unless_null (codes "scene") members) (fits-value_unless_null (codes "scene") members are)) (λ scene last. gives-one _))))
 
 command_in-one : (members : List Pair) → AreMembers 127 members → IsOne (CommandIn members)
 command_in-one members are =

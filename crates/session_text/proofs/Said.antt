@@ -4,7 +4,7 @@ use Rattle.scene_json.specs.Characters.{quote}
 use Rattle.scene_json.specs.Compact.{Member as Pair}
 use Rattle.scene_json.specs.Named.{value_at}
 use Rattle.scene_json.specs.declared.text.Member.{Member}
-use Rattle.elem.specs.Drawn.{Drawn}
+use Rattle.elem.specs.ElementValue.{ElementValue}
 use Rattle.elem.specs.Forms.{IsText}
 use Rattle.effects.specs.declared.command.Capture.{Capture}
 use Rattle.effects.specs.declared.command.Command.{Command}
@@ -25,7 +25,7 @@ abbrev pub Has : List Pair → List ℕ → List ℕ → Type 0
 Has members name value = value_at name members ≡ Some value
 
 -- ---- commands
-pub create-said : (members : List Pair) (e : Drawn) (spot : Spot) → Has members (codes "name") (quote (codes "create")) → ElementOf members (Ok e) → IsSpot (value_at (codes "spot") members) spot →
+pub create-said : (members : List Pair) (e : ElementValue) (spot : Spot) → Has members (codes "name") (quote (codes "create")) → ElementOf members (Ok e) → IsSpot (value_at (codes "spot") members) spot →
     CommandOf members (Ok (commands.Create e spot))
 create-said members e spot named element place = goes_on asked.Create named (goes_on e element (goes_on spot place refl))
 

@@ -11,7 +11,7 @@ use Rattle.scene_json.proofs.FirstFaults as json
 use Rattle.scene_json.proofs.Reading.{Stands-once}
 use Rattle.scene_file.proofs.Blanks.{Stands-no_blank, Stands-behind}
 use Rattle.session_text.specs.Events.{HeaderText, EventText, header}
-use Rattle.session_text.specs.Sessions.{most_events, StandsAs, IsFaultAt, messages_of, made_after, EventsLead, LeadTo, IsSessionOf, HasFaultyEvent, HasTooMany, IsSessionFault}
+use Rattle.session_text.specs.Sessions.{most_events, StandsAs, IsTextFaultAt, messages_of, made_after, EventsLead, LeadTo, IsSessionOf, HasFaultyEvent, HasTooMany, IsSessionFault}
 use Rattle.session_text.specs.declared.event.Event.{Event}
 use Rattle.session_text.specs.declared.fault.TextFault.{TextFault}
 use Rattle.session_text.specs.declared.fault.TextFault.TheVariants.{Json}
@@ -34,7 +34,7 @@ stands-once Says ones bytes x y rest next (text, stands, is) (other, also, says)
     (given-same ((ones text (Value-compact stands.reads)).once (Ok x) (Ok y) is (subst (λ t. Says t (Ok y)) both.0 says)), sym both.1)
 
 fault-alike : {A : Type 0} (Says : List ℕ → Result A TextFault → Type 0) → AreOne Says → (bytes : List ℕ) (at : ℕ) (f g : TextFault)
-    → IsFaultAt Says bytes at f → IsFaultAt Says bytes at g → f ≡ g
+    → IsTextFaultAt Says bytes at f → IsTextFaultAt Says bytes at g → f ≡ g
 fault-alike Says ones bytes at f g (inl (found, e, first)) (inl (why, e', also)) =
     e ∙ (ap Json (json.fault-once bytes at found why first.first also.first) ∙ sym e')
 fault-alike Says ones bytes at f g (inl (found, e, first)) (inr (text, rest, stands, is)) = absurd (first.faulty text rest stands)
@@ -44,7 +44,7 @@ fault-alike {A = A} Says ones bytes at f g (inr (text, rest, stands, is)) (inr (
     refused-same A f g ((ones text (Value-compact stands.reads)).once (Err f) (Err g) is (subst (λ t. Says t (Err g)) both.0 says))
 
 fault-apart : {A : Type 0} (Says : List ℕ → Result A TextFault → Type 0) → AreOne Says → (bytes : List ℕ) (at : ℕ) (f : TextFault) (x : A) (rest : List ℕ)
-    → IsFaultAt Says bytes at f → StandsAs Says (drop at bytes) x rest → ⊥
+    → IsTextFaultAt Says bytes at f → StandsAs Says (drop at bytes) x rest → ⊥
 fault-apart Says ones bytes at f x rest (inl (found, e, first)) (text, stands, is) = first.faulty text rest stands
 fault-apart Says ones bytes at f x rest (inr (text, next, stands, is)) (other, also, says) =
     let both = Stands-once also stands in
@@ -57,14 +57,14 @@ record TextAt {A : Type 0} (Says : List ℕ → Result A TextFault → Type 0) (
   stands : StandsAs Says (drop at bytes) x (drop end bytes)
 
 text-or-fault : {A : Type 0} (Says : List ℕ → Result A TextFault → Type 0) → AreOne Says → (bytes : List ℕ) (at : ℕ) → at ≤ length bytes
-    → ((x : A) × (end : ℕ) × TextAt Says bytes at x end) ⊎ ((fault : TextFault) × IsFaultAt Says bytes at fault)
+    → ((x : A) × (end : ℕ) × TextAt Says bytes at x end) ⊎ ((fault : TextFault) × IsTextFaultAt Says bytes at fault)
 text-or-fault {A = A} Says ones bytes at within = elim (value-or-fault bytes at within) [
   | inr (found, first) ↦ inr (Json found, inl (found, refl, first))
   | inl (text, end, small, stands) ↦ by text end small stands (ones text (Value-compact stands.reads)).some.0 (ones text (Value-compact stands.reads)).some.1
 ]
   where
     by : (text : List ℕ) (end : ℕ) → end ≤ length bytes → Stands (drop at bytes) text (drop end bytes) → (answer : Result A TextFault) → Says text answer
-        → ((x : A) × (end : ℕ) × TextAt Says bytes at x end) ⊎ ((fault : TextFault) × IsFaultAt Says bytes at fault)
+        → ((x : A) × (end : ℕ) × TextAt Says bytes at x end) ⊎ ((fault : TextFault) × IsTextFaultAt Says bytes at fault)
     by text end small stands (Ok x) is = inl (x, end, record { behind = Stands-behind bytes text at end small stands; within = small; stands = (text, stands, is) })
     by text end small stands (Err fault) is = inr (fault, inr (text, drop end bytes, stands, is))
 
@@ -76,7 +76,7 @@ HasNoEvent replicas made bytes = (event : Event) (rest : List ℕ) → StandsAs 
 blank-none : (replicas made : ℕ) (bytes : List ℕ) → is_blank bytes ≡ true → HasNoEvent replicas made bytes
 blank-none replicas made bytes blank event rest (text, stands, is) = Stands-no_blank bytes text rest stands blank
 
-faulty-none : (replicas made : ℕ) (bytes : List ℕ) (at : ℕ) (fault : TextFault) → IsFaultAt (EventText replicas made) bytes at fault → HasNoEvent replicas made (drop at bytes)
+faulty-none : (replicas made : ℕ) (bytes : List ℕ) (at : ℕ) (fault : TextFault) → IsTextFaultAt (EventText replicas made) bytes at fault → HasNoEvent replicas made (drop at bytes)
 faulty-none replicas made bytes at fault is event rest stands = fault-apart (EventText replicas made) (event_text-one replicas made) bytes at fault event rest is stands
 
 -- so many events may still come, and no more do, or none stands there
@@ -135,7 +135,7 @@ faulty-ends bytes number fault is = record { lead = is.lead; last = inr (faulty-
 many-ends : (bytes : List ℕ) (is : HasTooMany bytes) → Ends bytes is.head is.events is.end
 many-ends bytes is = record { lead = is.lead; last = inl is.full }
 
-headless : (bytes : List ℕ) (fault : TextFault) (head : Header) (events : List Event) (end : ℕ) → IsFaultAt HeaderText bytes 0 fault → Ends bytes head events end → ⊥
+headless : (bytes : List ℕ) (fault : TextFault) (head : Header) (events : List Event) (end : ℕ) → IsTextFaultAt HeaderText bytes 0 fault → Ends bytes head events end → ⊥
 headless bytes fault head events end is ends = fault-apart HeaderText header_text-one bytes 0 fault head ends.lead.first is ends.lead.heads
 
 pub session-once : (bytes : List ℕ) (session other : Session) → IsSessionOf bytes session → IsSessionOf bytes other → session ≡ other
@@ -147,10 +147,10 @@ session-once bytes session other one two =
 faulty-once : (bytes : List ℕ) (n m : ℕ) (f g : TextFault) → HasFaultyEvent bytes n f → HasFaultyEvent bytes m g → (n ≡ m) × (f ≡ g)
 faulty-once bytes n m f g one two =
     let same = ends-once bytes one.head two.head one.events two.events one.start two.start (faulty-ends bytes n f one) (faulty-ends bytes m g two) in
-    let there : IsFaultAt (EventText one.head.replicas (made_after 0 one.events)) bytes one.start g =
-    subst (λ (h : Header). IsFaultAt (EventText h.replicas (made_after 0 one.events)) bytes one.start g) (sym same.0)
-    (subst (λ es. IsFaultAt (EventText two.head.replicas (made_after 0 es)) bytes one.start g) (sym same.1)
-    (subst (λ at. IsFaultAt (EventText two.head.replicas (made_after 0 two.events)) bytes at g) (sym same.2) two.faulty)) in (
+    let there : IsTextFaultAt (EventText one.head.replicas (made_after 0 one.events)) bytes one.start g =
+    subst (λ (h : Header). IsTextFaultAt (EventText h.replicas (made_after 0 one.events)) bytes one.start g) (sym same.0)
+    (subst (λ es. IsTextFaultAt (EventText two.head.replicas (made_after 0 es)) bytes one.start g) (sym same.1)
+    (subst (λ at. IsTextFaultAt (EventText two.head.replicas (made_after 0 two.events)) bytes at g) (sym same.2) two.faulty)) in (
       omega (arith, ap length same.1, one.counted, two.counted),
       fault-alike (EventText one.head.replicas (made_after 0 one.events)) (event_text-one one.head.replicas (made_after 0 one.events)) bytes one.start f g one.faulty there,
     )

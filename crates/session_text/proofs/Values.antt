@@ -7,7 +7,7 @@ use Rattle.scene_json.specs.Parts.{AreMembers}
 use Rattle.scene_json.specs.Tree.{null_word}
 use Rattle.scene_json.specs.Value.{IsCompact, Stands}
 use Rattle.scene_json.proofs.Reading.{Stands-once}
-use Rattle.elem.specs.Drawn.{Drawn}
+use Rattle.elem.specs.ElementValue.{ElementValue}
 use Rattle.elem_read.specs.Elements.{AreRead, IsFirstFaulty}
 use Rattle.elem_read.specs.Reading.{IsSelection, IsElementIn, IsFaultIn}
 use Rattle.elem_read.specs.declared.fault.ElemFault.{ElemFault}
@@ -17,7 +17,7 @@ use Rattle.elem_read.proofs.Read.{read-exists}
 use Rattle.elem_read.proofs.ReadElements.{read-once, faulty-once, faultless, read-or-faulty}
 use Rattle.elem_read.proofs.Unique.{element-once, element-faultless, element-kept, fault-dropped}
 use Rattle.elem_read.proofs.Unique as elements
-use Rattle.scene_file.specs.Reading.{given, IsSceneOf, IsSceneFault, IsSceneAt, IsFaultAt}
+use Rattle.scene_file.specs.Reading.{value_unless_null, IsSceneOf, IsSceneFault, IsSceneAt, IsSceneFaultAt}
 use Rattle.scene_file.specs.declared.fault.SceneFault.{SceneFault}
 use Rattle.scene_file.specs.declared.fault.SceneFault.TheVariants as scenes
 use Rattle.scene_file.specs.declared.scene.Scene.{Scene as Board}
@@ -37,13 +37,13 @@ alone text compact = record { blank = []; value = text; parts = sym (append-nil 
 scene-at : (value : List ℕ) (scene : Board) → IsCompact 128 value → IsSceneOf value scene → IsSceneAt value scene []
 scene-at value scene compact is = record { text = value; stands = alone value compact; says = is }
 
-fault-of : (value : List ℕ) (fault : SceneFault) → IsCompact 128 value → IsFaultAt value 0 fault → IsSceneFault value fault
+fault-of : (value : List ℕ) (fault : SceneFault) → IsCompact 128 value → IsSceneFaultAt value 0 fault → IsSceneFault value fault
 fault-of value fault compact is = by fault is
   where
     same : (text rest : List ℕ) → Stands value text rest → text ≡ value
     same text rest stands = (Stands-once stands (alone value compact)).0
 
-    by : (f : SceneFault) → IsFaultAt value 0 f → IsSceneFault value f
+    by : (f : SceneFault) → IsSceneFaultAt value 0 f → IsSceneFault value f
     by (scenes.Json found) first = absurd (first.faulty value [] (alone value compact))
     by scenes.NotObject (text, rest, stands, is) = subst (λ t. IsSceneFault t scenes.NotObject) (same text rest stands) is
     by scenes.NotScene (text, rest, stands, is) = subst (λ t. IsSceneFault t scenes.NotScene) (same text rest stands) is
@@ -77,15 +77,15 @@ pub scene-one : (found : Option (List ℕ)) → Fits found → IsOne (SceneOf fo
 scene-one None fits = record { some = (Ok None, refl); once = λ a b e f. e ∙ sym f }
 scene-one (Some value) fits = record { some = scene-told value fits; once = scene-alike value fits }
 
-pub fits-given : (name : List ℕ) (members : List Pair) → AreMembers 127 members → Fits (given name members)
-fits-given name members are =
+pub fits-value_unless_null : (name : List ℕ) (members : List Pair) → AreMembers 127 members → Fits (value_unless_null name members)
+fits-value_unless_null name members are =
     elim (value_at name members) as (λ (found : Option (List ℕ)). Fits found → Fits (elim found [ None ↦ None | Some value ↦ if bytes_eq value null_word then None else Some value ])) [
       | None ↦ λ fits. tt
       | Some value ↦ λ fits. elim (bytes_eq value null_word) as (λ (b : Bool). Fits (if b then None else Some value)) [ true ↦ tt | false ↦ fits ]
     ] (fits-in 127 members (lit≤ tt) are name)
 
 -- ---- an element
-drawn-told : (value : List ℕ) → IsCompact 128 value → (answer : Result Drawn TextFault) × IsDrawnAs value answer
+drawn-told : (value : List ℕ) → IsCompact 128 value → (answer : Result ElementValue TextFault) × IsDrawnAs value answer
 drawn-told value compact = elim (read-exists value compact) [
   | inl dropped ↦ (Err (Element 0 Kind), (Kind, refl, inr (dropped, refl)))
   | inr (inl (e, is)) ↦ (Ok e, is)
@@ -98,11 +98,11 @@ whys value why other (inl is) (inr also) = absurd (fault-dropped value why is al
 whys value why other (inr is) (inl also) = absurd (fault-dropped value other also is.0)
 whys value why other (inr is) (inr also) = is.1 ∙ sym also.1
 
-no-why : (value : List ℕ) (e : Drawn) (why : ElemFault) → IsElementIn value e → IsFaultIn value why ⊎ (IsSelection value × (why ≡ Kind)) → ⊥
+no-why : (value : List ℕ) (e : ElementValue) (why : ElemFault) → IsElementIn value e → IsFaultIn value why ⊎ (IsSelection value × (why ≡ Kind)) → ⊥
 no-why value e why is (inl fault) = element-faultless value e why is fault
 no-why value e why is (inr dropped) = element-kept value e is dropped.0
 
-drawn-alike : (value : List ℕ) (a b : Result Drawn TextFault) → IsDrawnAs value a → IsDrawnAs value b → a ≡ b
+drawn-alike : (value : List ℕ) (a b : Result ElementValue TextFault) → IsDrawnAs value a → IsDrawnAs value b → a ≡ b
 drawn-alike value (Ok e) (Ok d) is also = ap (λ x. Ok x) (element-once value e d is also)
 drawn-alike value (Ok e) (Err f) is (why, same, also) = absurd (no-why value e why is also)
 drawn-alike value (Err f) (Ok d) (why, same, is) also = absurd (no-why value d why also is)
@@ -113,13 +113,13 @@ pub drawn-one : (value : List ℕ) → IsCompact 128 value → IsOne (IsDrawnAs 
 drawn-one value compact = record { some = drawn-told value compact; once = drawn-alike value }
 
 -- ---- elements
-drawings-told : (values : List (List ℕ)) → AllByRecursion (IsCompact 127) values → (answer : Result (List Drawn) TextFault) × AreDrawnAs values answer
+drawings-told : (values : List (List ℕ)) → AllByRecursion (IsCompact 127) values → (answer : Result (List ElementValue) TextFault) × AreDrawnAs values answer
 drawings-told values all = elim (read-or-faulty values all) [
   | inl (es, read) ↦ (Ok es, read)
   | inr (place, why, is) ↦ (Err (Element place why), (place, why, refl, is))
 ]
 
-drawings-alike : (values : List (List ℕ)) (a b : Result (List Drawn) TextFault) → AreDrawnAs values a → AreDrawnAs values b → a ≡ b
+drawings-alike : (values : List (List ℕ)) (a b : Result (List ElementValue) TextFault) → AreDrawnAs values a → AreDrawnAs values b → a ≡ b
 drawings-alike values (Ok es) (Ok ds) is also = ap (λ x. Ok x) (read-once values es ds is also)
 drawings-alike values (Ok es) (Err f) is (place, why, same, also) = absurd (faultless values es place why is also)
 drawings-alike values (Err f) (Ok ds) (place, why, same, is) also = absurd (faultless values ds place why also is)

@@ -2,7 +2,7 @@
 use Rattle.std.specs.Prelude.{◌≡◌, ◌⊎◌, ℕ, List, Option, Some, Result, Ok, Err, codes}
 use Rattle.scene_json.specs.Characters.{quote}
 use Rattle.scene_json.specs.Compact.{Member as Pair}
-use Rattle.elem.specs.Drawn.{Drawn}
+use Rattle.elem.specs.ElementValue.{ElementValue}
 use Rattle.elem.specs.Forms.{IsText}
 use Rattle.elem_read.specs.Reading.{IsElementIn, IsSelection, IsFaultIn}
 use Rattle.elem_read.specs.declared.fault.ElemFault.{ElemFault}
@@ -38,7 +38,7 @@ abbrev pub IsAsked : Option (List ℕ) → Asked → Type 0
 IsAsked found name = found ≡ Some (asked_text name)
 
 -- The value is this element. Its fault is told with the place 0, and one of type `selection` has a fault of its type.
-abbrev pub IsDrawnAs : List ℕ → Reading Drawn
+abbrev pub IsDrawnAs : List ℕ → Reading ElementValue
 IsDrawnAs value (Ok e) = IsElementIn value e
 IsDrawnAs value (Err fault) = (why : ElemFault) × (fault ≡ Element 0 why) × (IsFaultIn value why ⊎ (IsSelection value × (why ≡ Kind)))
 
@@ -46,7 +46,7 @@ IsDrawnAs value (Err fault) = (why : ElemFault) × (fault ≡ Element 0 why) × 
 abbrev pub TextOf : MemberName → List Pair → Reading (List ℕ)
 TextOf name members answer = MemberOf name IsText members answer
 
-abbrev pub ElementOf : List Pair → Reading Drawn
+abbrev pub ElementOf : List Pair → Reading ElementValue
 ElementOf members answer = Then (MemberOf names.Element IsThere members) IsDrawnAs answer
 
 abbrev pub IdsOf : List Pair → Reading (List (List ℕ))

@@ -2,16 +2,16 @@
 use Rattle.std.specs.Prelude.{◌≡◌, ℕ, List, Option, Some, None, Result, Ok, Err, codes}
 use Rattle.scene_json.specs.Characters.{quote}
 use Rattle.scene_json.specs.Compact.{Member as Pair}
-use Rattle.elem.specs.Drawn.{Drawn}
-use Rattle.elem.specs.Forms.{IsText, IsWhole}
+use Rattle.elem.specs.ElementValue.{ElementValue}
+use Rattle.elem.specs.Forms.{IsText, IsWholeNumber}
 use Rattle.elem_read.specs.Elements.{AreRead, IsFirstFaulty}
 use Rattle.elem_read.specs.declared.fault.ElemFault.{ElemFault}
 use Rattle.effects.specs.declared.command.Command.{Command}
-use Rattle.scene_file.specs.Reading.{given, IsSceneOf, IsSceneFault}
+use Rattle.scene_file.specs.Reading.{value_unless_null, IsSceneOf, IsSceneFault}
 use Rattle.scene_file.specs.declared.scene.Scene.{Scene as Board}
 use Rattle.scene_file.specs.declared.fault.SceneFault.{SceneFault}
 use Rattle.session_text.specs.Commands.{CommandOf}
-use Rattle.session_text.specs.Forms.{IsFrom, IsArray, HasMembers, IsCapture, HasPicks}
+use Rattle.session_text.specs.Forms.{IsFrom, IsArray, HasObject, IsCapture, HasPicks}
 use Rattle.session_text.specs.Reads.{Reading, MemberOf, Gives, Then, ObjectOf}
 use Rattle.session_text.specs.declared.event.Event.{Event}
 use Rattle.session_text.specs.declared.event.Event.TheVariants as events
@@ -38,8 +38,8 @@ abbrev pub HeaderOf : List Pair → Reading Header
 HeaderOf members answer =
     Then (MemberOf names.Session (IsFrom 1 2) members) (λ version.
     Then (MemberOf names.Replicas (IsFrom 1 65) members) (λ replicas.
-    Then (MemberOf names.Seed IsWhole members) (λ seed.
-    Then (SceneOf (given (codes "scene") members)) (λ scene. Gives (header replicas seed scene))))) answer
+    Then (MemberOf names.Seed IsWholeNumber members) (λ seed.
+    Then (SceneOf (value_unless_null (codes "scene") members)) (λ scene. Gives (header replicas seed scene))))) answer
 
 -- ---- the events
 abbrev pub happening_text : Happening → List ℕ
@@ -55,14 +55,14 @@ abbrev pub IsHappening : Option (List ℕ) → Happening → Type 0
 IsHappening found name = found ≡ Some (happening_text name)
 
 -- The values are these elements, those of type `selection` left out.
-abbrev pub AreDrawnAs : List (List ℕ) → Reading (List Drawn)
+abbrev pub AreDrawnAs : List (List ℕ) → Reading (List ElementValue)
 AreDrawnAs values (Ok elements) = AreRead values elements
 AreDrawnAs values (Err fault) = (place : ℕ) × (why : ElemFault) × (fault ≡ Element place why) × IsFirstFaulty values place why
 
 -- a replica and a time
 abbrev pub TimeOf : ℕ → List Pair → Reading (ℕ × ℕ)
 TimeOf replicas members answer =
-    Then (MemberOf names.At (IsFrom 0 replicas) members) (λ at. Then (MemberOf names.Time IsWhole members) (λ time. Gives (at, time))) answer
+    Then (MemberOf names.At (IsFrom 0 replicas) members) (λ at. Then (MemberOf names.Time IsWholeNumber members) (λ time. Gives (at, time))) answer
 
 -- a replica and an id
 abbrev pub HeldOf : ℕ → List Pair → Reading (ℕ × List ℕ)
@@ -71,10 +71,10 @@ HeldOf replicas members answer =
 
 -- the command
 abbrev pub CommandIn : List Pair → Reading Command
-CommandIn members answer = Then (MemberOf names.Command HasMembers members) CommandOf answer
+CommandIn members answer = Then (MemberOf names.Command HasObject members) CommandOf answer
 
 -- the elements
-abbrev pub ElementsIn : List Pair → Reading (List Drawn)
+abbrev pub ElementsIn : List Pair → Reading (List ElementValue)
 ElementsIn members answer = Then (MemberOf names.Elements IsArray members) AreDrawnAs answer
 
 -- With so many replicas, and so many messages made by the events before.

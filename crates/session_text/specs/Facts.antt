@@ -25,14 +25,14 @@ IsAmong replicas (Undo at time) = at < replicas
 IsAmong replicas (Redo at time) = at < replicas
 
 -- Its time is within the limit of times, and its command within those of commands.
-abbrev pub IsWithin : Event → Type 0
-IsWithin (Change at time capture command) = (time ≤ greatest_whole) × IsWithinLimits command
-IsWithin (Update elements) = Unit {0}
-IsWithin (Deliver to picks) = Unit {0}
-IsWithin (Hold at id) = Unit {0}
-IsWithin (Release at id) = Unit {0}
-IsWithin (Undo at time) = time ≤ greatest_whole
-IsWithin (Redo at time) = time ≤ greatest_whole
+abbrev pub IsEventWithinLimits : Event → Type 0
+IsEventWithinLimits (Change at time capture command) = (time ≤ greatest_whole) × IsWithinLimits command
+IsEventWithinLimits (Update elements) = Unit {0}
+IsEventWithinLimits (Deliver to picks) = Unit {0}
+IsEventWithinLimits (Hold at id) = Unit {0}
+IsEventWithinLimits (Release at id) = Unit {0}
+IsEventWithinLimits (Undo at time) = time ≤ greatest_whole
+IsEventWithinLimits (Redo at time) = time ≤ greatest_whole
 
 -- What it brings is of elements: those of an update are, and what a command creates; and the texts that this writes are UTF-8.
 abbrev pub BringsElements : Event → Type 0
@@ -74,6 +74,6 @@ pub record IsSession (session : Session) : Type 0 where
   pub elements : IfSome session.scene (λ (scene : Scene). AreElements scene.elements)
   pub few : length session.events ≤ most_events
   pub places : AllByRecursion (IsAmong session.replicas) session.events
-  pub limits : AllByRecursion IsWithin session.events
+  pub limits : AllByRecursion IsEventWithinLimits session.events
   pub brings : AllByRecursion BringsElements session.events
   pub picks : PickMade 0 session.events

@@ -7,9 +7,9 @@ use Rattle.session_text.specs.Names.{word_of}
 use Rattle.session_text.specs.declared.fault.TextFault.{TextFault}
 use Rattle.session_text.specs.declared.fault.TextFault.TheVariants.{Json, NotObject, Member, Scene, Element}
 
-abbrev pub fault_words : TextFault → List ℕ
-fault_words (Json fault) = json_words fault
-fault_words NotObject = codes "not an object"
-fault_words (Member name) = codes "member " ++ word_of name
-fault_words (Scene fault) = codes "scene: " ++ scenes.fault_words fault
-fault_words (Element place fault) = codes "element " ++ (decimal place ++ (codes ": " ++ elements.word_of fault))
+abbrev pub session_fault_words : TextFault → List ℕ
+session_fault_words (Json fault) = json_words fault
+session_fault_words NotObject = codes "not an object"
+session_fault_words (Member name) = codes "member " ++ word_of name
+session_fault_words (Scene fault) = codes "scene: " ++ scenes.scene_fault_words fault
+session_fault_words (Element place fault) = codes "element " ++ (decimal place ++ (codes ": " ++ elements.fault_word fault))

@@ -8,7 +8,7 @@ use Rattle.scene_json.specs.Named.{value_at}
 use Rattle.scene_json.specs.Value.{IsCompact}
 use Rattle.scene_json.specs.declared.text.Member.{Member}
 use Rattle.first_texts.specs.FirstOccurrences.{first_occurrences}
-use Rattle.elem.specs.Forms.{find_in, IsText, IsWhole, IsObject, AreTexts, AreOthers}
+use Rattle.elem.specs.Forms.{find_in, IsText, IsWholeNumber, IsObject, AreTexts, AreOthers}
 use Rattle.effects.specs.declared.command.Side.{Side}
 use Rattle.effects.specs.declared.command.Side.TheVariants as sides
 use Rattle.effects.specs.declared.command.Spot.{Spot}
@@ -20,7 +20,7 @@ use Rattle.session_text.specs.declared.event.Pick.TheVariants as chosen
 
 -- a whole number from the least one on, below the limit
 abbrev pub IsFrom : ℕ → ℕ → Option (List ℕ) → ℕ → Type 0
-IsFrom least limit found number = IsWhole found number × (least ≤ number) × (number < limit)
+IsFrom least limit found number = IsWholeNumber found number × (least ≤ number) × (number < limit)
 
 -- any value
 abbrev pub IsThere : Option (List ℕ) → List ℕ → Type 0
@@ -31,8 +31,8 @@ abbrev pub IsArray : Option (List ℕ) → List (List ℕ) → Type 0
 IsArray found items = AllByRecursion (IsCompact 127) items × (found ≡ Some (array_text items))
 
 -- an object
-abbrev pub HasMembers : Option (List ℕ) → List Pair → Type 0
-HasMembers found members = (value : List ℕ) × (found ≡ Some value) × IsObject value members
+abbrev pub HasObject : Option (List ℕ) → List Pair → Type 0
+HasObject found members = (value : List ℕ) × (found ≡ Some value) × IsObject value members
 
 -- a value that nests at most 100
 abbrev pub IsShallow : Option (List ℕ) → List ℕ → Type 0
@@ -61,15 +61,15 @@ abbrev pub IsSide : Option (List ℕ) → Side → Type 0
 IsSide found side = found ≡ Some (side_text side)
 
 -- an object that names an id
-abbrev pub IsAfter : List ℕ → List ℕ → Type 0
-IsAfter value id = (members : List Pair) × IsObject value members × IsText (value_at (codes "after") members) id
+abbrev pub IsSpotAfter : List ℕ → List ℕ → Type 0
+IsSpotAfter value id = (members : List Pair) × IsObject value members × IsText (value_at (codes "after") members) id
 
 -- a word or an object that names an id; a missing spot is the top
 abbrev pub IsSpot : Option (List ℕ) → Spot → Type 0
 IsSpot None spot = spot ≡ spots.Top
 IsSpot (Some value) spots.Top = value ≡ quote (codes "top")
 IsSpot (Some value) spots.Bottom = value ≡ quote (codes "bottom")
-IsSpot (Some value) (spots.After id) = IsAfter value id
+IsSpot (Some value) (spots.After id) = IsSpotAfter value id
 
 -- an object that nests at most 100, all its members but `elementId`; a missing one has none
 abbrev pub IsRest : Option (List ℕ) → List Member → Type 0
@@ -80,7 +80,7 @@ IsRest (Some value) rest =
 -- two values, the numbers of a message, below that of those made so far, and of an element
 abbrev pub IsPair : ℕ → List (List ℕ) → ℕ × ℕ → Type 0
 IsPair made parts pair =
-    (first second : List ℕ) × (parts ≡ first ∷ second ∷ []) × IsFrom 0 made (Some first) pair.0 × IsWhole (Some second) pair.1
+    (first second : List ℕ) × (parts ≡ first ∷ second ∷ []) × IsFrom 0 made (Some first) pair.0 × IsWholeNumber (Some second) pair.1
 
 -- the number of a message, or an array of it and of an element's number
 abbrev pub IsPick : ℕ → List ℕ → Pick → Type 0

@@ -44,5 +44,5 @@ Answers Reads (Err (Fault fault)) = Reads (Err fault)
 Answers Reads (Err Memory) = Unit {0}
 
 -- A call gives what is read. Only contracts of private functions cite this.
-pub record IsAnswer {A : Type 0} (Reads : Result A TextFault → Type 0) (result : Result A (Stop TextFault)) : Type 0 where
+pub record IsReadResult {A : Type 0} (Reads : Result A TextFault → Type 0) (result : Result A (Stop TextFault)) : Type 0 where
   pub read : Answers Reads result

@@ -23,8 +23,8 @@ abbrev pub StandsAs : {A : Type 0} → (List ℕ → Result A TextFault → Type
 StandsAs Says bytes x rest = (text : List ℕ) × Stands bytes text rest × Says text (Ok x)
 
 -- The text behind the offset has this first fault: of its JSON form, or of what it says. Places count over all bytes.
-abbrev pub IsFaultAt : {A : Type 0} → (List ℕ → Result A TextFault → Type 0) → List ℕ → ℕ → TextFault → Type 0
-IsFaultAt Says bytes at fault =
+abbrev pub IsTextFaultAt : {A : Type 0} → (List ℕ → Result A TextFault → Type 0) → List ℕ → ℕ → TextFault → Type 0
+IsTextFaultAt Says bytes at fault =
     ((found : JsonFault) × (fault ≡ Json found) × IsFirstFault bytes at found)
     ⊎ ((text rest : List ℕ) × Stands (drop at bytes) text rest × Says text (Err fault))
 
@@ -73,7 +73,7 @@ pub record HasFaultyEvent (bytes : List ℕ) (number : ℕ) (fault : TextFault) 
   pub more : is_blank (drop start bytes) ≡ false
   pub fewer : length events < most_events
   pub counted : number ≡ length events + 2
-  pub faulty : IsFaultAt (EventText head.replicas (made_after 0 events)) bytes start fault
+  pub faulty : IsTextFaultAt (EventText head.replicas (made_after 0 events)) bytes start fault
 
 -- Behind as many events as there may be more than white space is left.
 pub record HasTooMany (bytes : List ℕ) : Type 0 where
@@ -86,5 +86,5 @@ pub record HasTooMany (bytes : List ℕ) : Type 0 where
 
 -- The first fault of bytes that are no session. One text at least is needed: the header.
 abbrev pub IsSessionFault : List ℕ → SessionFault → Type 0
-IsSessionFault bytes (In number fault) = ((number ≡ 1) × IsFaultAt HeaderText bytes 0 fault) ⊎ HasFaultyEvent bytes number fault
+IsSessionFault bytes (In number fault) = ((number ≡ 1) × IsTextFaultAt HeaderText bytes 0 fault) ⊎ HasFaultyEvent bytes number fault
 IsSessionFault bytes TooMany = HasTooMany bytes

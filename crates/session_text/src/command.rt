@@ -2,7 +2,7 @@
 
 ghost use Rattle.scene_json.specs.Members.{pairs};
 ghost use Rattle.session_text.specs.Commands.{IsAsked, IsDrawnAs, ElementOf, IdsAnd, EndOf, CommandNamed, CommandOf};
-ghost use Rattle.session_text.specs.Reads.{MemberOf, IsAnswer};
+ghost use Rattle.session_text.specs.Reads.{MemberOf, IsReadResult};
 ghost use Rattle.session_text.specs.declared.command.Asked.TheVariants as asks;
 ghost use Rattle.session_text.specs.declared.name.MemberName.TheVariants as names;
 
@@ -35,7 +35,7 @@ pub(crate) enum Asked {
 
 /// The command that these members are.
 pub(crate) fn command_of(alloc: Global, members: &List<Member>) -> Result<Command, Stop<TextFault>>
-    ensures { IsAnswer (CommandOf (pairs members.now)) result }
+    ensures { IsReadResult (CommandOf (pairs members.now)) result }
 {
     let name = which(members)?;
     command_named(alloc, members, name)
@@ -44,7 +44,7 @@ pub(crate) fn command_of(alloc: Global, members: &List<Member>) -> Result<Comman
 /// Which command the members ask for. It takes no memory.
 #[tactic(auto, unfolding(scene_json::specs::Characters::quote))]
 fn which(members: &List<Member>) -> Result<Asked, Stop<TextFault>>
-    ensures { IsAnswer (MemberOf names.Name IsAsked (pairs members.now)) result }
+    ensures { IsReadResult (MemberOf names.Name IsAsked (pairs members.now)) result }
 {
     if has_value(members, "name", "\"create\"") {
         Ok(Asked::Create)
@@ -81,7 +81,7 @@ fn command_named(
     members: &List<Member>,
     name: Asked,
 ) -> Result<Command, Stop<TextFault>>
-    ensures { IsAnswer (CommandNamed (pairs members.now) name) result }
+    ensures { IsReadResult (CommandNamed (pairs members.now) name) result }
 {
     match name {
         Asked::Create => create(alloc, members),
@@ -122,7 +122,7 @@ fn command_named(
 
 /// An element is made.
 fn create(alloc: Global, members: &List<Member>) -> Result<Command, Stop<TextFault>>
-    ensures { IsAnswer (CommandNamed (pairs members.now) asks.Create) result }
+    ensures { IsReadResult (CommandNamed (pairs members.now) asks.Create) result }
 {
     let element = element(alloc, members)?;
     let spot = spot(alloc, members)?;
@@ -131,7 +131,7 @@ fn create(alloc: Global, members: &List<Member>) -> Result<Command, Stop<TextFau
 
 /// A member gets a value.
 fn set(alloc: Global, members: &List<Member>) -> Result<Command, Stop<TextFault>>
-    ensures { IsAnswer (CommandNamed (pairs members.now) asks.Set) result }
+    ensures { IsReadResult (CommandNamed (pairs members.now) asks.Set) result }
 {
     let id = text(alloc, members, MemberName::Id)?;
     let member = text(alloc, members, MemberName::Member)?;
@@ -141,7 +141,7 @@ fn set(alloc: Global, members: &List<Member>) -> Result<Command, Stop<TextFault>
 
 /// An element gets a place.
 fn place(alloc: Global, members: &List<Member>) -> Result<Command, Stop<TextFault>>
-    ensures { IsAnswer (CommandNamed (pairs members.now) asks.Place) result }
+    ensures { IsReadResult (CommandNamed (pairs members.now) asks.Place) result }
 {
     let id = text(alloc, members, MemberName::Id)?;
     let spot = spot(alloc, members)?;
@@ -150,7 +150,7 @@ fn place(alloc: Global, members: &List<Member>) -> Result<Command, Stop<TextFaul
 
 /// An end of an arrow is bound.
 fn bind(alloc: Global, members: &List<Member>) -> Result<Command, Stop<TextFault>>
-    ensures { IsAnswer (CommandNamed (pairs members.now) asks.Bind) result }
+    ensures { IsReadResult (CommandNamed (pairs members.now) asks.Bind) result }
 {
     let (arrow, side) = end_of(alloc, members)?;
     let target = text(alloc, members, MemberName::Target)?;
@@ -165,7 +165,7 @@ fn bind(alloc: Global, members: &List<Member>) -> Result<Command, Stop<TextFault
 
 /// A text gets a container.
 fn label(alloc: Global, members: &List<Member>) -> Result<Command, Stop<TextFault>>
-    ensures { IsAnswer (CommandNamed (pairs members.now) asks.Label) result }
+    ensures { IsReadResult (CommandNamed (pairs members.now) asks.Label) result }
 {
     let container = text(alloc, members, MemberName::Container)?;
     let text = text(alloc, members, MemberName::Text)?;
@@ -174,7 +174,7 @@ fn label(alloc: Global, members: &List<Member>) -> Result<Command, Stop<TextFaul
 
 /// An arrow, and an end of it.
 fn end_of(alloc: Global, members: &List<Member>) -> Result<(Text, Side), Stop<TextFault>>
-    ensures { IsAnswer (EndOf (pairs members.now)) result }
+    ensures { IsReadResult (EndOf (pairs members.now)) result }
 {
     let arrow = text(alloc, members, MemberName::Arrow)?;
     let side = side(members)?;
@@ -187,7 +187,7 @@ fn ids_and(
     members: &List<Member>,
     name: MemberName,
 ) -> Result<(List<Text>, Text), Stop<TextFault>>
-    ensures { IsAnswer (IdsAnd name (pairs members.now)) result }
+    ensures { IsReadResult (IdsAnd name (pairs members.now)) result }
 {
     let ids = ids(alloc, members)?;
     let text = text(alloc, members, name)?;
@@ -196,7 +196,7 @@ fn ids_and(
 
 /// The element that is made.
 fn element(alloc: Global, members: &List<Member>) -> Result<Element, Stop<TextFault>>
-    ensures { IsAnswer (ElementOf (pairs members.now)) result }
+    ensures { IsReadResult (ElementOf (pairs members.now)) result }
 {
     let value = value(members, MemberName::Element)?;
     drawn(alloc, &value)
@@ -204,7 +204,7 @@ fn element(alloc: Global, members: &List<Member>) -> Result<Element, Stop<TextFa
 
 /// The element that the value is.
 fn drawn(alloc: Global, value: &Raw) -> Result<Element, Stop<TextFault>>
-    ensures { IsAnswer (IsDrawnAs value.now) result }
+    ensures { IsReadResult (IsDrawnAs value.now) result }
 {
     match read_element(alloc, value) {
         Ok(Some(element)) => Ok(element),

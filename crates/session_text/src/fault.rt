@@ -2,7 +2,7 @@
 
 ghost use Rattle.std.specs.Prelude.{◌≡◌, ◌++◌};
 ghost use Rattle.board_io.specs.Pieces.{line_text, piece_text};
-ghost use Rattle.session_text.specs.Faults.{fault_words};
+ghost use Rattle.session_text.specs.Faults.{session_fault_words};
 
 use crate::name::MemberName;
 use board_io::Piece;
@@ -37,7 +37,7 @@ pub enum SessionFault {
 impl TextFault {
     /// What is told of this fault, in pieces.
     pub fn pieces(self) -> [Piece; 5]
-        ensures { line_text result ≡ fault_words self }
+        ensures { line_text result ≡ session_fault_words self }
     {
         match self {
             TextFault::Json(fault) => {

@@ -4,9 +4,9 @@ ghost use Rattle.std.specs.Prelude.{◌≡◌, ◌↔◌, Some, IfOk, IsTrue, Ma
 ghost use Rattle.std.specs.List.{IsDistinct};
 ghost use Rattle.scene_json.specs.Members.{pairs};
 ghost use Rattle.elem_read.specs.Faults.{Lacks};
-ghost use Rattle.elem.specs.Forms.{find_in, IsText, IsWhole, IsObject, AreOthers};
+ghost use Rattle.elem.specs.Forms.{find_in, IsText, IsWholeNumber, IsObject, AreOthers};
 ghost use Rattle.session_text.specs.Forms.{IsFrom, IsThere, IsArray, IsShallow, AreIds, IsCapture, IsSide, IsSpot, IsRest};
-ghost use Rattle.session_text.specs.Reads.{MemberOf, IsAnswer};
+ghost use Rattle.session_text.specs.Reads.{MemberOf, IsReadResult};
 ghost use Rattle.session_text.specs.declared.name.MemberName.TheVariants as names;
 
 use crate::fault::TextFault;
@@ -28,7 +28,7 @@ const DEEPEST: u64 = 100;
 
 /// The member of this name, a whole number. It takes no memory.
 pub(crate) fn whole(members: &List<Member>, name: MemberName) -> Result<u64, Stop<TextFault>>
-    ensures { IsAnswer (MemberOf name IsWhole (pairs members.now)) result }
+    ensures { IsReadResult (MemberOf name IsWholeNumber (pairs members.now)) result }
 {
     match whole_named(members, name.word()) {
         Some(number) => Ok(number),
@@ -43,7 +43,7 @@ pub(crate) fn number_from(
     least: u64,
     limit: u64,
 ) -> Result<u64, Stop<TextFault>>
-    ensures { IsAnswer (MemberOf name (IsFrom least limit) (pairs members.now)) result }
+    ensures { IsReadResult (MemberOf name (IsFrom least limit) (pairs members.now)) result }
 {
     match whole_named(members, name.word()) {
         Some(number) if least <= number && number < limit => Ok(number),
@@ -57,7 +57,7 @@ pub(crate) fn text(
     members: &List<Member>,
     name: MemberName,
 ) -> Result<Text, Stop<TextFault>>
-    ensures { IsAnswer (MemberOf name IsText (pairs members.now)) result }
+    ensures { IsReadResult (MemberOf name IsText (pairs members.now)) result }
 {
     match text_named(alloc, members, name.word())? {
         Some(text) => Ok(text),
@@ -67,7 +67,7 @@ pub(crate) fn text(
 
 /// The member of this name, any value.
 pub(crate) fn value(members: &List<Member>, name: MemberName) -> Result<Raw, Stop<TextFault>>
-    ensures { IsAnswer (MemberOf name IsThere (pairs members.now)) result }
+    ensures { IsReadResult (MemberOf name IsThere (pairs members.now)) result }
 {
     match value_named(members, name.word()) {
         Some(value) => Ok(value.try_clone()?),
@@ -81,7 +81,7 @@ pub(crate) fn array(
     members: &List<Member>,
     name: MemberName,
 ) -> Result<List<Raw>, Stop<TextFault>>
-    ensures { IsAnswer (MemberOf name IsArray (pairs members.now)) result }
+    ensures { IsReadResult (MemberOf name IsArray (pairs members.now)) result }
 {
     let Some(value) = value_named(members, name.word()) else {
         return Err(Stop::Fault(TextFault::Member(name)));
@@ -102,7 +102,7 @@ pub(crate) fn object(alloc: Global, value: &Raw) -> Result<Option<List<Member>>,
 
 /// The ids, each once.
 pub(crate) fn ids(alloc: Global, members: &List<Member>) -> Result<List<Text>, Stop<TextFault>>
-    ensures { IsAnswer (MemberOf names.Ids AreIds (pairs members.now)) result }
+    ensures { IsReadResult (MemberOf names.Ids AreIds (pairs members.now)) result }
 {
     let Some(value) = value_named(members, "ids") else {
         return Err(Stop::Fault(TextFault::Member(MemberName::Ids)));
@@ -116,7 +116,7 @@ pub(crate) fn ids(alloc: Global, members: &List<Member>) -> Result<List<Text>, S
 /// How a change is captured; now where nothing is said. It takes no memory.
 #[tactic(auto, unfolding(scene_json::specs::Characters::quote))]
 pub(crate) fn capture(members: &List<Member>) -> Result<Capture, Stop<TextFault>>
-    ensures { IsAnswer (MemberOf names.Capture IsCapture (pairs members.now)) result }
+    ensures { IsReadResult (MemberOf names.Capture IsCapture (pairs members.now)) result }
 {
     let Some(value) = value_named(members, "capture") else {
         return Ok(Capture::Now);
@@ -135,7 +135,7 @@ pub(crate) fn capture(members: &List<Member>) -> Result<Capture, Stop<TextFault>
 /// The end of an arrow. It takes no memory.
 #[tactic(auto, unfolding(scene_json::specs::Characters::quote))]
 pub(crate) fn side(members: &List<Member>) -> Result<Side, Stop<TextFault>>
-    ensures { IsAnswer (MemberOf names.End IsSide (pairs members.now)) result }
+    ensures { IsReadResult (MemberOf names.End IsSide (pairs members.now)) result }
 {
     if has_value(members, "end", "\"start\"") {
         Ok(Side::Start)
@@ -148,7 +148,7 @@ pub(crate) fn side(members: &List<Member>) -> Result<Side, Stop<TextFault>>
 
 /// The place in the order; the top where nothing is said.
 pub(crate) fn spot(alloc: Global, members: &List<Member>) -> Result<Spot, Stop<TextFault>>
-    ensures { IsAnswer (MemberOf names.Spot IsSpot (pairs members.now)) result }
+    ensures { IsReadResult (MemberOf names.Spot IsSpot (pairs members.now)) result }
 {
     let Some(value) = value_named(members, "spot") else {
         return Ok(Spot::Top);
@@ -189,7 +189,7 @@ fn is(value: &Raw, text: &str) -> bool
 
 /// The value that a member gets. It nests at most 100.
 pub(crate) fn shallow(members: &List<Member>) -> Result<Raw, Stop<TextFault>>
-    ensures { IsAnswer (MemberOf names.Value IsShallow (pairs members.now)) result }
+    ensures { IsReadResult (MemberOf names.Value IsShallow (pairs members.now)) result }
 {
     match value_named(members, "value") {
         Some(value) if nests_at_most(value, DEEPEST) => Ok(value.try_clone()?),
@@ -199,7 +199,7 @@ pub(crate) fn shallow(members: &List<Member>) -> Result<Raw, Stop<TextFault>>
 
 /// The further members of the binding, which nests at most 100; none where nothing is said.
 pub(crate) fn rest(alloc: Global, members: &List<Member>) -> Result<List<Member>, Stop<TextFault>>
-    ensures { IsAnswer (MemberOf names.Binding IsRest (pairs members.now)) result }
+    ensures { IsReadResult (MemberOf names.Binding IsRest (pairs members.now)) result }
 {
     let Some(value) = value_named(members, "binding") else {
         return Ok(List::new(alloc));

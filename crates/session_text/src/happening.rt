@@ -3,7 +3,7 @@
 ghost use Rattle.std.specs.Prelude.{ℕ};
 ghost use Rattle.scene_json.specs.Members.{pairs};
 ghost use Rattle.session_text.specs.Events.{IsHappening, AreDrawnAs, TimeOf, HeldOf, CommandIn, ElementsIn, EventNamed, EventOf, EventText};
-ghost use Rattle.session_text.specs.Reads.{MemberOf, IsAnswer};
+ghost use Rattle.session_text.specs.Reads.{MemberOf, IsReadResult};
 ghost use Rattle.session_text.specs.declared.happening.Happening.TheVariants as happenings;
 ghost use Rattle.session_text.specs.declared.name.MemberName.TheVariants as names;
 
@@ -39,7 +39,7 @@ pub(crate) fn read_event(
     replicas: u64,
     made: u64,
 ) -> Result<Event, Stop<TextFault>>
-    ensures { IsAnswer (EventText replicas made value.now) result }
+    ensures { IsReadResult (EventText replicas made value.now) result }
 {
     match object(alloc, value)? {
         Some(found) => event_of(alloc, &found, replicas, made),
@@ -54,7 +54,7 @@ fn event_of(
     replicas: u64,
     made: u64,
 ) -> Result<Event, Stop<TextFault>>
-    ensures { IsAnswer (EventOf replicas made (pairs members.now)) result }
+    ensures { IsReadResult (EventOf replicas made (pairs members.now)) result }
 {
     let name = which(members)?;
     event_named(alloc, members, name, replicas, made)
@@ -63,7 +63,7 @@ fn event_of(
 /// Which event the members are. It takes no memory.
 #[tactic(auto, unfolding(scene_json::specs::Characters::quote))]
 fn which(members: &List<Member>) -> Result<Happening, Stop<TextFault>>
-    ensures { IsAnswer (MemberOf names.Do IsHappening (pairs members.now)) result }
+    ensures { IsReadResult (MemberOf names.Do IsHappening (pairs members.now)) result }
 {
     if has_value(members, "do", "\"change\"") {
         Ok(Happening::Change)
@@ -92,7 +92,7 @@ fn event_named(
     replicas: u64,
     made: u64,
 ) -> Result<Event, Stop<TextFault>>
-    ensures { IsAnswer (EventNamed replicas made (pairs members.now) name) result }
+    ensures { IsReadResult (EventNamed replicas made (pairs members.now) name) result }
 {
     match name {
         Happening::Change => change(alloc, members, replicas),
@@ -122,7 +122,7 @@ fn event_named(
 
 /// A command at a replica.
 fn change(alloc: Global, members: &List<Member>, replicas: u64) -> Result<Event, Stop<TextFault>>
-    ensures { (made : ℕ) → IsAnswer (EventNamed replicas made (pairs members.now) happenings.Change) result }
+    ensures { (made : ℕ) → IsReadResult (EventNamed replicas made (pairs members.now) happenings.Change) result }
 {
     let (at, time) = time(members, replicas)?;
     let capture = capture(members)?;
@@ -142,7 +142,7 @@ fn deliver(
     replicas: u64,
     made: u64,
 ) -> Result<Event, Stop<TextFault>>
-    ensures { IsAnswer (EventNamed replicas made (pairs members.now) happenings.Deliver) result }
+    ensures { IsReadResult (EventNamed replicas made (pairs members.now) happenings.Deliver) result }
 {
     let to = number_from(members, MemberName::To, 0, replicas)?;
     let picks = picks(alloc, members, made)?;
@@ -151,7 +151,7 @@ fn deliver(
 
 /// A replica and a time. It takes no memory.
 fn time(members: &List<Member>, replicas: u64) -> Result<(u64, u64), Stop<TextFault>>
-    ensures { IsAnswer (TimeOf replicas (pairs members.now)) result }
+    ensures { IsReadResult (TimeOf replicas (pairs members.now)) result }
 {
     let at = number_from(members, MemberName::At, 0, replicas)?;
     let time = whole(members, MemberName::Time)?;
@@ -164,7 +164,7 @@ fn held(
     members: &List<Member>,
     replicas: u64,
 ) -> Result<(u64, Text), Stop<TextFault>>
-    ensures { IsAnswer (HeldOf replicas (pairs members.now)) result }
+    ensures { IsReadResult (HeldOf replicas (pairs members.now)) result }
 {
     let at = number_from(members, MemberName::At, 0, replicas)?;
     let id = text(alloc, members, MemberName::Id)?;
@@ -173,7 +173,7 @@ fn held(
 
 /// The command of a change.
 fn command_in(alloc: Global, from: &List<Member>) -> Result<Command, Stop<TextFault>>
-    ensures { IsAnswer (CommandIn (pairs from.now)) result }
+    ensures { IsReadResult (CommandIn (pairs from.now)) result }
 {
     let Some(value) = value_named(from, "command") else {
         return Err(Stop::Fault(TextFault::Member(MemberName::Command)));
@@ -186,7 +186,7 @@ fn command_in(alloc: Global, from: &List<Member>) -> Result<Command, Stop<TextFa
 
 /// The elements of an update.
 fn elements_in(alloc: Global, members: &List<Member>) -> Result<List<Element>, Stop<TextFault>>
-    ensures { IsAnswer (ElementsIn (pairs members.now)) result }
+    ensures { IsReadResult (ElementsIn (pairs members.now)) result }
 {
     let values = array(alloc, members, MemberName::Elements)?;
     drawn(alloc, &values)
@@ -194,7 +194,7 @@ fn elements_in(alloc: Global, members: &List<Member>) -> Result<List<Element>, S
 
 /// The elements that the values are.
 fn drawn(alloc: Global, values: &List<Raw>) -> Result<List<Element>, Stop<TextFault>>
-    ensures { IsAnswer (AreDrawnAs values.now) result }
+    ensures { IsReadResult (AreDrawnAs values.now) result }
 {
     match read_elements(alloc, values) {
         Ok(elements) => Ok(elements),

@@ -2,9 +2,9 @@
 
 ghost use Rattle.std.specs.Prelude.{◌≡◌, Some, codes, option_copied};
 ghost use Rattle.scene_json.specs.Members.{pairs};
-ghost use Rattle.scene_file.specs.Reading.{given};
+ghost use Rattle.scene_file.specs.Reading.{value_unless_null};
 ghost use Rattle.session_text.specs.Events.{SceneOf, HeaderOf, HeaderText};
-ghost use Rattle.session_text.specs.Reads.{IsAnswer};
+ghost use Rattle.session_text.specs.Reads.{IsReadResult};
 
 use crate::fault::TextFault;
 use crate::fields::{number_from, object, whole};
@@ -30,7 +30,7 @@ const MOST_REPLICAS: u64 = 64;
 
 /// The header that a text is.
 pub(crate) fn read_header(alloc: Global, value: &Raw) -> Result<Header, Stop<TextFault>>
-    ensures { IsAnswer (HeaderText value.now) result }
+    ensures { IsReadResult (HeaderText value.now) result }
 {
     match object(alloc, value)? {
         Some(found) => header_of(alloc, &found),
@@ -40,7 +40,7 @@ pub(crate) fn read_header(alloc: Global, value: &Raw) -> Result<Header, Stop<Tex
 
 /// The header that these members are.
 fn header_of(alloc: Global, members: &List<Member>) -> Result<Header, Stop<TextFault>>
-    ensures { IsAnswer (HeaderOf (pairs members.now)) result }
+    ensures { IsReadResult (HeaderOf (pairs members.now)) result }
 {
     let _version = number_from(members, MemberName::Session, VERSION, VERSION + 1)?;
     let replicas = number_from(members, MemberName::Replicas, 1, MOST_REPLICAS + 1)?;
@@ -55,7 +55,7 @@ fn header_of(alloc: Global, members: &List<Member>) -> Result<Header, Stop<TextF
 
 /// The scene among these members, if one is given.
 fn scene(alloc: Global, members: &List<Member>) -> Result<Option<Scene>, Stop<TextFault>>
-    ensures { IsAnswer (SceneOf (given (codes "scene") (pairs members.now))) result }
+    ensures { IsReadResult (SceneOf (value_unless_null (codes "scene") (pairs members.now))) result }
 {
     match given(members, "scene") {
         Some(value) => scene_in(alloc, value),
@@ -65,7 +65,7 @@ fn scene(alloc: Global, members: &List<Member>) -> Result<Option<Scene>, Stop<Te
 
 /// The scene that this value is.
 fn scene_in(alloc: Global, value: &Raw) -> Result<Option<Scene>, Stop<TextFault>>
-    ensures { IsAnswer (SceneOf (Some value.now)) result }
+    ensures { IsReadResult (SceneOf (Some value.now)) result }
 {
     match scene_of(alloc, value) {
         Ok(scene) => Ok(Some(scene)),
@@ -76,7 +76,7 @@ fn scene_in(alloc: Global, value: &Raw) -> Result<Option<Scene>, Stop<TextFault>
 
 /// The value of the first member with this name; null counts as missing.
 fn given<'a>(members: &'a List<Member>, name: &str) -> Option<&'a Raw>
-    ensures { option_copied result ≡ given name.now (pairs members.now) }
+    ensures { option_copied result ≡ value_unless_null name.now (pairs members.now) }
 {
     match value_named(members, name) {
         Some(value) if !is_null(value) => Some(value),

@@ -4,7 +4,7 @@ ghost use Rattle.std.specs.Prelude.{Some, IfOk, MatchOption};
 ghost use Rattle.scene_json.specs.Members.{pairs};
 ghost use Rattle.elem_read.specs.Faults.{Lacks};
 ghost use Rattle.session_text.specs.Forms.{IsFrom, IsPair, IsPick, ArePicks, HasPicks};
-ghost use Rattle.session_text.specs.Reads.{MemberOf, IsAnswer};
+ghost use Rattle.session_text.specs.Reads.{MemberOf, IsReadResult};
 ghost use Rattle.session_text.specs.declared.name.MemberName.TheVariants as names;
 
 use crate::event::Pick;
@@ -20,7 +20,7 @@ pub(crate) fn picks(
     members: &List<Member>,
     made: u64,
 ) -> Result<List<Pick>, Stop<TextFault>>
-    ensures { IsAnswer (MemberOf names.Picks (HasPicks made) (pairs members.now)) result }
+    ensures { IsReadResult (MemberOf names.Picks (HasPicks made) (pairs members.now)) result }
 {
     let Some(value) = value_named(members, "picks") else {
         return Err(Stop::Fault(TextFault::Member(MemberName::Picks)));

@@ -6,7 +6,7 @@ ghost use Rattle.scene_json.specs.Value.{Stands};
 ghost use Rattle.session_text.specs.Events.{HeaderText, EventText};
 ghost use Rattle.session_text.specs.Facts.{IsSession};
 ghost use Rattle.session_text.specs.Sessions as sessions;
-ghost use Rattle.session_text.specs.Sessions.{StandsAs, IsFaultAt, LeadTo, IsSessionOf, IsSessionFault};
+ghost use Rattle.session_text.specs.Sessions.{StandsAs, IsTextFaultAt, LeadTo, IsSessionOf, IsSessionFault};
 ghost use Rattle.session_text.specs.declared.fault.TextFault.{TextFault};
 ghost use Rattle.session_text.specs.declared.fault.SessionFault.{SessionFault};
 
@@ -52,7 +52,7 @@ pub fn read_session(alloc: Global, bytes: &[u8]) -> Result<Session, Stop<Session
 fn header_at(alloc: Global, bytes: &[u8]) -> Result<(Header, usize), Stop<TextFault>>
     ensures within { IfOk result (λ found. found.1 ≤ length bytes.now) }
     ensures stands { IfOk result (λ found. StandsAs HeaderText bytes.now found.0 (drop found.1 bytes.now)) }
-    ensures fault { (fault : TextFault) → result ≡ Err (Stop.Fault fault) → IsFaultAt HeaderText bytes.now 0 fault }
+    ensures fault { (fault : TextFault) → result ≡ Err (Stop.Fault fault) → IsTextFaultAt HeaderText bytes.now 0 fault }
 {
     let (value, end) = match scan(alloc, bytes, 0) {
         Ok(found) => found,
@@ -111,7 +111,7 @@ fn event_at(
     ensures stands { IfOk result (λ found.
         StandsAs (EventText replicas made) (drop at bytes.now) found.0 (drop found.1 bytes.now)) }
     ensures fault { (fault : TextFault) → result ≡ Err (Stop.Fault fault)
-        → IsFaultAt (EventText replicas made) bytes.now at fault }
+        → IsTextFaultAt (EventText replicas made) bytes.now at fault }
 {
     let (value, end) = match scan(alloc, bytes, at) {
         Ok(found) => found,

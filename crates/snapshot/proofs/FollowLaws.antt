@@ -1,4 +1,4 @@
--- A held element that follows a change is the undone element of the change the other way round. That all are elements is
+-- A captured element that follows a change is the undone element of the change the other way round. That all are elements is
 -- enough for it: their texts need not be UTF-8.
 use Rattle.std.proofs.Common.{◌≡◌, ℕ, true, false, List, ◌++◌, IfSome, codes, bytes_eq, inl, inr, refl, sym, ap, ◌∙◌, subst}
 use Rattle.std.specs.List.{list_any}
@@ -6,7 +6,7 @@ use Rattle.std.proofs.lemmas.Bool.{cases_Bool, cond-true, cond-false, cond_both,
 use Rattle.scene_json.specs.Value.{IsCompact}
 use Rattle.frac_keys.specs.Rising.{are_rising}
 use Rattle.elem.specs.declared.kind.Kind.TheVariants.{Arrow, Image, Text}
-use Rattle.elem.specs.Drawn.{Drawn}
+use Rattle.elem.specs.ElementValue.{ElementValue}
 use Rattle.elem.specs.Facts.{IsElement, IsBinding, is_header, names}
 use Rattle.elem.specs.Order.{unstamped}
 use Rattle.elem.specs.Texts.{text_or_null, binding_text}
@@ -14,7 +14,7 @@ use Rattle.delta.specs.Applied.{IsApplied}
 use Rattle.delta.specs.Delta.{Delta}
 use Rattle.delta.specs.Headers.{scalar_of}
 use Rattle.delta.specs.Pairs.{Pair}
-use Rattle.delta.specs.Parts.{StandsFor, inverse}
+use Rattle.delta.specs.Parts.{PartStandsFor, inverse}
 use Rattle.delta.specs.Undone.{IsUndone}
 use Rattle.delta.proofs.ChangeLaws.{names-inverted}
 use Rattle.delta.proofs.PartLaws.{inverse-twice, turned, change-inverted, scalar-turned, groups-turned, bound-turned, same-unstamped, undone-from}
@@ -24,19 +24,19 @@ use Rattle.undoing.specs.Undoing.{undone_in, undone}
 use Rattle.undoing.proofs.DifferingLaws.{same_kind-same, same_kind-true}
 use Rattle.undoing.proofs.UndoneLaws.{members-rising, members-each, undone_in-undoes}
 
-undone-here : (pair : Pair) (now : Drawn) → same_kind pair.after.kind now.kind ≡ true → undone pair now ≡ undone_in pair now
+undone-here : (pair : Pair) (now : ElementValue) → same_kind pair.after.kind now.kind ≡ true → undone pair now ≡ undone_in pair now
 unfolding undone
 undone-here pair now t = cond-true (same_kind pair.after.kind now.kind) (undone_in pair now) now t
 
-undone-other : (pair : Pair) (now : Drawn) → same_kind pair.after.kind now.kind ≡ false → undone pair now ≡ now
+undone-other : (pair : Pair) (now : ElementValue) → same_kind pair.after.kind now.kind ≡ false → undone pair now ≡ now
 unfolding undone
 undone-other pair now f = cond-false (same_kind pair.after.kind now.kind) (undone_in pair now) now f
 
 -- elements are the same that are so but for their stamps, which are the same
-restamped : (a b : Drawn) → unstamped a ≡ unstamped b → a.version ≡ b.version → a.nonce ≡ b.nonce → a.updated ≡ b.updated → a ≡ b
-restamped a b same version nonce updated = λ i. let e : Drawn = same i in record e { version = version i; nonce = nonce i; updated = updated i }
+restamped : (a b : ElementValue) → unstamped a ≡ unstamped b → a.version ≡ b.version → a.nonce ≡ b.nonce → a.updated ≡ b.updated → a ≡ b
+restamped a b same version nonce updated = λ i. let e : ElementValue = same i in record e { version = version i; nonce = nonce i; updated = updated i }
 
-module _ (pair : Pair) (now : Drawn) (before : IsElement pair.before) (after : IsElement pair.after) (isnow : IsElement now) where
+module _ (pair : Pair) (now : ElementValue) (before : IsElement pair.before) (after : IsElement pair.after) (isnow : IsElement now) where
   -- the undone element is an element
   in-element : pair.before.kind ≡ now.kind → IsElement (undone_in pair now)
   in-element e = record {
@@ -63,7 +63,7 @@ module _ (pair : Pair) (now : Drawn) (before : IsElement pair.before) (after : I
   }
 
   -- what undoes is the undone element
-  only : pair.before.kind ≡ pair.after.kind → (result : Drawn) → IsElement result → IsUndone pair.before pair.after now result → result ≡ undone pair now
+  only : pair.before.kind ≡ pair.after.kind → (result : ElementValue) → IsElement result → IsUndone pair.before pair.after now result → result ≡ undone pair now
   only kind result isresult does = elim (cases_Bool (same_kind pair.after.kind now.kind)) [
     | inl t ↦
         let own = same_kind-true pair.after.kind now.kind after.kind isnow.kind t in
@@ -80,7 +80,7 @@ module _ (pair : Pair) (now : Drawn) (before : IsElement pair.before) (after : I
   ]
 
 -- the inverse of a part under another id stands for its elements exchanged
-inverse-stands : (part : Delta) (old new : Drawn) → StandsFor part old new → old.kind ≡ new.kind → StandsFor (record (inverse part) { id = old.id }) new old
+inverse-stands : (part : Delta) (old new : ElementValue) → PartStandsFor part old new → old.kind ≡ new.kind → PartStandsFor (record (inverse part) { id = old.id }) new old
 inverse-stands part old new stands kind = record {
   id = refl;
   kind = stands.kind ∙ sym kind;
@@ -92,12 +92,12 @@ inverse-stands part old new stands kind = record {
 }
 
 -- the id of a part plays no part in what it makes
-renamed-applied : (part : Delta) (id : List ℕ) (held result : Drawn) → IsApplied part held result → IsApplied (record part { id = id }) held result
-renamed-applied part id held result applied = record { changed = applied.changed; other = applied.other }
+renamed-applied : (part : Delta) (id : List ℕ) (captured result : ElementValue) → IsApplied part captured result → IsApplied (record part { id = id }) captured result
+renamed-applied part id captured result applied = record { changed = applied.changed; other = applied.other }
 
-pub follows-undone : (old new held result : Drawn) (part : Delta) → IsElement old → IsElement new → IsElement held → IsElement result → old.kind ≡ new.kind → StandsFor part old new → IsApplied part held result → result ≡ undone (record { before = new; after = old }) held
-follows-undone old new held result part isold isnew isheld isresult kind stands applied =
+pub follows-undone : (old new captured result : ElementValue) (part : Delta) → IsElement old → IsElement new → IsElement captured → IsElement result → old.kind ≡ new.kind → PartStandsFor part old new → IsApplied part captured result → result ≡ undone (record { before = new; after = old }) captured
+follows-undone old new captured result part isold isnew iscaptured isresult kind stands applied =
     let back : Delta = record (inverse part) { id = old.id } in
-    let twice = subst (λ p. IsApplied p held result) (sym (inverse-twice part)) applied in
-    only (record { before = new; after = old }) held isnew isold isheld (sym kind) result isresult
-    (undone-from back new old isnew isold (inverse-stands part old new stands kind) held result isheld isresult (renamed-applied (inverse (inverse part)) old.id held result twice))
+    let twice = subst (λ p. IsApplied p captured result) (sym (inverse-twice part)) applied in
+    only (record { before = new; after = old }) captured isnew isold iscaptured (sym kind) result isresult
+    (undone-from back new old isnew isold (inverse-stands part old new stands kind) captured result iscaptured isresult (renamed-applied (inverse (inverse part)) old.id captured result twice))

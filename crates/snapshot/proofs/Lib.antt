@@ -1,6 +1,6 @@
 pub mod FollowLaws
 pub mod PutLaws
-pub mod HeldLaws
+pub mod CapturedLaws
 pub mod PendingLaws
 pub mod PlanLaws
 pub mod StoredLaws

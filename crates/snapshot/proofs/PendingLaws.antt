@@ -4,7 +4,7 @@ use Rattle.std.proofs.lemmas.List.{map-append, take_more, get_or-take}
 use Rattle.std.proofs.lemmas.Option.{none-some, slice_get_within, get_or_from_slice_get}
 use Rattle.frac_keys.specs.Keys.{bytes_less}
 use Rattle.frac_keys.specs.Rising.{are_rising}
-use Rattle.elem.specs.Drawn.{Drawn}
+use Rattle.elem.specs.ElementValue.{ElementValue}
 use Rattle.delta.specs.Pairs.{Pair, pair_with}
 use Rattle.elem_store.specs.Updates.{element_of, ids_of}
 use Rattle.elem_store.proofs.Placed.{some_within}
@@ -12,7 +12,7 @@ use Rattle.elem_store.proofs.Rising.{earlier_less}
 use Rattle.delta.proofs.RisingIds.{Contains-map}
 use Rattle.snapshot.specs.Pending.{pairs_since}
 
-module _ (snapshot store : List Drawn) (i : ℕ) (e : Drawn) (at : slice_get store i ≡ Some e) where
+module _ (snapshot store : List ElementValue) (i : ℕ) (e : ElementValue) (at : slice_get store i ≡ Some e) where
   here : get_or store i e ≡ e
   here = get_or_from_slice_get store i e e at
 
@@ -22,25 +22,25 @@ module _ (snapshot store : List Drawn) (i : ℕ) (e : Drawn) (at : slice_get sto
   -- those with the next one
   pub pairs-more : pairs_since snapshot (take i store) ++ pair_with (element_of snapshot e.id) e ∷ [] ≡ pairs_since snapshot (take (i + 1) store)
   pairs-more =
-      let pair = λ (x : Drawn). pair_with (element_of snapshot x.id) x in
+      let pair = λ (x : ElementValue). pair_with (element_of snapshot x.id) x in
       sym (map-append pair (take i store) (e ∷ []))
       ∙ ap (map pair) (sym (take_more store i e within ∙ ap (λ x. take i store ++ x ∷ []) here))
 
   -- have lesser ids than that
   pub pairs-less : are_rising (ids_of store) ≡ true → (other : Pair) → Contains (pairs_since snapshot (take i store)) other → bytes_less other.after.id e.id ≡ true
   pairs-less rising other c =
-      let own = Contains-map (λ (x : Drawn). pair_with (element_of snapshot x.id) x) (take i store) other c in
+      let own = Contains-map (λ (x : ElementValue). pair_with (element_of snapshot x.id) x) (take i store) other c in
       let low : own.1.0 < i = omega (arith, own.1.1, length-take i store) in
       subst₂ (λ a b. bytes_less a b ≡ true)
-      (ap (λ (x : Drawn). x.id) (sym (get_or-take i store own.1.0 own.0 low) ∙ own.1.2) ∙ ap (λ (p : Pair). p.after.id) own.2)
-      (ap (λ (x : Drawn). x.id) (get_or_from_slice_get store i e own.0 at))
+      (ap (λ (x : ElementValue). x.id) (sym (get_or-take i store own.1.0 own.0 low) ∙ own.1.2) ∙ ap (λ (p : Pair). p.after.id) own.2)
+      (ap (λ (x : ElementValue). x.id) (get_or_from_slice_get store i e own.0 at))
       (earlier_less None None store own.1.0 i own.0 rising low within)
 
 -- there is an element at each index below the number of elements
-pub stored-at : (store : List Drawn) (i : ℕ) → i < length store → None ≡ slice_get store i → ⊥
+pub stored-at : (store : List ElementValue) (i : ℕ) → i < length store → None ≡ slice_get store i → ⊥
 stored-at store i l none = absurd (let x = some_within store i l in none-some x.0 (none ∙ x.1))
 
 -- the ids rise, if they do where there is an element
-pub rising : (store : List Drawn) → (0 < length store → are_rising (ids_of store) ≡ true) → are_rising (ids_of store) ≡ true
+pub rising : (store : List ElementValue) → (0 < length store → are_rising (ids_of store) ≡ true) → are_rising (ids_of store) ≡ true
 rising [] h = refl
 rising (e ∷ store) h = h (omega arith)

@@ -3,54 +3,55 @@
 use Rattle.std.specs.Prelude.{◌≡◌, ◌≢◌, ℕ, List, true, false, Option, Some, None, if◌then◌else◌}
 use Rattle.std.specs.Option.{option_map}
 use Rattle.frac_keys.specs.Rising.{are_rising}
-use Rattle.elem.specs.Drawn.{Drawn}
+use Rattle.elem.specs.ElementValue.{ElementValue}
 use Rattle.elem.specs.Facts.{IsElement}
-use Rattle.elem_store.specs.Updates.{is_of, element_of, ids_of}
+use Rattle.elem.specs.Order.{has_id}
+use Rattle.elem_store.specs.Updates.{element_of, ids_of}
 use Rattle.delta.specs.Delta.{Delta}
 use Rattle.delta.specs.Applied.{IsApplied}
-use Rattle.delta.specs.Parts.{StandsFor}
+use Rattle.delta.specs.Parts.{PartStandsFor}
 use Rattle.undoing.specs.Carrying.{with_put}
 use Rattle.undoing.specs.Differing.{same_kind}
 use Rattle.undoing.specs.Undoing.{undone}
 
 -- the element after the difference of two others was applied to it
-pub record IsLed (old new held result : Drawn) : Type 0 where
+pub record IsLed (old new captured result : ElementValue) : Type 0 where
   pub is_element : IsElement result
-  pub applied : (part : Delta) × StandsFor part old new × IsApplied part held result
+  pub applied : (part : Delta) × PartStandsFor part old new × IsApplied part captured result
 
 -- What a stored change makes of the element that the snapshot holds of its id, if it holds one. The new element comes where
--- nothing was stored or the kind is another one; else nothing comes where nothing is held, and else the held element
+-- nothing was stored or the kind is another one; else nothing comes where nothing is captured, and else the captured element
 -- changes as the stored one did.
-pub record IsCarried (held old : Option Drawn) (new : Drawn) (result : Option Drawn) : Type 0 where
+pub record IsCarried (captured old : Option ElementValue) (new : ElementValue) (result : Option ElementValue) : Type 0 where
   pub created : old ≡ None → result ≡ Some new
-  pub other_kind : (stored : Drawn) → old ≡ Some stored → stored.kind ≢ new.kind → result ≡ Some new
-  pub absent : (stored : Drawn) → old ≡ Some stored → stored.kind ≡ new.kind → held ≡ None → result ≡ None
-  pub changed : (stored e : Drawn) → old ≡ Some stored → stored.kind ≡ new.kind → held ≡ Some e
-      → (led : Drawn) × IsLed stored new e led × (result ≡ Some led)
+  pub other_kind : (stored : ElementValue) → old ≡ Some stored → stored.kind ≢ new.kind → result ≡ Some new
+  pub absent : (stored : ElementValue) → old ≡ Some stored → stored.kind ≡ new.kind → captured ≡ None → result ≡ None
+  pub changed : (stored e : ElementValue) → old ≡ Some stored → stored.kind ≡ new.kind → captured ≡ Some e
+      → (led : ElementValue) × IsLed stored new e led × (result ≡ Some led)
 
 -- The snapshot's element of this id is as it was carried, and the others stay.
-pub record HasCarried (before : List Drawn) (old : Option Drawn) (new : Drawn) (after : List Drawn) : Type 0 where
+pub record HasCarried (before : List ElementValue) (old : Option ElementValue) (new : ElementValue) (after : List ElementValue) : Type 0 where
   pub ordered : are_rising (ids_of after) ≡ true
   pub own : IsCarried (element_of before new.id) old new (element_of after new.id)
-  pub others : (id : List ℕ) → is_of id new ≡ false → element_of after id ≡ element_of before id
+  pub others : (id : List ℕ) → has_id id new ≡ false → element_of after id ≡ element_of before id
 
 -- The element is the one of its id, and the others stay.
-pub record HasPut (before : List Drawn) (e : Drawn) (after : List Drawn) : Type 0 where
+pub record HasPut (before : List ElementValue) (e : ElementValue) (after : List ElementValue) : Type 0 where
   pub ordered : are_rising (ids_of after) ≡ true
-  pub each : (id : List ℕ) → element_of after id ≡ (if is_of id e then Some e else element_of before id)
+  pub each : (id : List ℕ) → element_of after id ≡ (if has_id id e then Some e else element_of before id)
 
--- What a stored change makes of the held element of its id, if there is one, as a function.
-abbrev pub carried_to : Option Drawn → Option Drawn → Drawn → Option Drawn
-carried_to held None new = Some new
-carried_to held (Some old) new =
-    if same_kind old.kind new.kind then option_map (undone (record { before = new; after = old })) held else Some new
+-- What a stored change makes of the captured element of its id, if there is one, as a function.
+abbrev pub carried_to : Option ElementValue → Option ElementValue → ElementValue → Option ElementValue
+carried_to captured None new = Some new
+carried_to captured (Some old) new =
+    if same_kind old.kind new.kind then option_map (undone (record { before = new; after = old })) captured else Some new
 
 -- elements with one more, if there is one
-abbrev pub with_made : Option Drawn → List Drawn → List Drawn
+abbrev pub with_made : Option ElementValue → List ElementValue → List ElementValue
 with_made None elements = elements
 with_made (Some e) elements = with_put e elements
 
 -- Each of these elements has a stored one of its id, which is of its kind.
-abbrev pub AreOfStoredKinds : List Drawn → List Drawn → Type 0
+abbrev pub AreOfStoredKinds : List ElementValue → List ElementValue → Type 0
 AreOfStoredKinds elements stored =
-    (id : List ℕ) (e : Drawn) → element_of elements id ≡ Some e → (own : Drawn) × (element_of stored id ≡ Some own) × (same_kind e.kind own.kind ≡ true)
+    (id : List ℕ) (e : ElementValue) → element_of elements id ≡ Some e → (own : ElementValue) × (element_of stored id ≡ Some own) × (same_kind e.kind own.kind ≡ true)

@@ -9,7 +9,7 @@ ghost use Rattle.undoing.specs.Carrying.{with_put, with_all_put, carried_over, c
 ghost use Rattle.undoing.specs.Undoing.{undone};
 ghost use Rattle.snapshot.specs.Carried.{IsCarried, HasCarried, carried_to};
 
-use crate::held::{find, put, put_made};
+use crate::captured::{find, put, put_made};
 use crate::pending::know_order;
 use delta::{apply, are_one_kind, difference};
 use elem::{Element, beats};
@@ -34,86 +34,86 @@ pub(crate) fn carry(
     put_made(elements, made)
 }
 
-/// What a stored change makes of the held element of its id.
+/// What a stored change makes of the captured element of its id.
 fn carried(
     alloc: Global,
-    held: Option<&Element>,
+    captured: Option<&Element>,
     old: Option<&Element>,
     new: &Element,
 ) -> Result<Option<Element>, AllocError>
-    requires held_id { IfSome (option_copied held) (λ held. held.id ≡ new.now.id) }
+    requires captured_id { IfSome (option_copied captured) (λ captured. captured.id ≡ new.now.id) }
     requires id { IfSome (option_copied old) (λ old. old.id ≡ new.now.id) }
-    ensures is { IfOk result (IsCarried (option_copied held.entry) (option_copied old.entry) new.now) }
-    ensures to { IfOk result (λ made. made ≡ carried_to (option_copied held.entry) (option_copied old.entry) new.now) }
+    ensures is { IfOk result (IsCarried (option_copied captured.entry) (option_copied old.entry) new.now) }
+    ensures to { IfOk result (λ made. made ≡ carried_to (option_copied captured.entry) (option_copied old.entry) new.now) }
 {
     match old {
-        Some(old) => changed(alloc, held, old, new),
+        Some(old) => changed(alloc, captured, old, new),
         None => Ok(Some(new.try_clone()?)),
     }
 }
 
-/// What a change of a stored element makes of the held one: a new element of another kind takes its place.
+/// What a change of a stored element makes of the captured one: a new element of another kind takes its place.
 fn changed(
     alloc: Global,
-    held: Option<&Element>,
+    captured: Option<&Element>,
     old: &Element,
     new: &Element,
 ) -> Result<Option<Element>, AllocError>
-    requires held_id { IfSome (option_copied held) (λ held. held.id ≡ new.now.id) }
+    requires captured_id { IfSome (option_copied captured) (λ captured. captured.id ≡ new.now.id) }
     requires id { old.now.id ≡ new.now.id }
-    ensures is { IfOk result (IsCarried (option_copied held.entry) (Some old.now) new.now) }
-    ensures to { IfOk result (λ made. made ≡ carried_to (option_copied held.entry) (Some old.now) new.now) }
+    ensures is { IfOk result (IsCarried (option_copied captured.entry) (Some old.now) new.now) }
+    ensures to { IfOk result (λ made. made ≡ carried_to (option_copied captured.entry) (Some old.now) new.now) }
 {
     if are_one_kind(&old.kind, &new.kind) {
-        follow(alloc, held, old, new)
+        follow(alloc, captured, old, new)
     } else {
         Ok(Some(new.try_clone()?))
     }
 }
 
-/// Makes the change from one element to another one of its kind in the held one, if there is one.
+/// Makes the change from one element to another one of its kind in the captured one, if there is one.
 fn follow(
     alloc: Global,
-    held: Option<&Element>,
+    captured: Option<&Element>,
     old: &Element,
     new: &Element,
 ) -> Result<Option<Element>, AllocError>
-    requires held_id { IfSome (option_copied held) (λ held. held.id ≡ new.now.id) }
+    requires captured_id { IfSome (option_copied captured) (λ captured. captured.id ≡ new.now.id) }
     requires id { old.now.id ≡ new.now.id }
     requires kind { old.now.kind ≡ new.now.kind }
-    ensures is { IfOk result (IsCarried (option_copied held.entry) (Some old.now) new.now) }
+    ensures is { IfOk result (IsCarried (option_copied captured.entry) (Some old.now) new.now) }
     ensures to { IfOk result (λ made.
-        made ≡ option_map (undone (record { before = new.now; after = old.now })) (option_copied held.entry)) }
+        made ≡ option_map (undone (record { before = new.now; after = old.now })) (option_copied captured.entry)) }
 {
-    let Some(held) = held else {
+    let Some(captured) = captured else {
         return Ok(None);
     };
     // Whoever reads a field knows that it is an element.
-    let _ = &held.deleted;
+    let _ = &captured.deleted;
     let _ = &old.deleted;
     let _ = &new.deleted;
     let part = difference(alloc, Some(old), new)?;
-    let made = apply(alloc, &part, held)?;
+    let made = apply(alloc, &part, captured)?;
     Ok(Some(made))
 }
 
-/// The elements that carrying makes of the held ones, for each of a list that becomes stored.
+/// The elements that carrying makes of the captured ones, for each of a list that becomes stored.
 pub(crate) fn carrying(
     alloc: Global,
-    held: &Vec<Element>,
+    captured: &Vec<Element>,
     store: &Store,
     list: &[Element],
 ) -> Result<Vec<Element>, AllocError>
-    requires { are_rising (ids_of held.now.items) ≡ true }
-    ensures step { IfOk result (λ step. with_all_put step.items held.now.items
-        ≡ carried_all (takings store.now.elements list.now) held.now.items) }
+    requires { are_rising (ids_of captured.now.items) ≡ true }
+    ensures step { IfOk result (λ step. with_all_put step.items captured.now.items
+        ≡ carried_all (takings store.now.elements list.now) captured.now.items) }
     ensures ordered { IfOk result (λ step. are_rising (ids_of step.items) ≡ true) }
 {
     know_order(store);
     let mut newer = Vec::new(alloc);
     let mut step = Vec::new(alloc);
     for e in list {
-        carry_one(alloc, held, store, &mut newer, &mut step, e)?;
+        carry_one(alloc, captured, store, &mut newer, &mut step, e)?;
     }
     Ok(step)
 }
@@ -121,20 +121,20 @@ pub(crate) fn carrying(
 /// Carries an element into the step, if it becomes stored over the store with the newer ones.
 fn carry_one(
     alloc: Global,
-    held: &Vec<Element>,
+    captured: &Vec<Element>,
     store: &Store,
     newer: &mut Vec<Element>,
     step: &mut Vec<Element>,
     e: &Element,
 ) -> Result<(), AllocError>
-    requires held { are_rising (ids_of held.now.items) ≡ true }
+    requires captured { are_rising (ids_of captured.now.items) ≡ true }
     requires newer { are_rising (ids_of newer.old.items) ≡ true }
     requires step { are_rising (ids_of step.old.items) ≡ true }
     ensures newer { let stored = with_all_put newer.old.items store.now.elements in
         OnOk result (newer.new.items ≡ (if is_taken stored e.now then with_put e.now newer.old.items else newer.old.items)) }
     ensures step { let stored = with_all_put newer.old.items store.now.elements in
-        let now = with_all_put step.old.items held.now.items in
-        OnOk result (with_all_put step.new.items held.now.items
+        let now = with_all_put step.old.items captured.now.items in
+        OnOk result (with_all_put step.new.items captured.now.items
         ≡ (if is_taken stored e.now then carried_over (element_of stored e.now.id) e.now now else now)) }
     ensures ordered { OnOk result (are_rising (ids_of step.new.items) ≡ true) }
 {
@@ -142,7 +142,7 @@ fn carry_one(
     if !is_newer(e, old) {
         return Ok(());
     }
-    let made = carried(alloc, find_over(step, held, &e.id), old, e)?;
+    let made = carried(alloc, find_over(step, captured, &e.id), old, e)?;
     put_made(step, made)?;
     put(newer, e.try_clone()?)
 }
@@ -158,15 +158,19 @@ fn stored_over<'a>(newer: &'a Vec<Element>, store: &'a Store, id: &Text) -> Opti
     }
 }
 
-/// The element of this id: that of the step, or the held one.
-fn find_over<'a>(step: &'a Vec<Element>, held: &'a Vec<Element>, id: &Text) -> Option<&'a Element>
+/// The element of this id: that of the step, or the captured one.
+fn find_over<'a>(
+    step: &'a Vec<Element>,
+    captured: &'a Vec<Element>,
+    id: &Text,
+) -> Option<&'a Element>
     requires step { are_rising (ids_of step.now.items) ≡ true }
-    requires held { are_rising (ids_of held.now.items) ≡ true }
-    ensures { option_copied result ≡ element_of (with_all_put step.now.items held.now.items) id.now }
+    requires captured { are_rising (ids_of captured.now.items) ≡ true }
+    ensures { option_copied result ≡ element_of (with_all_put step.now.items captured.now.items) id.now }
 {
     match find(step, id) {
         Some(e) => Some(e),
-        None => find(held, id),
+        None => find(captured, id),
     }
 }
 

@@ -2,7 +2,7 @@
 
 ghost use Rattle.std.specs.Prelude.{◌≡◌, ℕ, List, true, Contains, IsSome};
 ghost use Rattle.frac_keys.specs.Rising.{are_rising};
-ghost use Rattle.elem.specs.Drawn.{Drawn};
+ghost use Rattle.elem.specs.ElementValue.{ElementValue};
 ghost use Rattle.elem_store.specs.Updates.{element_of, ids_of, is_taken, takings};
 ghost use Rattle.delta.specs.Delta.{Delta};
 ghost use Rattle.delta.specs.Pairs.{EntryStandsFor};
@@ -14,25 +14,25 @@ ghost use Rattle.snapshot.specs.Pending.{pairs_since};
 /// Each element of a snapshot has a stored one of its kind where it is what is stored, as after a capture; its ids are then
 /// stored.
 pub fn stored_kinds_are_known()
-    ensures captured { (stored : List Drawn) → AreOfStoredKinds stored stored }
-    ensures known { (snapshot stored : List Drawn) (id : List ℕ)
+    ensures captured { (stored : List ElementValue) → AreOfStoredKinds stored stored }
+    ensures known { (snapshot stored : List ElementValue) (id : List ℕ)
         → AreOfStoredKinds snapshot stored → IsSome (element_of snapshot id) → IsSome (element_of stored id) }
 {}
 
 /// It still has once a stored update was carried into it, and all of a list that became stored.
 pub fn carrying_keeps_kinds()
-    ensures one { (snapshot stored : List Drawn) (e : Drawn)
+    ensures one { (snapshot stored : List ElementValue) (e : ElementValue)
         → AreOfStoredKinds snapshot stored → is_taken stored e ≡ true
         → AreOfStoredKinds (carried (record { before = element_of stored e.id; taken = e }) snapshot) (taken e stored) }
-    ensures list { (list snapshot stored : List Drawn)
+    ensures list { (list snapshot stored : List ElementValue)
         → are_rising (ids_of stored) ≡ true → AreOfStoredKinds snapshot stored
         → AreOfStoredKinds (carried_all (takings stored list) snapshot) (taken_all list stored) }
 {}
 
 /// A captured entry has stored ids.
 pub fn captured_ids_are_stored()
-    ensures since { (parts : List Delta) (snapshot stored : List Drawn) (part : Delta)
+    ensures since { (parts : List Delta) (snapshot stored : List ElementValue) (part : Delta)
         → EntryStandsFor parts (pairs_since snapshot stored) → Contains parts part → IsSome (element_of stored part.id) }
-    ensures pending { (parts : List Delta) (snapshot stored : List Drawn) (part : Delta)
+    ensures pending { (parts : List Delta) (snapshot stored : List ElementValue) (part : Delta)
         → EntryStandsFor parts (pending snapshot stored) → Contains parts part → IsSome (element_of stored part.id) }
 {}

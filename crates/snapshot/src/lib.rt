@@ -1,8 +1,8 @@
 //! What the elements of a board were when they were last captured, and what has changed since.
 #![tactic(auto)]
 
+mod captured;
 mod carrying;
-mod held;
 pub mod laws;
 mod pending;
 mod snapshot;

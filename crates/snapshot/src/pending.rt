@@ -9,7 +9,7 @@ ghost use Rattle.elem_store.specs.Updates as updates;
 ghost use Rattle.undoing.specs.Carrying.{with_put, with_all_put};
 ghost use Rattle.snapshot.specs.Pending.{pairs_since};
 
-use crate::held::{find, put};
+use crate::captured::{find, put};
 use delta::{Part, are_one_kind, difference};
 use elem::{Element, same, same_but_stamp};
 use elem_store::Store;

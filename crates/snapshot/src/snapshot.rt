@@ -12,8 +12,8 @@ ghost use Rattle.undoing.specs.Differing as specs;
 ghost use Rattle.snapshot.specs.Carried.{HasCarried};
 ghost use Rattle.snapshot.specs.Pending.{pairs_since};
 
+use crate::captured::{put_all, put_copies};
 use crate::carrying::{carry, carrying};
-use crate::held::{put_all, put_copies};
 use crate::pending::{copies_of, differing, ids_of, parts_since, parts_to};
 use board_io::List;
 use delta::Entry;
@@ -54,10 +54,10 @@ pub struct SnapshotStep {
 impl Model for SnapshotStep {
     ghost use Rattle.std.specs.Prelude.{◌≡◌, List, true};
     ghost use Rattle.frac_keys.specs.Rising.{are_rising};
-    ghost use Rattle.elem.specs.Drawn.{Drawn};
+    ghost use Rattle.elem.specs.ElementValue.{ElementValue};
     ghost use Rattle.elem_store.specs.Updates.{ids_of};
 
-    ghost Value = { List Drawn };
+    ghost Value = { List ElementValue };
 
     ghost view = { λ s. s.elements.items };
 

@@ -5,15 +5,15 @@ use Rattle.std.proofs.lemmas.List.Elements.{All-contains}
 use Rattle.scene_json.proofs.Collapsed.{bytes_eq-true, bytes_eq-same}
 use Rattle.frac_keys.specs.Rising.{ends_rise, rise_between, are_rising}
 use Rattle.elem.specs.declared.kind.Kind.{Kind}
-use Rattle.elem.specs.Drawn.{Drawn}
+use Rattle.elem.specs.ElementValue.{ElementValue}
 use Rattle.elem.specs.Facts.{IsKind, IsElement}
-use Rattle.elem.specs.Order.{unstamped}
-use Rattle.elem.specs.Said.{IsWritten, AreElements}
+use Rattle.elem.specs.Order.{unstamped, has_id}
+use Rattle.elem.specs.Said.{HasValidTexts, AreElements}
 use Rattle.elem.specs.Texts.{kind_name, element_text}
 use Rattle.elem.proofs.FormsOnce.{kind_of_name-once}
 use Rattle.elem.proofs.Saying.{text-of-one}
 use Rattle.elem.proofs.Sorting.{bytes_less-trans}
-use Rattle.elem_store.specs.Updates.{is_of, element_of, ids_of}
+use Rattle.elem_store.specs.Updates.{element_of, ids_of}
 use Rattle.elem_store.proofs.Ids.{same_id}
 use Rattle.elem_store.proofs.Lists.{Contains-filter, filter-Contains, find-Some}
 use Rattle.delta.specs.Delta.{Delta}
@@ -31,7 +31,7 @@ pub same_kind-true : (a b : Kind) → IsKind a → IsKind b → same_kind a b �
 same_kind-true a b is is' h = kind_of_name-once a b is is' (bytes_eq-true (kind_name a) (kind_name b) h)
 
 -- ---- elements without their stamps
-unstamped-is : (e : Drawn) → IsElement e → IsElement (unstamped e)
+unstamped-is : (e : ElementValue) → IsElement e → IsElement (unstamped e)
 unstamped-is e is = record {
   named = is.named;
   version = lit≤ tt;
@@ -47,7 +47,7 @@ unstamped-is e is = record {
   nest = is.nest;
 }
 
-unstamped-written : (e : Drawn) → IsWritten e → IsWritten (unstamped e)
+unstamped-written : (e : ElementValue) → HasValidTexts e → HasValidTexts (unstamped e)
 unstamped-written e w = record {
   id = w.id;
   kind = w.kind;
@@ -62,20 +62,20 @@ unstamped-written e w = record {
   rest = w.rest;
 }
 
-pub differ-same : (a b : Drawn) → unstamped a ≡ unstamped b → differ a b ≡ false
+pub differ-same : (a b : ElementValue) → unstamped a ≡ unstamped b → differ a b ≡ false
 unfolding differ
 differ-same a b same =
     ap (λ e. not (bytes_eq (element_text e) (element_text (unstamped b)))) same
     ∙ ap not (bytes_eq-same (element_text (unstamped b)))
 
-pub differ-true : (a b : Drawn) → differ a b ≡ true → unstamped a ≢ unstamped b
+pub differ-true : (a b : ElementValue) → differ a b ≡ true → unstamped a ≢ unstamped b
 differ-true a b h same = false≢true (sym (differ-same a b same) ∙ h)
 
-same_text : (a b : Drawn) → differ a b ≡ false → element_text (unstamped a) ≡ element_text (unstamped b)
+same_text : (a b : ElementValue) → differ a b ≡ false → element_text (unstamped a) ≡ element_text (unstamped b)
 unfolding differ
 same_text a b h = bytes_eq-true _ _ (not-false (bytes_eq (element_text (unstamped a)) (element_text (unstamped b))) h)
 
-pub differ-false : (a b : Drawn) → IsElement a → IsWritten a → IsElement b → IsWritten b → differ a b ≡ false → unstamped a ≡ unstamped b
+pub differ-false : (a b : ElementValue) → IsElement a → HasValidTexts a → IsElement b → HasValidTexts b → differ a b ≡ false → unstamped a ≡ unstamped b
 differ-false a b is w is' w' h =
     text-of-one (unstamped a) (unstamped b) (unstamped-is a is) (unstamped-written a w) (unstamped-is b is') (unstamped-written b w') (same_text a b h)
 
@@ -103,7 +103,7 @@ changed-is pair of changed =
 
 -- ---- what has changed since a snapshot
 -- a deleted element is one too
-deleted-is : (e : Drawn) → IsElement e → IsElement (record e { deleted = true })
+deleted-is : (e : ElementValue) → IsElement e → IsElement (record e { deleted = true })
 deleted-is e is = record {
   named = is.named;
   version = is.version;
@@ -119,7 +119,7 @@ deleted-is e is = record {
   nest = is.nest;
 }
 
-deleted-written : (e : Drawn) → IsWritten e → IsWritten (record e { deleted = true })
+deleted-written : (e : ElementValue) → HasValidTexts e → HasValidTexts (record e { deleted = true })
 deleted-written e w = record {
   id = w.id;
   kind = w.kind;
@@ -135,34 +135,34 @@ deleted-written e w = record {
 }
 
 -- an element of this id that is found is an element of the list, and of the id
-pub found-is : (elements : List Drawn) (id : List ℕ) (e : Drawn) → AreElements elements → element_of elements id ≡ Some e → (IsElement e × IsWritten e) × (e.id ≡ id)
+pub found-is : (elements : List ElementValue) (id : List ℕ) (e : ElementValue) → AreElements elements → element_of elements id ≡ Some e → (IsElement e × HasValidTexts e) × (e.id ≡ id)
 found-is elements id e are h =
-    let found = find-Some (is_of id) elements e h in
-    (All-contains (λ e. IsElement e × IsWritten e) elements e are found.0, sym (same_id id e found.1))
+    let found = find-Some (has_id id) elements e h in
+    (All-contains (λ e. IsElement e × HasValidTexts e) elements e are found.0, sym (same_id id e found.1))
 
 -- the pairs from the elements of one list to those of another one are of elements, of one id each
-module _ (olds : List Drawn) (are : AreElements olds) where
-  counted-is : (new : Drawn) (o : Option Drawn) → element_of olds new.id ≡ o → IsElement new × IsWritten new → (IsElement (counted o new) × IsWritten (counted o new)) × ((counted o new).id ≡ new.id)
+module _ (olds : List ElementValue) (are : AreElements olds) where
+  counted-is : (new : ElementValue) (o : Option ElementValue) → element_of olds new.id ≡ o → IsElement new × HasValidTexts new → (IsElement (counted o new) × HasValidTexts (counted o new)) × ((counted o new).id ≡ new.id)
   counted-is new None h is = ((deleted-is new is.0, deleted-written new is.1), refl)
   counted-is new (Some old) h is = found-is olds new.id old are h
 
-  pub pairs-elements : (news : List Drawn) → AreElements news → (pair : Pair) → Contains (pairs_from (element_of olds) news) pair → IsOfElements pair × (pair.before.id ≡ pair.after.id)
+  pub pairs-elements : (news : List ElementValue) → AreElements news → (pair : Pair) → Contains (pairs_from (element_of olds) news) pair → IsOfElements pair × (pair.before.id ≡ pair.after.id)
   pairs-elements news are' pair c =
-      let of = Contains-map (λ (e : Drawn). pair_with (element_of olds e.id) e) news pair c in
-      let is = All-contains (λ e. IsElement e × IsWritten e) news of.0 are' of.1 in
+      let of = Contains-map (λ (e : ElementValue). pair_with (element_of olds e.id) e) news pair c in
+      let is = All-contains (λ e. IsElement e × HasValidTexts e) news of.0 are' of.1 in
       let own = counted-is of.0 (element_of olds of.0.id) refl is in
       subst (λ p. IsOfElements p × (p.before.id ≡ p.after.id)) of.2 ((own.0, is), own.1)
 
-pub pending-elements : (snapshot stored : List Drawn) → AreElements snapshot → AreElements stored → (pair : Pair) → Contains (pending snapshot stored) pair → IsOfElements pair × (pair.before.id ≡ pair.after.id)
+pub pending-elements : (snapshot stored : List ElementValue) → AreElements snapshot → AreElements stored → (pair : Pair) → Contains (pending snapshot stored) pair → IsOfElements pair × (pair.before.id ≡ pair.after.id)
 pending-elements snapshot stored are are' pair c =
     pairs-elements snapshot are stored are' pair (filter-Contains is_changed (pairs_from (element_of snapshot) stored) pair c).0
 
-pub pending-changed : (snapshot stored : List Drawn) → AreElements snapshot → AreElements stored → (pair : Pair) → Contains (pending snapshot stored) pair → IsChanged pair
+pub pending-changed : (snapshot stored : List ElementValue) → AreElements snapshot → AreElements stored → (pair : Pair) → Contains (pending snapshot stored) pair → IsChanged pair
 pending-changed snapshot stored are are' pair c =
     let is = pending-elements snapshot stored are are' pair c in
     changed-true pair is.1 is.0.0.0 is.0.1.0 (filter-Contains is_changed (pairs_from (element_of snapshot) stored) pair c).1
 
-pub pending-stands : (snapshot stored : List Drawn) (parts : List Delta) → AreElements snapshot → AreElements stored → EntryStandsFor parts (pairs_from (element_of snapshot) stored) → EntryStandsFor parts (pending snapshot stored)
+pub pending-stands : (snapshot stored : List ElementValue) (parts : List Delta) → AreElements snapshot → AreElements stored → EntryStandsFor parts (pairs_from (element_of snapshot) stored) → EntryStandsFor parts (pending snapshot stored)
 pending-stands snapshot stored parts are are' stands = record {
   ordered = stands.ordered;
   each_part = λ part c.
@@ -199,16 +199,16 @@ module _ {X : Type 0} (id_of : X → List ℕ) (p : X → Bool) where
   pub rising-filter : (xs : List X) → are_rising (map id_of xs) ≡ true → are_rising (map id_of (filter p xs)) ≡ true
   rising-filter xs h = rise-filter None xs h
 
-pub ids-from : (before : List ℕ → Option Drawn) (elements : List Drawn) → pair_ids (pairs_from before elements) ≡ ids_of elements
+pub ids-from : (before : List ℕ → Option ElementValue) (elements : List ElementValue) → pair_ids (pairs_from before elements) ≡ ids_of elements
 ids-from before [] = refl
 ids-from before (e ∷ elements) = ap (λ ids. e.id ∷ ids) (ids-from before elements)
 
-pub pending-rise : (snapshot stored : List Drawn) → are_rising (ids_of stored) ≡ true → are_rising (pair_ids (pending snapshot stored)) ≡ true
+pub pending-rise : (snapshot stored : List ElementValue) → are_rising (ids_of stored) ≡ true → are_rising (pair_ids (pending snapshot stored)) ≡ true
 pending-rise snapshot stored h =
     rising-filter (λ (pair : Pair). pair.after.id) is_changed (pairs_from (element_of snapshot) stored) (ap are_rising (ids-from (element_of snapshot) stored) ∙ h)
 
 -- what is pending is an entry
-pub pending-entry : (snapshot stored : List Drawn) → AreElements snapshot → AreElements stored → are_rising (ids_of stored) ≡ true → IsEntry (pending snapshot stored)
+pub pending-entry : (snapshot stored : List ElementValue) → AreElements snapshot → AreElements stored → are_rising (ids_of stored) ≡ true → IsEntry (pending snapshot stored)
 pending-entry snapshot stored are are' rise = record {
   each = λ pair c. ((pending-elements snapshot stored are are' pair c).0, pending-changed snapshot stored are are' pair c);
   ordered = pending-rise snapshot stored rise;

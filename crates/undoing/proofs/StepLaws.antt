@@ -7,10 +7,10 @@ use Rattle.std.proofs.lemmas.List.Elements.{All-contains_itself, All-weaker, All
 use Rattle.std.proofs.lemmas.Option.{none-some, same_Some, cond_some}
 use Rattle.frac_keys.specs.Keys.{bytes_less}
 use Rattle.frac_keys.specs.Rising.{ends_rise, rise_between, are_rising}
-use Rattle.elem.specs.Drawn.{Drawn}
+use Rattle.elem.specs.ElementValue.{ElementValue}
 use Rattle.elem.specs.Facts.{IsElement, greatest_whole}
 use Rattle.elem.specs.Order.{unstamped}
-use Rattle.elem.specs.Said.{IsWritten, AreElements}
+use Rattle.elem.specs.Said.{HasValidTexts, AreElements}
 use Rattle.elem.proofs.Sorting.{bytes_less-same, bytes_less-asym}
 use Rattle.elem_store.specs.Updates.{element_of, ids_of, is_taken, is_newer}
 use Rattle.elem_store.proofs.Lists.{Contains-head, Contains-cons, Contains-cases, find-Some, is_some-find, list_any-false}
@@ -62,62 +62,62 @@ module _ {X Y : Type 0} (h : X → Option Y) where
           (and_from (ends_rise a (Some (id x))) (rise_between (Some (id x)) None (map id' (filter_map h xs))) first rest)
 
 -- ---- the elements that a step gives
-module _ (stored : List Drawn) (time nonce : ℕ) where
+module _ (stored : List ElementValue) (time nonce : ℕ) where
   -- what comes of a pair, from what is stored of its id
-  given_at : Pair → Option Drawn → Option Drawn
-  given_at pair o = option_and_then (λ (r : Reverted). cond (changes r) (Some (stamped time nonce r.undone)) None) (option_map (λ (now : Drawn). record { now = now; undone = undone pair now }) o)
+  given_at : Pair → Option ElementValue → Option ElementValue
+  given_at pair o = option_and_then (λ (r : Reverted). cond (changes r) (Some (stamped time nonce r.undone)) None) (option_map (λ (now : ElementValue). record { now = now; undone = undone pair now }) o)
 
-  given_of-some : (pair : Pair) (e : Drawn) → given_of stored time nonce pair ≡ Some e
-      → (now : Drawn) × (element_of stored pair.after.id ≡ Some now) × (differ now (undone pair now) ≡ true) × (e ≡ stamped time nonce (undone pair now))
+  given_of-some : (pair : Pair) (e : ElementValue) → given_of stored time nonce pair ≡ Some e
+      → (now : ElementValue) × (element_of stored pair.after.id ≡ Some now) × (differ now (undone pair now) ≡ true) × (e ≡ stamped time nonce (undone pair now))
   unfolding given_at
   given_of-some pair e is = go (element_of stored pair.after.id) refl is
     where
-      go : (o : Option Drawn) → element_of stored pair.after.id ≡ o → given_at pair o ≡ Some e
-          → (now : Drawn) × (element_of stored pair.after.id ≡ Some now) × (differ now (undone pair now) ≡ true) × (e ≡ stamped time nonce (undone pair now))
+      go : (o : Option ElementValue) → element_of stored pair.after.id ≡ o → given_at pair o ≡ Some e
+          → (now : ElementValue) × (element_of stored pair.after.id ≡ Some now) × (differ now (undone pair now) ≡ true) × (e ≡ stamped time nonce (undone pair now))
       go None found is = absurd (none-some e is)
       go (Some now) found is =
           let own = cond_some (differ now (undone pair now)) (stamped time nonce (undone pair now)) e is in
           (now, found, own.0, sym own.1)
 
-  given_of-is : (pair : Pair) (now : Drawn) → element_of stored pair.after.id ≡ Some now → differ now (undone pair now) ≡ true → given_of stored time nonce pair ≡ Some (stamped time nonce (undone pair now))
+  given_of-is : (pair : Pair) (now : ElementValue) → element_of stored pair.after.id ≡ Some now → differ now (undone pair now) ≡ true → given_of stored time nonce pair ≡ Some (stamped time nonce (undone pair now))
   unfolding given_at
   given_of-is pair now found differs =
       ap (given_at pair) found ∙ cond-true (differ now (undone pair now)) (Some (stamped time nonce (undone pair now))) None differs
 
   -- each is what undoing a pair makes of the stored element
-  pub given-each : (pairs : List Pair) (e : Drawn) → Contains (given stored time nonce pairs) e → IsGiven stored time nonce pairs e
+  pub given-each : (pairs : List Pair) (e : ElementValue) → Contains (given stored time nonce pairs) e → IsGiven stored time nonce pairs e
   given-each pairs e c =
       let of = given-from (given_of stored time nonce) pairs e c in
       let own = given_of-some of.0 e of.2 in
       record { pair = of.0; now = own.0; among = of.1; found = own.1; differs = own.2; is = own.3 }
 
   -- and all that is changed is given
-  pub given-all : (pairs : List Pair) (e : Drawn) → IsGiven stored time nonce pairs e → Contains (given stored time nonce pairs) e
+  pub given-all : (pairs : List Pair) (e : ElementValue) → IsGiven stored time nonce pairs e → Contains (given stored time nonce pairs) e
   given-all pairs e gives =
       given-to (given_of stored time nonce) pairs gives.pair e gives.among (given_of-is gives.pair gives.now gives.found gives.differs ∙ ap Some (sym gives.is))
 
   module _ (are : AreElements stored) where
     -- it has the id of the pair and of the stored element
-    given-id : (pair : Pair) (e : Drawn) → given_of stored time nonce pair ≡ Some e → e.id ≡ pair.after.id
+    given-id : (pair : Pair) (e : ElementValue) → given_of stored time nonce pair ≡ Some e → e.id ≡ pair.after.id
     given-id pair e is =
         let own = given_of-some pair e is in
-        ap (λ (x : Drawn). x.id) own.3 ∙ (undone-stamp pair own.0).id ∙ (found-is stored pair.after.id own.0 are own.1).1
+        ap (λ (x : ElementValue). x.id) own.3 ∙ (undone-stamp pair own.0).id ∙ (found-is stored pair.after.id own.0 are own.1).1
 
     pub given-rise : (pairs : List Pair) → are_rising (pair_ids pairs) ≡ true → are_rising (ids_of (given stored time nonce pairs)) ≡ true
-    given-rise pairs rise = given-rising (given_of stored time nonce) (λ (pair : Pair). pair.after.id) (λ (e : Drawn). e.id) given-id None pairs rise
+    given-rise pairs rise = given-rising (given_of stored time nonce) (λ (pair : Pair). pair.after.id) (λ (e : ElementValue). e.id) given-id None pairs rise
 
-    stored-of : (pairs : List Pair) (e : Drawn) (gives : IsGiven stored time nonce pairs e) → (gives.now.id ≡ e.id) × (element_of stored e.id ≡ Some gives.now)
+    stored-of : (pairs : List Pair) (e : ElementValue) (gives : IsGiven stored time nonce pairs e) → (gives.now.id ≡ e.id) × (element_of stored e.id ≡ Some gives.now)
     stored-of pairs e gives =
-        let id : gives.now.id ≡ e.id = sym (undone-stamp gives.pair gives.now).id ∙ sym (ap (λ (x : Drawn). x.id) gives.is) in
+        let id : gives.now.id ≡ e.id = sym (undone-stamp gives.pair gives.now).id ∙ sym (ap (λ (x : ElementValue). x.id) gives.is) in
         let own : gives.now.id ≡ gives.pair.after.id = (found-is stored gives.pair.after.id gives.now are gives.found).1 in
         (id, ap (element_of stored) (sym id ∙ own) ∙ gives.found)
 
     -- it beats the stored one
-    pub given-taken : (pairs : List Pair) (e : Drawn) → Contains (given stored time nonce pairs) e → is_taken stored e ≡ true
+    pub given-taken : (pairs : List Pair) (e : ElementValue) → Contains (given stored time nonce pairs) e → is_taken stored e ≡ true
     given-taken pairs e c =
         let gives = given-each pairs e c in
         let own = stored-of pairs e gives in
-        let version : e.version ≡ gives.now.version + 1 = ap (λ (x : Drawn). x.version) gives.is ∙ ap (λ v. v + 1) (undone-stamp gives.pair gives.now).version in
+        let version : e.version ≡ gives.now.version + 1 = ap (λ (x : ElementValue). x.version) gives.is ∙ ap (λ v. v + 1) (undone-stamp gives.pair gives.now).version in
         let more : gives.now.version < e.version = omega arith in
         ap (is_newer e) own.1 ∙ or_left _ _ (lt-ltb gives.now.version e.version more)
 
@@ -152,13 +152,13 @@ module _ {X : Type 0} (id_of : X → List ℕ) (p : X → Bool) where
     ]
   ]
 
-module _ (stored : List Drawn) where
+module _ (stored : List ElementValue) where
   -- whether undoing a pair would change what is stored of its id, which stands at the greatest version
   abbrev is_full_pair : Pair → Bool
   is_full_pair pair = option_map_or is_full (reverted stored pair) false
 
-  full_pair-at : (pair : Pair) (now : Drawn) → element_of stored pair.after.id ≡ Some now → is_full_pair pair ≡ (differ now (undone pair now) && (now.version == greatest_whole))
-  full_pair-at pair now found = ap (λ o. option_map_or is_full (option_map (λ (now : Drawn). record { now = now; undone = undone pair now }) o) false) found
+  full_pair-at : (pair : Pair) (now : ElementValue) → element_of stored pair.after.id ≡ Some now → is_full_pair pair ≡ (differ now (undone pair now) && (now.version == greatest_whole))
+  full_pair-at pair now found = ap (λ o. option_map_or is_full (option_map (λ (now : ElementValue). record { now = now; undone = undone pair now }) o) false) found
 
   module _ (pairs : List Pair) where
     full-passes : (id : List ℕ) (full : IsFullId stored pairs id) → is_full_pair full.pair ≡ true
@@ -177,9 +177,9 @@ module _ (stored : List Drawn) where
         let own = find-Some is_full_pair pairs of.0 of.1 in
         go of.0 own.0 of.2 own.1 (element_of stored of.0.after.id) refl
       where
-        go : (pair : Pair) → Contains pairs pair → pair.after.id ≡ id → is_full_pair pair ≡ true → (o : Option Drawn) → element_of stored pair.after.id ≡ o → IsFullId stored pairs id
+        go : (pair : Pair) → Contains pairs pair → pair.after.id ≡ id → is_full_pair pair ≡ true → (o : Option ElementValue) → element_of stored pair.after.id ≡ o → IsFullId stored pairs id
         go pair c same full None found =
-            absurd (false≢true (sym (ap (λ o. option_map_or is_full (option_map (λ (now : Drawn). record { now = now; undone = undone pair now }) o) false) found) ∙ full))
+            absurd (false≢true (sym (ap (λ o. option_map_or is_full (option_map (λ (now : ElementValue). record { now = now; undone = undone pair now }) o) false) found) ∙ full))
         go pair c same full (Some now) found =
             let parts = and_parts (differ now (undone pair now)) (now.version == greatest_whole) (sym (full_pair-at pair now found) ∙ full) in
             record { pair = pair; now = now; among = c; id = same; found = found; differs = parts.0; version = eqb-true now.version greatest_whole parts.1 }
@@ -191,7 +191,7 @@ module _ (stored : List Drawn) where
         subst₂ (λ a b. bytes_less a b ≡ false) full.id of.2
         (found-least (λ (p : Pair). p.after.id) is_full_pair pairs of.0 full.pair rise of.1 full.among (full-passes other full))
 
-stamped-is : (time nonce : ℕ) (e : Drawn) → time ≤ greatest_whole → nonce ≤ greatest_whole → e.version + 1 ≤ greatest_whole → IsElement e → IsElement (stamped time nonce e)
+stamped-is : (time nonce : ℕ) (e : ElementValue) → time ≤ greatest_whole → nonce ≤ greatest_whole → e.version + 1 ≤ greatest_whole → IsElement e → IsElement (stamped time nonce e)
 stamped-is time nonce e t n v is = record {
   named = is.named;
   version = v;
@@ -207,7 +207,7 @@ stamped-is time nonce e t n v is = record {
   nest = is.nest;
 }
 
-stamped-written : (time nonce : ℕ) (e : Drawn) → IsWritten e → IsWritten (stamped time nonce e)
+stamped-written : (time nonce : ℕ) (e : ElementValue) → HasValidTexts e → HasValidTexts (stamped time nonce e)
 stamped-written time nonce e w = record {
   id = w.id;
   kind = w.kind;
@@ -222,9 +222,9 @@ stamped-written time nonce e w = record {
   rest = w.rest;
 }
 
-module _ (stored : List Drawn) (time nonce : ℕ) (pairs : List Pair) (are : AreElements stored) (entry : IsEntry pairs)
+module _ (stored : List ElementValue) (time nonce : ℕ) (pairs : List Pair) (are : AreElements stored) (entry : IsEntry pairs)
     (in_time : time ≤ greatest_whole) (in_nonce : nonce ≤ greatest_whole) (free : full_id stored pairs ≡ None) where
-  not-full : (pair : Pair) (now : Drawn) → Contains pairs pair → element_of stored pair.after.id ≡ Some now → differ now (undone pair now) ≡ true → (now.version == greatest_whole) ≡ false
+  not-full : (pair : Pair) (now : ElementValue) → Contains pairs pair → element_of stored pair.after.id ≡ Some now → differ now (undone pair now) ≡ true → (now.version == greatest_whole) ≡ false
   not-full pair now c found differs =
       false_from_ne_true (now.version == greatest_whole) (λ t. full-none stored pairs free pair.after.id (record {
         pair = pair;
@@ -236,7 +236,7 @@ module _ (stored : List Drawn) (time nonce : ℕ) (pairs : List Pair) (are : Are
         version = eqb-true now.version greatest_whole t;
       }))
 
-  given-is : (e : Drawn) → Contains (given stored time nonce pairs) e → IsElement e × IsWritten e
+  given-is : (e : ElementValue) → Contains (given stored time nonce pairs) e → IsElement e × HasValidTexts e
   given-is e c =
       let gives = given-each stored time nonce pairs e c in
       let own = entry.each gives.pair gives.among in
@@ -244,18 +244,18 @@ module _ (stored : List Drawn) (time nonce : ℕ) (pairs : List Pair) (are : Are
       let isundone = undone-element gives.pair gives.now own.0 own.1.kind isnow.0 isnow.1 in
       let version = below gives.now.version greatest_whole isnow.0.version (not-full gives.pair gives.now gives.among gives.found gives.differs) in
       let within = subst (λ v. v + 1 ≤ greatest_whole) (sym (undone-stamp gives.pair gives.now).version) version in
-      subst (λ x. IsElement x × IsWritten x) (sym gives.is)
+      subst (λ x. IsElement x × HasValidTexts x) (sym gives.is)
       (stamped-is time nonce (undone gives.pair gives.now) in_time in_nonce within isundone.0, stamped-written time nonce (undone gives.pair gives.now) isundone.1)
 
   -- they are elements
   pub given-elements : AreElements (given stored time nonce pairs)
   given-elements =
       let gives = given stored time nonce pairs in
-      All-weaker (Contains gives) (λ e. IsElement e × IsWritten e) given-is gives (All-contains_itself gives)
+      All-weaker (Contains gives) (λ e. IsElement e × HasValidTexts e) given-is gives (All-contains_itself gives)
 
   made-each : (pair : Pair) → Contains (made stored (given stored time nonce pairs)) pair → IsOfElements pair × IsChanged pair
   made-each pair c =
-      let of = Contains-map (λ (e : Drawn). pair_with (element_of stored e.id) e) (given stored time nonce pairs) pair c in
+      let of = Contains-map (λ (e : ElementValue). pair_with (element_of stored e.id) e) (given stored time nonce pairs) pair c in
       let gives = given-each stored time nonce pairs of.0 of.1 in
       let own = stored-of stored time nonce are pairs of.0 gives in
       let isnow = (found-is stored gives.pair.after.id gives.now are gives.found).0 in
@@ -263,7 +263,7 @@ module _ (stored : List Drawn) (time nonce : ℕ) (pairs : List Pair) (are : Are
       let stamp = undone-stamp gives.pair gives.now in
       let changed : IsChanged (record { before = gives.now; after = of.0 }) = record {
         id = own.0;
-        kind = sym stamp.kind ∙ ap (λ (x : Drawn). x.kind) (sym gives.is);
+        kind = sym stamp.kind ∙ ap (λ (x : ElementValue). x.kind) (sym gives.is);
         differ = λ same. differ-true gives.now (undone gives.pair gives.now) gives.differs (same ∙ ap unstamped gives.is);
       } in
       subst (λ p. IsOfElements p × IsChanged p) is ((isnow, given-is of.0 of.1), changed)
@@ -297,7 +297,7 @@ pub record AreSought (s : Sought) : Type 0 where
   pub below : AreEntries s.below
   pub to : AreEntries s.to
 
-pub sought-entries : (stored : List Drawn) (stack to : List (List Pair)) (s : Sought) → AreEntries stack → AreEntries to → sought stored stack to ≡ Some s → AreSought s
+pub sought-entries : (stored : List ElementValue) (stack to : List (List Pair)) (s : Sought) → AreEntries stack → AreEntries to → sought stored stack to ≡ Some s → AreSought s
 sought-entries stored [] to s are are' h = absurd (none-some s h)
 sought-entries stored (entry ∷ stack) to s are are' h =
     let first = All-head IsEntry entry stack are in
@@ -314,13 +314,13 @@ sought-entries stored (entry ∷ stack) to s are are' h =
 
 -- ---- one step
 -- from the topmost entry that is seen
-pub record IsTurnFrom (stored : List Drawn) (time nonce : ℕ) (from to : List (List Pair)) (turn : Turn) : Type 0 where
+pub record IsTurnFrom (stored : List ElementValue) (time nonce : ℕ) (from to : List (List Pair)) (turn : Turn) : Type 0 where
   pub seen : Sought
   pub is_sought : sought stored from to ≡ Some seen
   pub free : full_id stored seen.entry ≡ None
   pub is : turn ≡ turn_of stored time nonce seen
 
-module _ (stored : List Drawn) (time nonce : ℕ) (from to : List (List Pair)) (turn : Turn) where
+module _ (stored : List ElementValue) (time nonce : ℕ) (from to : List (List Pair)) (turn : Turn) where
   pub step-turn : step stored time nonce from to ≡ Some (Ok turn) → IsTurnFrom stored time nonce from to turn
   step-turn h = go (sought stored from to) refl h
     where
@@ -345,7 +345,7 @@ module _ (stored : List Drawn) (time nonce : ℕ) (from to : List (List Pair)) (
       })
 
 -- a step stops at an id that is full
-pub step-stops : (stored : List Drawn) (time nonce : ℕ) (from to : List (List Pair)) (id : List ℕ) → step stored time nonce from to ≡ Some (Err id) → (seen : Sought) × (sought stored from to ≡ Some seen) × (full_id stored seen.entry ≡ Some id)
+pub step-stops : (stored : List ElementValue) (time nonce : ℕ) (from to : List (List Pair)) (id : List ℕ) → step stored time nonce from to ≡ Some (Err id) → (seen : Sought) × (sought stored from to ≡ Some seen) × (full_id stored seen.entry ≡ Some id)
 step-stops stored time nonce from to id h = go (sought stored from to) refl h
   where
     at : (s : Sought) (o : Option (List ℕ)) → turn_unless o (turn_of stored time nonce s) ≡ Err id → o ≡ Some id

@@ -13,19 +13,19 @@ use Rattle.frac_keys.specs.Rising.{are_rising}
 use Rattle.elem.specs.declared.kind.Kind.{Kind}
 use Rattle.elem.specs.declared.kind.Kind.TheVariants.{Rectangle, Diamond, Ellipse, Arrow, Line, Freedraw, Text, Image, Frame, Magicframe, Iframe, Embeddable, Other}
 use Rattle.elem.specs.declared.parts.BoundRef.{BoundRef}
-use Rattle.elem.specs.Drawn.{Drawn}
+use Rattle.elem.specs.ElementValue.{ElementValue}
 use Rattle.elem.specs.Facts.{IsElement, IsBinding, is_header, names}
 use Rattle.elem.specs.Order.{unstamped}
-use Rattle.elem.specs.Said.{IsWritten, IsBindingText}
+use Rattle.elem.specs.Said.{HasValidTexts, IsBindingText}
 use Rattle.elem.specs.Texts.{truth_text, text_or_null, binding_text}
 use Rattle.elem.proofs.Distinct.{AllByRecursion-append}
 use Rattle.elem.proofs.Sorting.{IsRising, AllByRecursion-map}
 use Rattle.delta.specs.Applied.{IsApplied, KeepsStamp}
 use Rattle.delta.specs.Delta.{Delta}
 use Rattle.delta.specs.Headers.{own_header, header_named, value_named, scalar_at, scalar_of}
-use Rattle.delta.specs.Joined.{are_same, joined, stays, is_gained, first_occurrences, entries_same}
+use Rattle.delta.specs.Joined.{are_same, joined, stays, is_gained, first_occurrences, same_listing_entry}
 use Rattle.delta.specs.Pairs.{Pair}
-use Rattle.delta.specs.Parts.{StandsFor, scalars_same, inverse}
+use Rattle.delta.specs.Parts.{PartStandsFor, scalars_same, inverse}
 use Rattle.delta.specs.Rest.{made, with_value}
 use Rattle.delta.specs.Undone.{undone_scalar, undone_list, Undoes, IsUndone}
 use Rattle.delta.proofs.ChangeLaws.{names-inverted}
@@ -165,7 +165,7 @@ field : {A : Type 0} (text : A → List ℕ) (before after now : A) → Some (te
 field text before after now = over (λ x. Some (text x)) (bytes_eq (text before) (text after)) now before
 
 -- the scalar of a name in an undone element
-module _ (pair : Pair) (now : Drawn) (n : List ℕ) (rise : are_rising (names now.rest) ≡ true) where
+module _ (pair : Pair) (now : ElementValue) (n : List ℕ) (rise : are_rising (names now.rest) ≡ true) where
   further : value_named n (undone_in pair now).rest ≡ undone_scalar (value_named n pair.before.rest) (value_named n pair.after.rest) (value_named n now.rest)
   further = rest-value pair n now.rest (risen now.rest rise)
 
@@ -208,7 +208,7 @@ module _ (pair : Pair) (now : Drawn) (n : List ℕ) (rise : are_rising (names no
     ]
   ]
 
-pub undone_in-undoes : (pair : Pair) (now : Drawn) → are_rising (names now.rest) ≡ true → pair.before.kind ≡ now.kind → pair.after.kind ≡ now.kind → Undoes pair.before pair.after now (undone_in pair now)
+pub undone_in-undoes : (pair : Pair) (now : ElementValue) → are_rising (names now.rest) ≡ true → pair.before.kind ≡ now.kind → pair.after.kind ≡ now.kind → Undoes pair.before pair.after now (undone_in pair now)
 undone_in-undoes pair now rise before after = record {
   stamp = record { id = refl; kind = refl; version = refl; nonce = refl; updated = refl };
   scalars = λ n.
@@ -219,7 +219,7 @@ undone_in-undoes pair now rise before after = record {
 }
 
 -- the undone element has the id, the kind and the stamp of the element
-pub undone-stamp : (pair : Pair) (now : Drawn) → KeepsStamp now (undone pair now)
+pub undone-stamp : (pair : Pair) (now : ElementValue) → KeepsStamp now (undone pair now)
 unfolding undone
 undone-stamp pair now =
     cond_both (same_kind pair.after.kind now.kind) (undone_in pair now) now (KeepsStamp now)
@@ -227,11 +227,11 @@ undone-stamp pair now =
     (λ f. record { id = refl; kind = refl; version = refl; nonce = refl; updated = refl })
 
 -- whether the kind of the element is that of the pair
-undone-here : (pair : Pair) (now : Drawn) → same_kind pair.after.kind now.kind ≡ true → undone pair now ≡ undone_in pair now
+undone-here : (pair : Pair) (now : ElementValue) → same_kind pair.after.kind now.kind ≡ true → undone pair now ≡ undone_in pair now
 unfolding undone
 undone-here pair now t = cond-true (same_kind pair.after.kind now.kind) (undone_in pair now) now t
 
-undone-other : (pair : Pair) (now : Drawn) → same_kind pair.after.kind now.kind ≡ false → undone pair now ≡ now
+undone-other : (pair : Pair) (now : ElementValue) → same_kind pair.after.kind now.kind ≡ false → undone pair now ≡ now
 unfolding undone
 undone-other pair now f = cond-false (same_kind pair.after.kind now.kind) (undone_in pair now) now f
 
@@ -240,11 +240,11 @@ names-each P [] h = tt
 names-each P (m ∷ ms) h = (h.0, names-each P ms h.1)
 
 -- elements are the same that are so but for their stamps, which are the same
-restamped : (a b : Drawn) → unstamped a ≡ unstamped b → a.version ≡ b.version → a.nonce ≡ b.nonce → a.updated ≡ b.updated → a ≡ b
-restamped a b same version nonce updated = λ i. let e : Drawn = same i in record e { version = version i; nonce = nonce i; updated = updated i }
+restamped : (a b : ElementValue) → unstamped a ≡ unstamped b → a.version ≡ b.version → a.nonce ≡ b.nonce → a.updated ≡ b.updated → a ≡ b
+restamped a b same version nonce updated = λ i. let e : ElementValue = same i in record e { version = version i; nonce = nonce i; updated = updated i }
 
 -- ---- of elements of one kind
-module _ (pair : Pair) (now : Drawn) (of : IsOfElements pair) (kind : pair.before.kind ≡ pair.after.kind) (isnow : IsElement now) (wnow : IsWritten now) where
+module _ (pair : Pair) (now : ElementValue) (of : IsOfElements pair) (kind : pair.before.kind ≡ pair.after.kind) (isnow : IsElement now) (wnow : HasValidTexts now) where
   kinds : same_kind pair.after.kind now.kind ≡ true → pair.after.kind ≡ now.kind
   kinds t = same_kind-true pair.after.kind now.kind of.1.0.kind isnow.kind t
 
@@ -281,14 +281,14 @@ module _ (pair : Pair) (now : Drawn) (of : IsOfElements pair) (kind : pair.befor
     nest = members-each pair (λ m. IsCompact 119 m.value) of.0.0.nest (names pair.before.rest ++ names pair.after.rest) now.rest isnow.nest;
   }
 
-  in-written : IsWritten (undone_in pair now)
+  in-written : HasValidTexts (undone_in pair now)
   in-written = record {
     id = wnow.id;
     kind = wnow.kind;
     index = cond_both (bytes_eq (text_or_null pair.before.index) (text_or_null pair.after.index)) now.index pair.before.index (λ o. IfSome o (λ key. is_key key ≡ true)) (λ t. wnow.index) (λ f. of.0.1.index);
     groups = undone_list-each IsUtf8 bytes_eq pair.before.groups pair.after.groups now.groups of.0.1.groups wnow.groups;
     frame = cond_both (bytes_eq (text_or_null pair.before.frame) (text_or_null pair.after.frame)) now.frame pair.before.frame (λ o. IfSome o IsUtf8) (λ t. wnow.frame) (λ f. of.0.1.frame);
-    bound = undone_list-each (λ (entry : BoundRef). IsUtf8 entry.id) entries_same pair.before.bound pair.after.bound now.bound of.0.1.bound wnow.bound;
+    bound = undone_list-each (λ (entry : BoundRef). IsUtf8 entry.id) same_listing_entry pair.before.bound pair.after.bound now.bound of.0.1.bound wnow.bound;
     container = cond_both (bytes_eq (text_or_null pair.before.container) (text_or_null pair.after.container)) now.container pair.before.container (λ o. IfSome o IsUtf8) (λ t. wnow.container) (λ f. of.0.1.container);
     start_binding = cond_both (bytes_eq (binding_text pair.before.start_binding) (binding_text pair.after.start_binding)) now.start_binding pair.before.start_binding (λ o. IfSome o IsBindingText) (λ t. wnow.start_binding) (λ f. of.0.1.start_binding);
     end_binding = cond_both (bytes_eq (binding_text pair.before.end_binding) (binding_text pair.after.end_binding)) now.end_binding pair.before.end_binding (λ o. IfSome o IsBindingText) (λ t. wnow.end_binding) (λ f. of.0.1.end_binding);
@@ -299,14 +299,14 @@ module _ (pair : Pair) (now : Drawn) (of : IsOfElements pair) (kind : pair.befor
   }
 
   -- it is an element
-  pub undone-element : IsElement (undone pair now) × IsWritten (undone pair now)
+  pub undone-element : IsElement (undone pair now) × HasValidTexts (undone pair now)
   undone-element = elim (cases_Bool (same_kind pair.after.kind now.kind)) [
-    | inl t ↦ subst (λ e. IsElement e × IsWritten e) (sym (undone-here pair now t)) (in-element (kind ∙ kinds t), in-written)
-    | inr f ↦ subst (λ e. IsElement e × IsWritten e) (sym (undone-other pair now f)) (isnow, wnow)
+    | inl t ↦ subst (λ e. IsElement e × HasValidTexts e) (sym (undone-here pair now t)) (in-element (kind ∙ kinds t), in-written)
+    | inr f ↦ subst (λ e. IsElement e × HasValidTexts e) (sym (undone-other pair now f)) (isnow, wnow)
   ]
 
   -- and the only one that undoes
-  pub undone-only : (result : Drawn) → IsElement result → IsUndone pair.before pair.after now result → result ≡ undone pair now
+  pub undone-only : (result : ElementValue) → IsElement result → IsUndone pair.before pair.after now result → result ≡ undone pair now
   undone-only result isresult does = elim (cases_Bool (same_kind pair.after.kind now.kind)) [
     | inl t ↦
         let one = does.undone (kinds t) in
@@ -321,16 +321,16 @@ module _ (pair : Pair) (now : Drawn) (of : IsOfElements pair) (kind : pair.befor
   ]
 
   -- it is what the inverse of the pair's part makes
-  pub inverse-makes : (part : Delta) (result : Drawn) → StandsFor part pair.before pair.after → IsElement result → IsApplied (inverse part) now result → result ≡ undone pair now
+  pub inverse-makes : (part : Delta) (result : ElementValue) → PartStandsFor part pair.before pair.after → IsElement result → IsApplied (inverse part) now result → result ≡ undone pair now
   inverse-makes part result stands isresult applied =
       undone-only result isresult (undone-from part pair.before pair.after of.0.0 of.1.0 stands now result isnow isresult applied)
 
-  pub reverts-undone : (part : Delta) (result : Drawn) → StandsFor part pair.before pair.after → IsElement result → KeepsStamp now result → IsApplied (inverse part) now result → result ≡ undone pair now
+  pub reverts-undone : (part : Delta) (result : ElementValue) → PartStandsFor part pair.before pair.after → IsElement result → KeepsStamp now result → IsApplied (inverse part) now result → result ≡ undone pair now
   reverts-undone part result stands isresult kept applied = inverse-makes part result stands isresult applied
 
 -- ---- a change that is followed is undone the other way round
 -- the inverse of a part under another id stands for its elements exchanged
-inverse-stands : (part : Delta) (old new : Drawn) → StandsFor part old new → old.kind ≡ new.kind → StandsFor (record (inverse part) { id = old.id }) new old
+inverse-stands : (part : Delta) (old new : ElementValue) → PartStandsFor part old new → old.kind ≡ new.kind → PartStandsFor (record (inverse part) { id = old.id }) new old
 inverse-stands part old new stands kind = record {
   id = refl;
   kind = stands.kind ∙ sym kind;
@@ -342,14 +342,14 @@ inverse-stands part old new stands kind = record {
 }
 
 -- the id of a part plays no part in what it makes
-renamed-applied : (part : Delta) (id : List ℕ) (held result : Drawn) → IsApplied part held result → IsApplied (record part { id = id }) held result
-renamed-applied part id held result applied = record { changed = applied.changed; other = applied.other }
+renamed-applied : (part : Delta) (id : List ℕ) (captured result : ElementValue) → IsApplied part captured result → IsApplied (record part { id = id }) captured result
+renamed-applied part id captured result applied = record { changed = applied.changed; other = applied.other }
 
-module _ (old new held : Drawn) (is : IsElement old) (w : IsWritten old) (is' : IsElement new) (w' : IsWritten new)
-    (kind : old.kind ≡ new.kind) (isheld : IsElement held) (wheld : IsWritten held) where
-  pub follows-undone : (part : Delta) (result : Drawn) → StandsFor part old new → IsElement result → IsApplied part held result → result ≡ undone (record { before = new; after = old }) held
+module _ (old new captured : ElementValue) (is : IsElement old) (w : HasValidTexts old) (is' : IsElement new) (w' : HasValidTexts new)
+    (kind : old.kind ≡ new.kind) (iscaptured : IsElement captured) (wcaptured : HasValidTexts captured) where
+  pub follows-undone : (part : Delta) (result : ElementValue) → PartStandsFor part old new → IsElement result → IsApplied part captured result → result ≡ undone (record { before = new; after = old }) captured
   follows-undone part result stands isresult applied =
       let back : Delta = record (inverse part) { id = old.id } in
-      let twice = subst (λ p. IsApplied p held result) (sym (inverse-twice part)) applied in
-      undone-only (record { before = new; after = old }) held ((is', w'), (is, w)) (sym kind) isheld wheld result isresult
-      (undone-from back new old is' is (inverse-stands part old new stands kind) held result isheld isresult (renamed-applied (inverse (inverse part)) old.id held result twice))
+      let twice = subst (λ p. IsApplied p captured result) (sym (inverse-twice part)) applied in
+      undone-only (record { before = new; after = old }) captured ((is', w'), (is, w)) (sym kind) iscaptured wcaptured result isresult
+      (undone-from back new old is' is (inverse-stands part old new stands kind) captured result iscaptured isresult (renamed-applied (inverse (inverse part)) old.id captured result twice))

@@ -1,9 +1,9 @@
 -- Entries as pairs of elements in full, and what a step gives of them. This project's own, after Excalidraw's history.
 use Rattle.std.specs.Prelude.{◌≡◌, ℕ, List, true, Some, IfSome, All, Contains, map}
 use Rattle.frac_keys.specs.Rising.{are_rising}
-use Rattle.elem.specs.Drawn.{Drawn}
+use Rattle.elem.specs.ElementValue.{ElementValue}
 use Rattle.elem.specs.Facts.{IsElement, greatest_whole}
-use Rattle.elem.specs.Said.{IsWritten, AreElements}
+use Rattle.elem.specs.Said.{HasValidTexts, AreElements}
 use Rattle.elem_store.specs.Updates.{Taking, element_of, ids_of}
 use Rattle.delta.specs.Pairs.{Pair, IsChanged}
 use Rattle.undoing.specs.Differing.{differ}
@@ -12,11 +12,11 @@ use Rattle.undoing.specs.Undoing.{undone}
 
 -- Both of a pair are elements, as their types keep them.
 abbrev pub IsOfElements : Pair → Type 0
-IsOfElements pair = (IsElement pair.before × IsWritten pair.before) × (IsElement pair.after × IsWritten pair.after)
+IsOfElements pair = (IsElement pair.before × HasValidTexts pair.before) × (IsElement pair.after × HasValidTexts pair.after)
 
 -- So are an update that becomes stored and what was stored before it.
 abbrev pub IsTakingOfElements : Taking → Type 0
-IsTakingOfElements taking = IfSome taking.before (λ e. IsElement e × IsWritten e) × (IsElement taking.taken × IsWritten taking.taken)
+IsTakingOfElements taking = IfSome taking.before (λ e. IsElement e × HasValidTexts e) × (IsElement taking.taken × HasValidTexts taking.taken)
 
 -- the ids of pairs
 abbrev pub pair_ids : List Pair → List (List ℕ)
@@ -31,18 +31,18 @@ abbrev pub AreEntries : List (List Pair) → Type 0
 AreEntries stack = All IsEntry stack
 
 -- The element is that which undoing a pair of the entry makes of the stored one, stamped, and the two differ.
-pub record IsGiven (stored : List Drawn) (time nonce : ℕ) (pairs : List Pair) (e : Drawn) : Type 0 where
+pub record IsGiven (stored : List ElementValue) (time nonce : ℕ) (pairs : List Pair) (e : ElementValue) : Type 0 where
   pub pair : Pair
-  pub now : Drawn
+  pub now : ElementValue
   pub among : Contains pairs pair
   pub found : element_of stored pair.after.id ≡ Some now
   pub differs : differ now (undone pair now) ≡ true
   pub is : e ≡ stamped time nonce (undone pair now)
 
 -- Undoing a pair of the entry would change the stored element of this id, which stands at the greatest version.
-pub record IsFullId (stored : List Drawn) (pairs : List Pair) (full : List ℕ) : Type 0 where
+pub record IsFullId (stored : List ElementValue) (pairs : List Pair) (full : List ℕ) : Type 0 where
   pub pair : Pair
-  pub now : Drawn
+  pub now : ElementValue
   pub among : Contains pairs pair
   pub id : pair.after.id ≡ full
   pub found : element_of stored pair.after.id ≡ Some now

@@ -2,7 +2,7 @@
 use Rattle.std.specs.Prelude.{ℕ, ◌+◌, ◌==◌, List, [], ◌∷◌, Bool, false, not, ◌&&◌, ◌||◌, Option, Some, None, Result, Ok, Err, find, map, filter_map, if◌then◌else◌}
 use Rattle.std.specs.List.{list_any}
 use Rattle.std.specs.Option.{option_map, option_map_or, option_and_then}
-use Rattle.elem.specs.Drawn.{Drawn}
+use Rattle.elem.specs.ElementValue.{ElementValue}
 use Rattle.elem.specs.Facts.{greatest_whole}
 use Rattle.elem_store.specs.Updates.{element_of}
 use Rattle.delta.specs.Pairs.{Pair, pairs_from, exchanged}
@@ -11,10 +11,10 @@ use Rattle.undoing.specs.Undoing.{undone}
 
 -- a stored element, and what undoing a change makes of it
 pub record Reverted : Type 0 where
-  pub now : Drawn
-  pub undone : Drawn
+  pub now : ElementValue
+  pub undone : ElementValue
 
-abbrev pub reverted : List Drawn → Pair → Option Reverted
+abbrev pub reverted : List ElementValue → Pair → Option Reverted
 reverted stored pair = option_map (λ now. record { now = now; undone = undone pair now }) (element_of stored pair.after.id)
 
 -- whether it changes outside the stamp; whether anybody sees that: it is live before or after; and whether it can't, since it
@@ -29,23 +29,23 @@ abbrev pub is_full : Reverted → Bool
 is_full r = changes r && r.now.version == greatest_whole
 
 -- An entry of pairs is seen on a board: undoing it changes, outside the stamp, an element that is live before or after.
-abbrev pub is_seen : List Drawn → List Pair → Bool
+abbrev pub is_seen : List ElementValue → List Pair → Bool
 is_seen stored pairs = list_any (λ pair. option_map_or is_visible (reverted stored pair) false) pairs
 
 -- the element with the stamp of a step
-abbrev pub stamped : ℕ → ℕ → Drawn → Drawn
+abbrev pub stamped : ℕ → ℕ → ElementValue → ElementValue
 stamped time nonce e = record e { version = e.version + 1; nonce = nonce; updated = time }
 
-abbrev pub given_of : List Drawn → ℕ → ℕ → Pair → Option Drawn
+abbrev pub given_of : List ElementValue → ℕ → ℕ → Pair → Option ElementValue
 given_of stored time nonce pair =
     option_and_then (λ r. if changes r then Some (stamped time nonce r.undone) else None) (reverted stored pair)
 
 -- the elements that undoing an entry changes, stamped
-abbrev pub given : List Drawn → ℕ → ℕ → List Pair → List Drawn
+abbrev pub given : List ElementValue → ℕ → ℕ → List Pair → List ElementValue
 given stored time nonce pairs = filter_map (given_of stored time nonce) pairs
 
 -- the first id whose element would change and stands at the greatest version
-abbrev pub full_id : List Drawn → List Pair → Option (List ℕ)
+abbrev pub full_id : List ElementValue → List Pair → Option (List ℕ)
 full_id stored pairs =
     option_map (λ (pair : Pair). pair.after.id) (find (λ pair. option_map_or is_full (reverted stored pair) false) pairs)
 
@@ -56,7 +56,7 @@ pub record Sought : Type 0 where
   pub below : List (List Pair)
   pub to : List (List Pair)
 
-abbrev pub sought : List Drawn → List (List Pair) → List (List Pair) → Option Sought
+abbrev pub sought : List ElementValue → List (List Pair) → List (List Pair) → Option Sought
 sought stored [] to = None
 sought stored (entry ∷ below) to =
     if is_seen stored entry then Some (record { entry = entry; below = below; to = to })
@@ -64,15 +64,15 @@ sought stored (entry ∷ below) to =
 
 -- what a step gives, and the two stacks after it, the topmost entry first
 pub record Turn : Type 0 where
-  pub given : List Drawn
+  pub given : List ElementValue
   pub from : List (List Pair)
   pub to : List (List Pair)
 
 -- the changes that a step made, which take it back
-abbrev pub made : List Drawn → List Drawn → List Pair
+abbrev pub made : List ElementValue → List ElementValue → List Pair
 made stored given = pairs_from (element_of stored) given
 
-abbrev pub turn_of : List Drawn → ℕ → ℕ → Sought → Turn
+abbrev pub turn_of : List ElementValue → ℕ → ℕ → Sought → Turn
 turn_of stored time nonce s = record {
   given = given stored time nonce s.entry;
   from = s.below;
@@ -84,6 +84,6 @@ turn_unless (Some id) turn = Err id
 turn_unless None turn = Ok turn
 
 -- One step: nothing where no entry is seen; else the least id whose element can't change, or the step.
-abbrev pub step : List Drawn → ℕ → ℕ → List (List Pair) → List (List Pair) → Option (Result Turn (List ℕ))
+abbrev pub step : List ElementValue → ℕ → ℕ → List (List Pair) → List (List Pair) → Option (Result Turn (List ℕ))
 step stored time nonce from to =
     option_map (λ s. turn_unless (full_id stored s.entry) (turn_of stored time nonce s)) (sought stored from to)

@@ -2,11 +2,11 @@
 -- Excalidraw's history.
 use Rattle.std.specs.Prelude.{ℕ, List, [], ◌∷◌, ◌++◌, bytes_eq, if◌then◌else◌}
 use Rattle.scene_json.specs.declared.text.Member.{Member}
-use Rattle.elem.specs.Drawn.{Drawn}
+use Rattle.elem.specs.ElementValue.{ElementValue}
 use Rattle.elem.specs.Facts.{names}
 use Rattle.elem.specs.Texts.{truth_text, text_or_null, binding_text}
 use Rattle.delta.specs.Headers.{value_named}
-use Rattle.delta.specs.Joined.{entries_same}
+use Rattle.delta.specs.Joined.{same_listing_entry}
 use Rattle.delta.specs.Pairs.{Pair}
 use Rattle.delta.specs.Parts.{scalars_same}
 use Rattle.delta.specs.Rest.{with_value}
@@ -28,13 +28,13 @@ undone_members pair [] members = members
 undone_members pair (name ∷ names) members = undone_members pair names (undone_member pair name members)
 
 -- an element of the kind in which each member outside the stamp that differed before and after is undone
-abbrev pub undone_in : Pair → Drawn → Drawn
+abbrev pub undone_in : Pair → ElementValue → ElementValue
 undone_in pair now = record now {
   deleted = undone_header truth_text pair.before.deleted pair.after.deleted now.deleted;
   index = undone_header text_or_null pair.before.index pair.after.index now.index;
   groups = undone_list bytes_eq pair.before.groups pair.after.groups now.groups;
   frame = undone_header text_or_null pair.before.frame pair.after.frame now.frame;
-  bound = undone_list entries_same pair.before.bound pair.after.bound now.bound;
+  bound = undone_list same_listing_entry pair.before.bound pair.after.bound now.bound;
   container = undone_header text_or_null pair.before.container pair.after.container now.container;
   start_binding = undone_header binding_text pair.before.start_binding pair.after.start_binding now.start_binding;
   end_binding = undone_header binding_text pair.before.end_binding pair.after.end_binding now.end_binding;
@@ -43,5 +43,5 @@ undone_in pair now = record now {
 }
 
 -- The undone element: an element whose kind isn't that of after any more stays.
-unfoldable pub undone : Pair → Drawn → Drawn
+unfoldable pub undone : Pair → ElementValue → ElementValue
 undone pair now = if same_kind pair.after.kind now.kind then undone_in pair now else now

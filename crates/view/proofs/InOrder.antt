@@ -14,7 +14,7 @@ use Rattle.std.proofs.lemmas.Cmp.{tied_itself}
 use Rattle.std.proofs.lemmas.List.Elements.{All-cons, All-contains, All-from_recursion, recursion_from_All}
 use Rattle.std.proofs.lemmas.List.Sorted.{IsPermutation-refl, IsPermutation-sym, IsPermutation-cons, IsPermutation-trans, IsPermutation-middle, IsPermutation-map, Contains-permutation, All-permutation}
 use Rattle.std.proofs.lemmas.Map.Keys.{IsDistinct-IsPermutation, sorted_head, sorted_tail, sorted_from_all_adjacent, apart_from_distinct, Less-from_sorted}
-use Rattle.elem.specs.Drawn.{Drawn}
+use Rattle.elem.specs.ElementValue.{ElementValue}
 use Rattle.elem_store.specs.Updates.{ids_of}
 use Rattle.elem_store.proofs.Lists.{Contains-head, Contains-cons, Contains-cases}
 use Rattle.view.specs.Shown.{with_element, in_order, HaveDistinctIds}
@@ -59,8 +59,8 @@ module _ {X : Type 0} {R : X → X → Ordering} (o : IsTotalOrder R) where
       λ i. e i ∷ rest i
 
 -- ---- sorting only moves elements
-module _ (before : Drawn → Drawn → Bool) where
-  IsPermutation-with_element : (e : Drawn) (es : List Drawn) → IsPermutation (e ∷ es) (with_element before e es)
+module _ (before : ElementValue → ElementValue → Bool) where
+  IsPermutation-with_element : (e : ElementValue) (es : List ElementValue) → IsPermutation (e ∷ es) (with_element before e es)
   IsPermutation-with_element e [] = IsPermutation-refl (e ∷ [])
   IsPermutation-with_element e (f ∷ fs) =
       cond_both (before f e) (f ∷ with_element before e fs) (e ∷ f ∷ fs) (IsPermutation (e ∷ f ∷ fs))
@@ -68,36 +68,36 @@ module _ (before : Drawn → Drawn → Bool) where
       (IsPermutation-cons f _ _ (IsPermutation-with_element e fs)))
       (λ _. IsPermutation-refl (e ∷ f ∷ fs))
 
-  pub IsPermutation-in_order : (es : List Drawn) → IsPermutation es (in_order before es)
+  pub IsPermutation-in_order : (es : List ElementValue) → IsPermutation es (in_order before es)
   IsPermutation-in_order [] = IsPermutation-refl []
   IsPermutation-in_order (e ∷ es) =
       IsPermutation-trans _ (e ∷ in_order before es) _ (IsPermutation-cons e _ _ (IsPermutation-in_order es)) (IsPermutation-with_element e (in_order before es))
 
-pub HaveDistinctIds-permuted : (es fs : List Drawn) → IsPermutation es fs → HaveDistinctIds es → HaveDistinctIds fs
+pub HaveDistinctIds-permuted : (es fs : List ElementValue) → IsPermutation es fs → HaveDistinctIds es → HaveDistinctIds fs
 HaveDistinctIds-permuted es fs moved =
-    IsDistinct-IsPermutation bytes_eq nat_list_eq_equiv.symm (ids_of es) (ids_of fs) (IsPermutation-map (λ (e : Drawn). e.id) es fs moved)
+    IsDistinct-IsPermutation bytes_eq nat_list_eq_equiv.symm (ids_of es) (ids_of fs) (IsPermutation-map (λ (e : ElementValue). e.id) es fs moved)
 
 from_is_lt : (o : Ordering) → is_lt o ≡ true → o ≡ Less
 from_is_lt Less h = refl
 from_is_lt Equal h = cc
 from_is_lt Greater h = cc
 
-ids_apart : (e : Drawn) (es : List Drawn) → AllByRecursion (λ id. bytes_eq e.id id ≡ false) (ids_of es) → AllByRecursion (λ (f : Drawn). bytes_eq e.id f.id ≡ false) es
+ids_apart : (e : ElementValue) (es : List ElementValue) → AllByRecursion (λ id. bytes_eq e.id id ≡ false) (ids_of es) → AllByRecursion (λ (f : ElementValue). bytes_eq e.id f.id ≡ false) es
 ids_apart e [] h = tt
 ids_apart e (f ∷ fs) h = (h.0, ids_apart e fs h.1)
 
 -- ---- a total order of elements, in which those of different ids aren't tied
-pub record IsElementOrder (before : Drawn → Drawn → Bool) (R : Drawn → Drawn → Ordering) : Type 0 where
+pub record IsElementOrder (before : ElementValue → ElementValue → Bool) (R : ElementValue → ElementValue → Ordering) : Type 0 where
   pub total : IsTotalOrder R
-  pub less : (e f : Drawn) → before e f ≡ is_lt (R e f)
-  pub tied : (e f : Drawn) → is_eq (R e f) ≡ true → bytes_eq e.id f.id ≡ true
+  pub less : (e f : ElementValue) → before e f ≡ is_lt (R e f)
+  pub tied : (e f : ElementValue) → is_eq (R e f) ≡ true → bytes_eq e.id f.id ≡ true
 
-module _ {before : Drawn → Drawn → Bool} {R : Drawn → Drawn → Ordering} (o : IsElementOrder before R) where
-  less_from_before : (e f : Drawn) → before e f ≡ true → R e f ≡ Less
+module _ {before : ElementValue → ElementValue → Bool} {R : ElementValue → ElementValue → Ordering} (o : IsElementOrder before R) where
+  less_from_before : (e f : ElementValue) → before e f ≡ true → R e f ≡ Less
   less_from_before e f h = from_is_lt (R e f) (sym (o.less e f) ∙ h)
 
   -- what has another id and isn't behind comes before
-  less_from_others : (e f : Drawn) → bytes_eq e.id f.id ≡ false → before f e ≡ false → R e f ≡ Less
+  less_from_others : (e f : ElementValue) → bytes_eq e.id f.id ≡ false → before f e ≡ false → R e f ≡ Less
   less_from_others e f apart behind = by (R e f) refl where
     by : (p : Ordering) → R e f ≡ p → p ≡ Less
     by Less is = refl
@@ -107,55 +107,55 @@ module _ {before : Drawn → Drawn → Bool} {R : Drawn → Drawn → Ordering} 
         absurd (both_ways (before f e) behind (o.less f e ∙ ap is_lt turned))
 
   -- ---- sorted elements are in order
-  sorted-with_element : (e : Drawn) (es : List Drawn) → AllByRecursion (λ (f : Drawn). bytes_eq e.id f.id ≡ false) es → IsStrictlySortedBy R es → IsStrictlySortedBy R (with_element before e es)
+  sorted-with_element : (e : ElementValue) (es : List ElementValue) → AllByRecursion (λ (f : ElementValue). bytes_eq e.id f.id ≡ false) es → IsStrictlySortedBy R es → IsStrictlySortedBy R (with_element before e es)
   unfolding IsStrictlySortedBy
   sorted-with_element e [] apart s = (tt, tt)
   sorted-with_element e (f ∷ fs) apart s =
       cond_both (before f e) (f ∷ with_element before e fs) (e ∷ f ∷ fs) (IsStrictlySortedBy R)
       (λ first.
-      let P : Drawn → Type 0 = λ g. R f g ≡ Less in
+      let P : ElementValue → Type 0 = λ g. R f g ≡ Less in
       let others = All-cons P e fs (less_from_before f e first) (All-from_recursion P fs s.0) in
       (recursion_from_All P (with_element before e fs) (All-permutation P (e ∷ fs) (with_element before e fs) (IsPermutation-with_element before e fs) others), sorted-with_element e fs apart.1 s.1))
       (λ behind.
       let first = less_from_others e f apart.0 behind in
       ((first, All-weaker (λ g. R f g ≡ Less) (λ g. R e g ≡ Less) (λ g h. o.total.trans e f g first h) fs s.0), s))
 
-  sorted-in_order : (es : List Drawn) → HaveDistinctIds es → IsStrictlySortedBy R (in_order before es)
+  sorted-in_order : (es : List ElementValue) → HaveDistinctIds es → IsStrictlySortedBy R (in_order before es)
   unfolding IsDistinct IsStrictlySortedBy
   sorted-in_order [] apart = tt
   sorted-in_order (e ∷ es) apart =
-      let P : Drawn → Type 0 = λ f. bytes_eq e.id f.id ≡ false in
+      let P : ElementValue → Type 0 = λ f. bytes_eq e.id f.id ≡ false in
       let others = All-permutation P es (in_order before es) (IsPermutation-in_order before es) (All-from_recursion P es (ids_apart e es apart.0)) in
       sorted-with_element e (in_order before es) (recursion_from_All P (in_order before es) others) (sorted-in_order es apart.1)
 
-  pub AllPairs-in_order : (es : List Drawn) → HaveDistinctIds es → AllPairs (λ e f. before e f ≡ true) (in_order before es)
+  pub AllPairs-in_order : (es : List ElementValue) → HaveDistinctIds es → AllPairs (λ e f. before e f ≡ true) (in_order before es)
   AllPairs-in_order es apart i j d l m =
       o.less (get_or (in_order before es) i d) (get_or (in_order before es) j d) ∙ ap is_lt (Less-from_sorted R (in_order before es) i j d (sorted-in_order es apart) l m)
 
-  sorted_from_pairs : (es : List Drawn) → AllPairs (λ e f. before e f ≡ true) es → IsStrictlySortedBy R es
+  sorted_from_pairs : (es : List ElementValue) → AllPairs (λ e f. before e f ≡ true) es → IsStrictlySortedBy R es
   unfolding IsStrictlySortedBy
   sorted_from_pairs [] h = tt
   sorted_from_pairs (e ∷ es) h =
       sorted_from_all_adjacent o.total (e ∷ es) e (λ k l. less_from_before (get_or (e ∷ es) k e) (get_or (e ∷ es) (k + 1) e) (h k (k + 1) e (omega arith) l))
 
   -- ---- and they are the only permutation that is
-  only_sorted : (es fs : List Drawn) → HaveDistinctIds es → IsPermutation es fs → IsStrictlySortedBy R fs → fs ≡ in_order before es
+  only_sorted : (es fs : List ElementValue) → HaveDistinctIds es → IsPermutation es fs → IsStrictlySortedBy R fs → fs ≡ in_order before es
   only_sorted es fs apart moved s =
       let to = IsPermutation-trans fs es (in_order before es) (IsPermutation-sym es fs moved) (IsPermutation-in_order before es) in
       same_sorted o.total fs (in_order before es) s (sorted-in_order es apart)
       (λ e c. Contains-permutation fs (in_order before es) e to c)
       (λ e c. Contains-permutation (in_order before es) fs e (IsPermutation-sym fs (in_order before es) to) c)
 
-  pub in_order-only : (es fs : List Drawn) → HaveDistinctIds es → IsPermutation es fs → AllPairs (λ e f. before e f ≡ true) fs → fs ≡ in_order before es
+  pub in_order-only : (es fs : List ElementValue) → HaveDistinctIds es → IsPermutation es fs → AllPairs (λ e f. before e f ≡ true) fs → fs ≡ in_order before es
   in_order-only es fs apart moved h = only_sorted es fs apart moved (sorted_from_pairs fs h)
 
-  pub in_order-permuted : (es fs : List Drawn) → HaveDistinctIds es → IsPermutation es fs → in_order before fs ≡ in_order before es
+  pub in_order-permuted : (es fs : List ElementValue) → HaveDistinctIds es → IsPermutation es fs → in_order before fs ≡ in_order before es
   in_order-permuted es fs apart moved =
       only_sorted es (in_order before fs) apart (IsPermutation-trans es fs (in_order before fs) moved (IsPermutation-in_order before fs))
       (sorted-in_order fs (HaveDistinctIds-permuted es fs moved apart))
 
   -- what a sort gives
-  sorted_from_sort : (fs : List Drawn) → HaveDistinctIds fs → IsSortedBy before fs → IsStrictlySortedBy R fs
+  sorted_from_sort : (fs : List ElementValue) → HaveDistinctIds fs → IsSortedBy before fs → IsStrictlySortedBy R fs
   unfolding IsStrictlySortedBy
   sorted_from_sort [] apart up = tt
   sorted_from_sort (f ∷ fs) apart up =
@@ -164,8 +164,8 @@ module _ {before : Drawn → Drawn → Bool} {R : Drawn → Drawn → Ordering} 
     where
       ids_differ : (k : ℕ) → k + 1 < length (f ∷ fs) → bytes_eq (get_or (f ∷ fs) k f).id (get_or (f ∷ fs) (k + 1) f).id ≡ false
       ids_differ k l =
-          subst₂ (λ a b. bytes_eq a b ≡ false) (get_or-map (λ (e : Drawn). e.id) (f ∷ fs) k f) (get_or-map (λ (e : Drawn). e.id) (f ∷ fs) (k + 1) f)
-          (apart_from_distinct bytes_eq (ids_of (f ∷ fs)) k (k + 1) f.id apart (omega arith) (omega (arith, length-map (f ∷ fs) (λ (e : Drawn). e.id))))
+          subst₂ (λ a b. bytes_eq a b ≡ false) (get_or-map (λ (e : ElementValue). e.id) (f ∷ fs) k f) (get_or-map (λ (e : ElementValue). e.id) (f ∷ fs) (k + 1) f)
+          (apart_from_distinct bytes_eq (ids_of (f ∷ fs)) k (k + 1) f.id apart (omega arith) (omega (arith, length-map (f ∷ fs) (λ (e : ElementValue). e.id))))
 
-  pub in_order-from_sort : (es fs : List Drawn) → HaveDistinctIds es → IsPermutation es fs → IsSortedBy before fs → fs ≡ in_order before es
+  pub in_order-from_sort : (es fs : List ElementValue) → HaveDistinctIds es → IsPermutation es fs → IsSortedBy before fs → fs ≡ in_order before es
   in_order-from_sort es fs apart moved up = only_sorted es fs apart moved (sorted_from_sort fs (HaveDistinctIds-permuted es fs moved apart) up)

@@ -12,11 +12,11 @@ use Rattle.index_repair.specs.Repair.{repaired}
 use Rattle.index_repair.proofs.RepairLaws.{AreRepaired-from}
 use Rattle.first_texts.specs.FirstOccurrences as texts
 use Rattle.elem.specs.declared.parts.BoundRef.{BoundRef}
-use Rattle.elem.specs.Drawn.{Drawn}
+use Rattle.elem.specs.ElementValue.{ElementValue}
 use Rattle.elem.specs.Facts.{IsElement}
-use Rattle.elem.specs.Said.{IsBindingText, IsWritten}
+use Rattle.elem.specs.Said.{IsBindingText, HasValidTexts}
 use Rattle.links.specs.Arrows.{names_target, is_bound_to, is_true_entry, arrow_entries, text_entries, listing, with_settled_links}
-use Rattle.links.specs.Entries.{same_entry, arrow_entry, first_occurrences}
+use Rattle.links.specs.Entries.{same_listing_entry, arrow_entry, first_occurrences}
 use Rattle.links.specs.Names.{can_hold_text, id_of, names_container, target_of}
 use Rattle.links.specs.Settled.{settled_links}
 use Rattle.links.specs.Texts.{is_text_entry, listed_text, first_text, text_of, keeps_container, with_settled_container, settled_texts}
@@ -27,11 +27,11 @@ use Rattle.view.specs.Shown.{is_live, live_elements, in_scene_order, index_of, w
 use Rattle.view.proofs.SceneOrder.{IsPermutation-in_scene_order}
 
 -- what the type of elements keeps
-pub record IsKept (e : Drawn) : Type 0 where
+pub record IsKept (e : ElementValue) : Type 0 where
   pub element : IsElement e
-  pub written : IsWritten e
+  pub written : HasValidTexts e
 
-abbrev pub AreKept : List Drawn → Type 0
+abbrev pub AreKept : List ElementValue → Type 0
 AreKept es = AllByRecursion IsKept es
 
 -- ---- lists and options
@@ -55,7 +55,7 @@ if-some P true o is = is
 if-some P false o is = tt
 
 -- ---- keys
-pub kept-keys : (es : List Drawn) → AreKept es → HaveKeysOrNone es
+pub kept-keys : (es : List ElementValue) → AreKept es → HaveKeysOrNone es
 kept-keys [] all = refl
 kept-keys (e ∷ es) all = and_from (is_key_or_none e.index) (list_all is_key_or_none (map index_of es)) (by e.index all.0.written.index) (kept-keys es all.1)
   where
@@ -63,7 +63,7 @@ kept-keys (e ∷ es) all = and_from (is_key_or_none e.index) (list_all is_key_or
     by None is = refl
     by (Some key) is = is
 
-with_index-kept : (e : Drawn) (key : List ℕ) → is_key key ≡ true → IsKept e → IsKept (with_index e key)
+with_index-kept : (e : ElementValue) (key : List ℕ) → is_key key ≡ true → IsKept e → IsKept (with_index e key)
 with_index-kept e key is kept =
     let a = kept.element in
     let w = kept.written in
@@ -97,25 +97,25 @@ with_index-kept e key is kept =
       };
     }
 
-keyed-kept : (es : List Drawn) (keys : List (List ℕ)) → list_all is_key keys ≡ true → AreKept es → AreKept (keyed es keys)
+keyed-kept : (es : List ElementValue) (keys : List (List ℕ)) → list_all is_key keys ≡ true → AreKept es → AreKept (keyed es keys)
 keyed-kept [] keys are all = tt
 keyed-kept (e ∷ es) [] are all = tt
 keyed-kept (e ∷ es) (key ∷ keys) are all =
     let parts = and_parts (is_key key) (list_all is_key keys) are in
     (with_index-kept e key parts.0 all.0, keyed-kept es keys parts.1 all.1)
 
-pub repaired-kept : (es : List Drawn) → AreKept es → AreKept (keyed es (repaired (map index_of es)))
+pub repaired-kept : (es : List ElementValue) → AreKept es → AreKept (keyed es (repaired (map index_of es)))
 repaired-kept es all = keyed-kept es (repaired (map index_of es)) (AreRepaired-from (map index_of es) (repaired (map index_of es)) refl (kept-keys es all)).new_keys all
 
-ordered-kept : (es : List Drawn) → AreKept es → AreKept (in_scene_order es)
+ordered-kept : (es : List ElementValue) → AreKept es → AreKept (in_scene_order es)
 ordered-kept es all = recursion_from_All IsKept (in_scene_order es) (All-permutation IsKept es (in_scene_order es) (IsPermutation-in_scene_order es) (All-from_recursion IsKept es all))
 
-placed-kept : (live : List Drawn) → AreKept live → AreKept (placed live)
+placed-kept : (live : List ElementValue) → AreKept live → AreKept (placed live)
 unfolding placed
 placed-kept live all = repaired-kept (in_scene_order live) (ordered-kept live all)
 
 -- ---- texts
-container-kept : (list : List Drawn) (e : Drawn) → IsKept e → IsKept (with_settled_container list e)
+container-kept : (list : List ElementValue) (e : ElementValue) → IsKept e → IsKept (with_settled_container list e)
 container-kept list e kept =
     let a = kept.element in
     let w = kept.written in
@@ -155,9 +155,9 @@ HasText entry = IsUtf8 entry.id
 
 first-all : (entries : List BoundRef) → AllByRecursion HasText entries → AllByRecursion HasText (first_occurrences entries)
 first-all [] all = tt
-first-all (entry ∷ entries) all = (all.0, all_kept_by (λ other. not (same_entry entry other)) HasText (first_occurrences entries) (first-all entries all.1))
+first-all (entry ∷ entries) all = (all.0, all_kept_by (λ other. not (same_listing_entry entry other)) HasText (first_occurrences entries) (first-all entries all.1))
 
-text_of-written : (list : List Drawn) (e : Drawn) → AreKept list → IsKept e → IfSome (text_of list e) IsUtf8
+text_of-written : (list : List ElementValue) (e : ElementValue) → AreKept list → IsKept e → IfSome (text_of list e) IsUtf8
 unfolding text_of
 text_of-written list e all kept =
     if-some IsUtf8 (can_hold_text e.kind) (option_or (listed_text list e) (first_text list e))
@@ -169,17 +169,17 @@ entries-of : (o : Option (List ℕ)) → IfSome o IsUtf8 → AllByRecursion HasT
 entries-of None is = tt
 entries-of (Some id) is = (is, tt)
 
-listing-written : (list : List Drawn) (e : Drawn) → AreKept list → IsKept e → AllByRecursion HasText (listing list e)
+listing-written : (list : List ElementValue) (e : ElementValue) → AreKept list → IsKept e → AllByRecursion HasText (listing list e)
 unfolding listing
 listing-written list e all kept =
     first-all (filter (is_true_entry list e) e.bound ++ (arrow_entries list e ++ text_entries (text_of list e)))
     (All-append HasText (filter (is_true_entry list e) e.bound) (arrow_entries list e ++ text_entries (text_of list e))
     (all_kept_by (is_true_entry list e) HasText e.bound kept.written.bound)
     (All-append HasText (arrow_entries list e) (text_entries (text_of list e))
-    (map-all IsKept HasText (λ (arrow : Drawn). arrow_entry arrow.id) (filter (is_bound_to e) list) (λ x is. is.written.id) (all_kept_by (is_bound_to e) IsKept list all))
+    (map-all IsKept HasText (λ (arrow : ElementValue). arrow_entry arrow.id) (filter (is_bound_to e) list) (λ x is. is.written.id) (all_kept_by (is_bound_to e) IsKept list all))
     (entries-of (text_of list e) (text_of-written list e all kept))))
 
-links-kept : (list : List Drawn) (e : Drawn) → AreKept list → IsKept e → IsKept (with_settled_links list e)
+links-kept : (list : List ElementValue) (e : ElementValue) → AreKept list → IsKept e → IsKept (with_settled_links list e)
 links-kept list e all kept =
     let a = kept.element in
     let w = kept.written in
@@ -214,7 +214,7 @@ links-kept list e all kept =
     }
 
 -- ---- frames and groups
-frame-kept : (names_frame : List ℕ → Bool) (e : Drawn) → IsKept e → IsKept (framed names_frame e)
+frame-kept : (names_frame : List ℕ → Bool) (e : ElementValue) → IsKept e → IsKept (framed names_frame e)
 frame-kept names_frame e kept =
     let a = kept.element in
     let w = kept.written in
@@ -253,9 +253,9 @@ frame-kept names_frame e kept =
 
 groups-written : (groups : List (List ℕ)) → AllByRecursion IsUtf8 groups → AllByRecursion IsUtf8 (texts.first_occurrences groups)
 groups-written [] all = tt
-groups-written (group ∷ groups) all = (all.0, all_kept_by (texts.is_other group) IsUtf8 (texts.first_occurrences groups) (groups-written groups all.1))
+groups-written (group ∷ groups) all = (all.0, all_kept_by (texts.is_other_text group) IsUtf8 (texts.first_occurrences groups) (groups-written groups all.1))
 
-group-kept : (e : Drawn) → IsKept e → IsKept (grouped e)
+group-kept : (e : ElementValue) → IsKept e → IsKept (grouped e)
 group-kept e kept =
     let a = kept.element in
     let w = kept.written in
@@ -290,7 +290,7 @@ group-kept e kept =
     }
 
 -- ---- all of it
-settled-kept : (es : List Drawn) → AreKept es → AreKept (settled es)
+settled-kept : (es : List ElementValue) → AreKept es → AreKept (settled es)
 unfolding settled
 settled-kept es all =
     let texted = map-all IsKept IsKept (with_settled_container es) es (container-kept es) all in
@@ -298,22 +298,22 @@ settled-kept es all =
     let framed' = map-all IsKept IsKept (framed (has_frame (settled_links es))) (settled_links es) (frame-kept (has_frame (settled_links es))) linked in
     map-all IsKept IsKept grouped (frames_settled (settled_links es)) group-kept framed'
 
-pub shown-kept : (live : List Drawn) → AreKept live → AreKept (shown live)
+pub shown-kept : (live : List ElementValue) → AreKept live → AreKept (shown live)
 unfolding shown
 shown-kept live all = settled-kept (placed live) (placed-kept live all)
 
-pub live-kept : (stored : List Drawn) → AreKept stored → AreKept (live_elements stored)
+pub live-kept : (stored : List ElementValue) → AreKept stored → AreKept (live_elements stored)
 live-kept stored all = all_kept_by is_live IsKept stored all
 
 -- ---- as laws say it
-kept-from : (es : List Drawn) → All (λ e. IsElement e × IsWritten e) es → AreKept es
-kept-from es all = All-weaker (λ e. IsElement e × IsWritten e) IsKept (λ e h. record { element = h.0; written = h.1 }) es (recursion_from_All _ es all)
+kept-from : (es : List ElementValue) → All (λ e. IsElement e × HasValidTexts e) es → AreKept es
+kept-from es all = All-weaker (λ e. IsElement e × HasValidTexts e) IsKept (λ e h. record { element = h.0; written = h.1 }) es (recursion_from_All _ es all)
 
-kept-to : (es : List Drawn) → AreKept es → All (λ e. IsElement e × IsWritten e) es
-kept-to es all = All-from_recursion _ es (All-weaker IsKept (λ e. IsElement e × IsWritten e) (λ e h. (h.element, h.written)) es all)
+kept-to : (es : List ElementValue) → AreKept es → All (λ e. IsElement e × HasValidTexts e) es
+kept-to es all = All-from_recursion _ es (All-weaker IsKept (λ e. IsElement e × HasValidTexts e) (λ e h. (h.element, h.written)) es all)
 
-pub shown-elements : (live : List Drawn) → All (λ e. IsElement e × IsWritten e) live → All (λ e. IsElement e × IsWritten e) (shown live)
+pub shown-elements : (live : List ElementValue) → All (λ e. IsElement e × HasValidTexts e) live → All (λ e. IsElement e × HasValidTexts e) (shown live)
 shown-elements live all = kept-to (shown live) (shown-kept live (kept-from live all))
 
-pub keyed-elements : (es : List Drawn) → All (λ e. IsElement e × IsWritten e) es → All (λ e. IsElement e × IsWritten e) (keyed es (repaired (map index_of es)))
+pub keyed-elements : (es : List ElementValue) → All (λ e. IsElement e × HasValidTexts e) es → All (λ e. IsElement e × HasValidTexts e) (keyed es (repaired (map index_of es)))
 keyed-elements es all = kept-to (keyed es (repaired (map index_of es))) (repaired-kept es (kept-from es all))

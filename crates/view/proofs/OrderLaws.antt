@@ -7,7 +7,7 @@ use Rattle.std.specs.Ordering.{is_eq, ordering_then}
 use Rattle.std.specs.declared.cmp.Ordering.TheVariants.{Less, Equal, Greater}
 use Rattle.std.proofs.lemmas.List.Sorted.{ranks_by}
 use Rattle.frac_keys.specs.Keys.{bytes_less}
-use Rattle.elem.specs.Drawn.{Drawn}
+use Rattle.elem.specs.ElementValue.{ElementValue}
 use Rattle.view.specs.Shown.{comes_before, place_less, index_of}
 
 -- indices in order, none last
@@ -17,7 +17,7 @@ index_cmp None (Some key) = Greater
 index_cmp (Some key) None = Less
 index_cmp (Some key) (Some other) = slice_cmp nat_cmp key other
 
-abbrev pub place_cmp : Drawn → Drawn → Ordering
+abbrev pub place_cmp : ElementValue → ElementValue → Ordering
 place_cmp e f = ordering_then (index_cmp e.index f.index) (slice_cmp nat_cmp e.id f.id)
 
 -- none is last in the reverse of the order in which it is first
@@ -31,7 +31,7 @@ index_cmp-total : IsTotalOrder index_cmp
 index_cmp-total = subst IsTotalOrder (λ i a b. turned a b i) (back_total (options_total (back_total nat_list_cmp_total)))
 
 pub place_cmp-total : IsTotalOrder place_cmp
-place_cmp-total = then_total (on_total index_of index_cmp-total) (on_total (λ (e : Drawn). e.id) nat_list_cmp_total)
+place_cmp-total = then_total (on_total index_of index_cmp-total) (on_total (λ (e : ElementValue). e.id) nat_list_cmp_total)
 
 then_lt : (o p : Ordering) → (is_lt o || (is_eq o && is_lt p)) ≡ is_lt (ordering_then o p)
 then_lt Less p = refl
@@ -45,7 +45,7 @@ by_place (Some a) id None other = refl
 by_place (Some a) id (Some b) other =
     ap (λ same. bytes_less a b || (same && bytes_less id other)) (texts_ties a b) ∙ then_lt (slice_cmp nat_cmp a b) (slice_cmp nat_cmp id other)
 
-pub comes_before-cmp : (e f : Drawn) → comes_before e f ≡ is_lt (place_cmp e f)
+pub comes_before-cmp : (e f : ElementValue) → comes_before e f ≡ is_lt (place_cmp e f)
 comes_before-cmp e f = by_place e.index e.id f.index f.id
 
 pub comes_before-order : IsStrictWeakOrder comes_before
@@ -57,7 +57,7 @@ then_eq Less p h = cc
 then_eq Equal p h = h
 then_eq Greater p h = cc
 
-pub tied-ids : (e f : Drawn) → is_eq (place_cmp e f) ≡ true → bytes_eq e.id f.id ≡ true
+pub tied-ids : (e f : ElementValue) → is_eq (place_cmp e f) ≡ true → bytes_eq e.id f.id ≡ true
 tied-ids e f h = texts_ties e.id f.id ∙ then_eq (index_cmp e.index f.index) (slice_cmp nat_cmp e.id f.id) h
 
 -- what the code compares where both have an index

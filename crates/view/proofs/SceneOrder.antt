@@ -1,7 +1,7 @@
 -- Elements in scene order, which is the one permutation in which each comes before those behind it.
 use Rattle.std.proofs.Common.{List}
 use Rattle.std.specs.List.Sorted.{IsPermutation}
-use Rattle.elem.specs.Drawn.{Drawn}
+use Rattle.elem.specs.ElementValue.{ElementValue}
 use Rattle.view.specs.Shown.{comes_before, in_scene_order, IsSceneOrder, HaveDistinctIds}
 use Rattle.view.proofs.InOrder.{IsElementOrder, IsPermutation-in_order, AllPairs-in_order, in_order-only}
 use Rattle.view.proofs.OrderLaws.{place_cmp, place_cmp-total, comes_before-cmp, tied-ids}
@@ -9,10 +9,10 @@ use Rattle.view.proofs.OrderLaws.{place_cmp, place_cmp-total, comes_before-cmp, 
 pub scene_order : IsElementOrder comes_before place_cmp
 scene_order = record { total = place_cmp-total; less = comes_before-cmp; tied = tied-ids }
 
-pub IsPermutation-in_scene_order : (es : List Drawn) → IsPermutation es (in_scene_order es)
+pub IsPermutation-in_scene_order : (es : List ElementValue) → IsPermutation es (in_scene_order es)
 IsPermutation-in_scene_order = IsPermutation-in_order comes_before
 
-pub in_scene_order-is : (es : List Drawn) → HaveDistinctIds es → IsSceneOrder es (in_scene_order es)
+pub in_scene_order-is : (es : List ElementValue) → HaveDistinctIds es → IsSceneOrder es (in_scene_order es)
 in_scene_order-is es apart = record {
   moved = IsPermutation-in_scene_order es;
   in_order = AllPairs-in_order scene_order es apart;

@@ -1,7 +1,7 @@
 -- What settling leaves as it is, and that settling again changes nothing.
 use Rattle.std.proofs.Common.{◌≡◌, List, [], ◌∷◌, map, bytes_eq, refl, sym, ap, ap₂, ◌∙◌, subst}
 use Rattle.std.specs.List.{IsDistinct}
-use Rattle.elem.specs.Drawn.{Drawn}
+use Rattle.elem.specs.ElementValue.{ElementValue}
 use Rattle.frames_groups.specs.Frames.{without_frame, frames_settled, NameFrames}
 use Rattle.frames_groups.specs.Groups.{without_groups, groups_settled, HaveDistinctGroups}
 use Rattle.frames_groups.proofs.FrameLaws.{frames_settled-settled, frames_settled-others, NameFrames-settled}
@@ -17,12 +17,12 @@ use Rattle.links.proofs.UnplacedLaws.{links-unplaced}
 use Rattle.view.specs.Settled.{settled, unsettled, AreSettled}
 
 -- what is the same of two lists is the same of them when less of it is looked at
-module _ {A B : Type 0} (keep : Drawn → A) (less : A → B) where
-  pub map-less : (es fs : List Drawn) → map keep es ≡ map keep fs → map (λ e. less (keep e)) es ≡ map (λ e. less (keep e)) fs
+module _ {A B : Type 0} (keep : ElementValue → A) (less : A → B) where
+  pub map-less : (es fs : List ElementValue) → map keep es ≡ map keep fs → map (λ e. less (keep e)) es ≡ map (λ e. less (keep e)) fs
   map-less es fs same = sym (map-map less keep es) ∙ ap (map less) same ∙ map-map less keep fs
 
 -- ---- what settling leaves as it is
-pub unsettled-settled : (elements : List Drawn) → map unsettled (settled elements) ≡ map unsettled elements
+pub unsettled-settled : (elements : List ElementValue) → map unsettled (settled elements) ≡ map unsettled elements
 unfolding settled
 unsettled-settled elements =
     let linked = settled_links elements in
@@ -33,7 +33,7 @@ unsettled-settled elements =
 
 -- ---- settling again changes nothing
 -- an element of what settling links looks at and of what it leaves as it is
-assembled : Drawn → Drawn → Drawn
+assembled : ElementValue → ElementValue → ElementValue
 assembled linked other = record other {
   bound = linked.bound;
   container = linked.container;
@@ -41,7 +41,7 @@ assembled linked other = record other {
   end_binding = linked.end_binding;
 }
 
-pub same_elements : (es fs : List Drawn) → map unplaced es ≡ map unplaced fs → map unlinked es ≡ map unlinked fs → es ≡ fs
+pub same_elements : (es fs : List ElementValue) → map unplaced es ≡ map unplaced fs → map unlinked es ≡ map unlinked fs → es ≡ fs
 unfolding assembled
 same_elements [] [] linked others = refl
 same_elements [] (f ∷ fs) linked others = cc
@@ -52,14 +52,14 @@ same_elements (e ∷ es) (f ∷ fs) linked others =
     ap₂ (λ x xs. x ∷ xs) (ap₂ assembled first other) (same_elements es fs (cc) (cc))
 
 -- links that are settled stay so where nothing is changed that settling looks at
-links-stay : (es fs : List Drawn) → map unplaced es ≡ map unplaced fs → settled_links fs ≡ fs → settled_links es ≡ es
+links-stay : (es fs : List ElementValue) → map unplaced es ≡ map unplaced fs → settled_links fs ≡ fs → settled_links es ≡ es
 links-stay es fs same stay =
     same_elements (settled_links es) es
     (sym (links-unplaced es) ∙ (ap settled_links same ∙ (links-unplaced fs ∙ (ap (map unplaced) stay ∙ sym same))))
     (unlinked-links es)
 
 -- the links of what is settled stay
-pub links-settled : (elements : List Drawn) → HaveDistinctIds elements → settled_links (settled elements) ≡ settled elements
+pub links-settled : (elements : List ElementValue) → HaveDistinctIds elements → settled_links (settled elements) ≡ settled elements
 unfolding settled
 links-settled elements apart =
     let linked = settled_links elements in
@@ -69,7 +69,7 @@ links-settled elements apart =
     ∙ map-less without_frame unplaced framed linked (frames_settled-others linked))
     (links-again elements apart)
 
-pub settled-again : (elements : List Drawn) → HaveDistinctIds elements → settled (settled elements) ≡ settled elements
+pub settled-again : (elements : List ElementValue) → HaveDistinctIds elements → settled (settled elements) ≡ settled elements
 unfolding settled
 settled-again elements apart =
     let framed = frames_settled (settled_links elements) in
@@ -77,18 +77,18 @@ settled-again elements apart =
     ∙ (ap groups_settled (settled-either framed ∙ ap groups_settled (frames_settled-settled (settled_links elements)))
     ∙ groups_settled-settled framed)
 
-pub distinct-settled : (elements : List Drawn) → HaveDistinctIds elements → HaveDistinctIds (settled elements)
+pub distinct-settled : (elements : List ElementValue) → HaveDistinctIds elements → HaveDistinctIds (settled elements)
 distinct-settled elements apart =
     subst (IsDistinct bytes_eq) (sym (map-less unsettled id_of (settled elements) elements (unsettled-settled elements))) apart
 
 -- ---- what holds of the settled elements
-frames-settled : (elements : List Drawn) → NameFrames (settled elements) × HaveDistinctGroups (settled elements)
+frames-settled : (elements : List ElementValue) → NameFrames (settled elements) × HaveDistinctGroups (settled elements)
 unfolding settled
 frames-settled elements =
     let linked = settled_links elements in
     (NameFrames-grouped (frames_settled linked) (NameFrames-settled linked), HaveDistinctGroups-settled (frames_settled linked))
 
-pub settled-are : (elements : List Drawn) → HaveDistinctIds elements → AreSettled (settled elements)
+pub settled-are : (elements : List ElementValue) → HaveDistinctIds elements → AreSettled (settled elements)
 settled-are elements apart =
     let same = links-settled elements apart in
     let texts = settled_texts (settled elements) in

@@ -5,15 +5,15 @@ use Rattle.std.specs.Option.{unwrap_or}
 use Rattle.frac_keys.specs.Keys.{bytes_less}
 use Rattle.frac_keys.specs.Rising.{are_rising, is_key_or_none}
 use Rattle.index_repair.specs.Repair.{repaired}
-use Rattle.elem.specs.Drawn.{Drawn}
+use Rattle.elem.specs.ElementValue.{ElementValue}
 use Rattle.elem_store.specs.Updates.{element_of, ids_of}
 use Rattle.view.specs.Settled.{settled, unsettled}
 
 -- the live elements: those that aren't deleted
-abbrev pub is_live : Drawn → Bool
+abbrev pub is_live : ElementValue → Bool
 is_live e = not e.deleted
 
-abbrev pub live_elements : List Drawn → List Drawn
+abbrev pub live_elements : List ElementValue → List ElementValue
 live_elements elements = filter is_live elements
 
 -- whether an index and an id come before another index and id: by index, none last, and then by id
@@ -25,88 +25,88 @@ place_less (Some index) id (Some other_index) other =
     bytes_less index other_index || (bytes_eq index other_index && bytes_less id other)
 
 -- whether an element comes before another one
-abbrev pub comes_before : Drawn → Drawn → Bool
+abbrev pub comes_before : ElementValue → ElementValue → Bool
 comes_before e other = place_less e.index e.id other.index other.id
 
 -- elements in an order and one more, which goes before the first that doesn't come before it
-abbrev pub with_element : (Drawn → Drawn → Bool) → Drawn → List Drawn → List Drawn
+abbrev pub with_element : (ElementValue → ElementValue → Bool) → ElementValue → List ElementValue → List ElementValue
 with_element before e [] = e ∷ []
 with_element before e (other ∷ others) = if before other e then other ∷ with_element before e others else e ∷ other ∷ others
 
 -- the elements in an order
-abbrev pub in_order : (Drawn → Drawn → Bool) → List Drawn → List Drawn
+abbrev pub in_order : (ElementValue → ElementValue → Bool) → List ElementValue → List ElementValue
 in_order before [] = []
 in_order before (e ∷ elements) = with_element before e (in_order before elements)
 
 -- the elements in scene order, and in the order of their ids
-abbrev pub in_scene_order : List Drawn → List Drawn
+abbrev pub in_scene_order : List ElementValue → List ElementValue
 in_scene_order elements = in_order comes_before elements
 
-abbrev pub in_id_order : List Drawn → List Drawn
+abbrev pub in_id_order : List ElementValue → List ElementValue
 in_id_order elements = in_order (λ e other. bytes_less e.id other.id) elements
 
 -- each element comes before those behind it
-abbrev pub AreInSceneOrder : List Drawn → Type 0
+abbrev pub AreInSceneOrder : List ElementValue → Type 0
 AreInSceneOrder elements = AllPairs (λ e other. comes_before e other ≡ true) elements
 
 -- They are the elements in scene order: the one permutation in which each comes before those behind it.
-pub record IsSceneOrder (elements ordered : List Drawn) : Type 0 where
+pub record IsSceneOrder (elements ordered : List ElementValue) : Type 0 where
   pub moved : IsPermutation elements ordered
   pub in_order : AreInSceneOrder ordered
-  pub only : (others : List Drawn) → IsPermutation elements others → AreInSceneOrder others → others ≡ ordered
+  pub only : (others : List ElementValue) → IsPermutation elements others → AreInSceneOrder others → others ≡ ordered
 
 -- no two elements have one id
-abbrev pub HaveDistinctIds : List Drawn → Type 0
+abbrev pub HaveDistinctIds : List ElementValue → Type 0
 HaveDistinctIds elements = IsDistinct bytes_eq (ids_of elements)
 
 -- the index of an element, and the element with a key as its index
-abbrev pub index_of : Drawn → Option (List ℕ)
+abbrev pub index_of : ElementValue → Option (List ℕ)
 index_of e = e.index
 
-abbrev pub with_index : Drawn → List ℕ → Drawn
+abbrev pub with_index : ElementValue → List ℕ → ElementValue
 with_index e key = record e { index = Some key }
 
 -- each element with its key
-abbrev pub keyed : List Drawn → List (List ℕ) → List Drawn
+abbrev pub keyed : List ElementValue → List (List ℕ) → List ElementValue
 keyed [] keys = []
 keyed (e ∷ elements) [] = []
 keyed (e ∷ elements) (key ∷ keys) = with_index e key ∷ keyed elements keys
 
 -- the live elements in scene order, with repaired keys
-unfoldable pub placed : List Drawn → List Drawn
+unfoldable pub placed : List ElementValue → List ElementValue
 placed live = let ordered = in_scene_order live in keyed ordered (repaired (map index_of ordered))
 
 -- what a board shows of its live elements: they are placed, and then their links, frames and groups are settled
-unfoldable pub shown : List Drawn → List Drawn
+unfoldable pub shown : List ElementValue → List ElementValue
 shown live = settled (placed live)
 
 -- each index is a key, if it is there
-abbrev pub HaveKeysOrNone : List Drawn → Type 0
+abbrev pub HaveKeysOrNone : List ElementValue → Type 0
 HaveKeysOrNone elements = list_all is_key_or_none (map index_of elements) ≡ true
 
 -- Each element has a key, and each key is less than the next.
-pub record HaveRisingKeys (elements : List Drawn) : Type 0 where
+pub record HaveRisingKeys (elements : List ElementValue) : Type 0 where
   pub keys : List (List ℕ)
   pub each : map index_of elements ≡ map Some keys
   pub rise : are_rising keys ≡ true
 
 -- the element without its key, and without that and what settling may change
-abbrev pub without_index : Drawn → Drawn
+abbrev pub without_index : ElementValue → ElementValue
 without_index e = record e { index = None }
 
-abbrev pub bare : Drawn → Drawn
+abbrev pub bare : ElementValue → ElementValue
 bare e = unsettled (without_index e)
 
 -- a shown element as it is stored: the original of its id, or itself where there is none
-abbrev pub as_stored : List Drawn → Drawn → Drawn
+abbrev pub as_stored : List ElementValue → ElementValue → ElementValue
 as_stored originals e = unwrap_or (element_of originals e.id) e
 
 -- the shown elements as they are stored, in the order of their ids
-abbrev pub all_as_stored : List Drawn → List Drawn → List Drawn
+abbrev pub all_as_stored : List ElementValue → List ElementValue → List ElementValue
 all_as_stored originals elements = in_id_order (map (as_stored originals) elements)
 
 -- These elements are what is shown of the live ones, which are in the order of their ids.
-pub record IsView (live elements : List Drawn) : Type 0 where
+pub record IsView (live elements : List ElementValue) : Type 0 where
   pub exact : elements ≡ shown live
   pub ordered : are_rising (ids_of live) ≡ true
   pub all_live : list_all is_live live ≡ true

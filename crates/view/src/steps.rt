@@ -1,7 +1,7 @@
 //! Laws on what settling makes of one element, for all lists of elements. They do nothing when they run.
 
 ghost use Rattle.std.specs.Prelude.{◌≡◌, ℕ, List, Bool, filter, map};
-ghost use Rattle.elem.specs.Drawn.{Drawn};
+ghost use Rattle.elem.specs.ElementValue.{ElementValue};
 ghost use Rattle.view.specs.Settled.{settled};
 ghost use Rattle.view.specs.Shown.{without_index, HaveDistinctIds};
 ghost use Rattle.view.specs.Steps.{settled_of, settled_but_for_key, AreAlikeNear, HasAllNear};
@@ -11,18 +11,18 @@ ghost use Rattle.view.specs.Steps.{settled_of, settled_but_for_key, AreAlikeNear
 /// element in both, but for its key. Three steps are enough, since an arrow looks at its target, at the container that the
 /// target names, and at the other texts that name this container.
 pub fn three_steps_are_enough()
-    ensures alike { (list other : List Drawn) (id : List ℕ)
+    ensures alike { (list other : List ElementValue) (id : List ℕ)
         → HaveDistinctIds list → HaveDistinctIds other → AreAlikeNear list other id
         → settled_but_for_key list id ≡ settled_but_for_key other id }
 
     // Settling some of the elements makes of one what settling all makes of it, if those near it are among them.
-    ensures alone { (list : List Drawn) (among : Drawn → Bool) (id : List ℕ)
+    ensures alone { (list : List ElementValue) (among : ElementValue → Bool) (id : List ℕ)
         → HaveDistinctIds list → HasAllNear among list id
         → settled_of (filter among list) id ≡ settled_of list id }
 
     // Where some elements of two lists are the same but for their keys, and in the same order, and those near one are among
     // them in both lists, settling makes the same of it in both, but for its key.
-    ensures unchanged { (list other : List Drawn) (among : Drawn → Bool) (id : List ℕ)
+    ensures unchanged { (list other : List ElementValue) (among : ElementValue → Bool) (id : List ℕ)
         → HaveDistinctIds list → HaveDistinctIds other
         → map without_index (filter among list) ≡ map without_index (filter among other)
         → HasAllNear among list id → HasAllNear among other id
@@ -31,5 +31,5 @@ pub fn three_steps_are_enough()
 
 /// Keys play no part in settling.
 pub fn keys_play_no_part()
-    ensures { (list : List Drawn) → settled (map without_index list) ≡ map without_index (settled list) }
+    ensures { (list : List ElementValue) → settled (map without_index list) ≡ map without_index (settled list) }
 {}

@@ -2,7 +2,7 @@
 
 ghost use Rattle.std.specs.Prelude.{◌≡◌, List as Items, true, length, map, Some, All, IfOk, IfSome, IsPermutation, bytes_eq, IsTrue};
 ghost use Rattle.frac_keys.specs.Rising.{are_rising};
-ghost use Rattle.elem.specs.Drawn.{Drawn};
+ghost use Rattle.elem.specs.ElementValue.{ElementValue};
 ghost use Rattle.elem_store.specs.Updates.{element_of, ids_of};
 ghost use Rattle.view.specs.Settled.{AreSettled};
 ghost use Rattle.view.specs.Shown.{as_stored, is_live, live_elements, placed, shown, HaveDistinctIds, HaveKeysOrNone, HaveRisingKeys, IsSceneOrder, bare};
@@ -31,10 +31,10 @@ pub struct View {
 
 impl Model for View {
     ghost use Rattle.std.specs.Prelude.{List as Items};
-    ghost use Rattle.elem.specs.Drawn.{Drawn};
+    ghost use Rattle.elem.specs.ElementValue.{ElementValue};
     ghost use Rattle.view.specs.Shown.{all_as_stored, IsView};
 
-    ghost Value = { Items Drawn };
+    ghost Value = { Items ElementValue };
 
     ghost view = { λ v. all_as_stored v.originals v.shown };
 
@@ -57,13 +57,13 @@ impl View {
     pub fn elements(&self) -> &[Element]
         ensures exact { result.now ≡ shown self.now }
         ensures keys { HaveRisingKeys result.now }
-        ensures order { (ordered : Items Drawn) × IsSceneOrder self.now ordered × (ids_of result.now ≡ ids_of ordered) }
+        ensures order { (ordered : Items ElementValue) × IsSceneOrder self.now ordered × (ids_of result.now ≡ ids_of ordered) }
         ensures ids { IsPermutation (ids_of self.now) (ids_of result.now) }
         ensures others { IsPermutation (map bare self.now) (map bare result.now) }
         ensures settled { AreSettled result.now }
 
         // The view of these elements, in any order, is this view.
-        ensures again { (stored : Items Drawn) → IsPermutation result.now stored → shown (live_elements stored) ≡ result.now }
+        ensures again { (stored : Items ElementValue) → IsPermutation result.now stored → shown (live_elements stored) ≡ result.now }
     {
         self.shown.as_slice()
     }

@@ -20,7 +20,7 @@ use Rattle.restore_table.specs.Table.{defaults}
 use Rattle.restore_table.proofs.Merging.{merged-rise}
 use Rattle.restore_table.proofs.RestoredLaws.{restored-from}
 use Rattle.restore_table.proofs.Rows.{defaults-rise}
-use Rattle.elem.specs.Drawn.{Drawn}
+use Rattle.elem.specs.ElementValue.{ElementValue}
 use Rattle.elem.specs.Facts.{is_header, IsKind}
 use Rattle.elem.specs.Forms.{find_in, IsTextOrNull, IsBindingOrNull, AreOthers}
 use Rattle.elem.specs.Said.{IsOwn, Says, is_named}
@@ -31,8 +31,8 @@ use Rattle.elem.proofs.FormsOnce.{text-once}
 use Rattle.elem.proofs.Saying.{literal, AreMembers-deeper}
 use Rattle.elem_read.specs.Reading.{IsElementIn}
 use Rattle.elem_read.proofs.Others.{kept, kept-others}
-use Rattle.workload.specs.Elements.{element_of, member_of, plain_rest}
-use Rattle.workload.specs.Texts.{id_text, kind_of, element_members, element_text}
+use Rattle.workload.specs.Elements.{numbered_element, member_of, plain_rest}
+use Rattle.workload.specs.Texts.{id_text, kind_of, numbered_element_members, numbered_element_text}
 use Rattle.workload.proofs.IdLaws.{id-utf8, id-compact, word-compact}
 
 -- the members, and the element, of a given kind
@@ -156,8 +156,8 @@ rest-as kind number plain =
     (kept-others (is_header kind) (map member_of all) (merged-rise (members_as kind number) defaults (members-rise kind number) defaults-rise))
 
 -- ---- the element
-abbrev drawn_as : Kind → ℕ → Drawn
-drawn_as kind number = record (element_of number) { kind = kind }
+abbrev drawn_as : Kind → ℕ → ElementValue
+drawn_as kind number = record (numbered_element number) { kind = kind }
 
 digit-found : (digit : ℕ) → digit < 10 → Some ((48 + digit) ∷ []) ≡ Some (decimal digit)
 digit-found digit small = ap Some (sym (decimal_digit digit small))
@@ -189,7 +189,7 @@ element-as kind number small plain =
     record {
       members = members;
       restored = all_as kind number;
-      drawing = record {
+      no_selection = record {
         object = record { are_members = AreMembers-deeper 0 127 members (lit≤ tt) are; spelled = refl };
         kind = λ selection.
             let same = text-once (Some (quote (kind_name kind))) (kind_name kind) (codes "selection") (plain.named, refl) (literal (codes "selection") refl, selection) in
@@ -203,10 +203,10 @@ element-as kind number small plain =
     bytes_eq-differ : (a b : List ℕ) → bytes_eq a b ≡ false → a ≡ b → ⊥
     bytes_eq-differ a b other same = both_ways (bytes_eq a b) other (ap (λ x. bytes_eq x b) same ∙ bytes_eq-same b)
 
-pub element-read : (number : ℕ) → number < 2 ^ 64 → IsElementIn (element_text number) (element_of number)
-unfolding element_text
+pub element-read : (number : ℕ) → number < 2 ^ 64 → IsElementIn (numbered_element_text number) (numbered_element number)
+unfolding numbered_element_text
 element-read number small = element-as (kind_of number) number small (plain-of number)
 
-pub element-compact : (number : ℕ) → number < 2 ^ 64 → IsCompact 1 (element_text number)
-unfolding element_text
-element-compact number small = object-compact 0 (element_members number) (are-members (kind_of number) number small (plain-of number))
+pub element-compact : (number : ℕ) → number < 2 ^ 64 → IsCompact 1 (numbered_element_text number)
+unfolding numbered_element_text
+element-compact number small = object-compact 0 (numbered_element_members number) (are-members (kind_of number) number small (plain-of number))

@@ -21,7 +21,7 @@ use Rattle.session_text.specs.declared.event.Event.{Event}
 use Rattle.session_text.specs.declared.event.Pick.TheVariants.{All}
 use Rattle.session_text.proofs.Said.{change-said, undo-said, redo-said, deliver-said}
 use Rattle.workload.specs.Drills.{command_of, delivery, event_of}
-use Rattle.workload.specs.Texts.{change_members, step_members, delivery_members, delivery_text, deed_text, header_members, header_text, order_members}
+use Rattle.workload.specs.Texts.{change_members, step_members, delivery_members, delivery_text, deed_text, session_header_members, session_header_text, order_members}
 use Rattle.workload.specs.declared.deed.Deed.{Deed}
 use Rattle.workload.specs.declared.deed.Deed.TheVariants.{Change, Undo, Redo, Deliver}
 use Rattle.workload.specs.declared.deed.Order.{Order}
@@ -133,7 +133,7 @@ deed-line made (Redo at time) most (place, soon) = redo-line made at time place 
 deed-line made (Deliver to first last) most (place, one, two) = delivery-line made to (first ∷ last ∷ []) place most (one, (two, tt))
 
 -- ---- the header
-header-are : (seed : ℕ) → seed ≤ greatest_whole → AreMembers 0 (header_members seed)
+header-are : (seed : ℕ) → seed ≤ greatest_whole → AreMembers 0 (session_header_members seed)
 header-are seed small = record {
   named = (literal (codes "session") refl, (literal (codes "replicas") refl, (literal (codes "seed") refl, (literal (codes "scene") refl, tt))));
   valued = (digit-compact 1 (lit< tt), (digit-compact 4 (lit< tt), (number-value 0 seed small, (literal-compact 0 null_word (inr (inl refl)), tt))));
@@ -143,14 +143,14 @@ header-are seed small = record {
 digit-is : (least limit digit : ℕ) → least ≤ digit → digit < limit → digit < 10 → IsFrom least limit (Some ((48 + digit) ∷ [])) digit
 digit-is least limit digit from below small = ((omega arith, ap Some (sym (decimal_digit digit small))), from, below)
 
-pub header-compact : (seed : ℕ) → seed ≤ greatest_whole → IsCompact 128 (header_text seed)
-unfolding header_text
-header-compact seed small = Value-deeper (lit≤ tt) (object-compact 0 (header_members seed) (header-are seed small))
+pub header-compact : (seed : ℕ) → seed ≤ greatest_whole → IsCompact 128 (session_header_text seed)
+unfolding session_header_text
+header-compact seed small = Value-deeper (lit≤ tt) (object-compact 0 (session_header_members seed) (header-are seed small))
 
-pub header-says : (seed : ℕ) → seed ≤ greatest_whole → HeaderText (header_text seed) (Ok (header 4 seed None))
-unfolding header_text
+pub header-says : (seed : ℕ) → seed ≤ greatest_whole → HeaderText (session_header_text seed) (Ok (header 4 seed None))
+unfolding session_header_text
 header-says seed small =
-    goes_on (header_members seed) (record { are_members = AreMembers-deeper 0 127 (header_members seed) (lit≤ tt) (header-are seed small); spelled = refl })
+    goes_on (session_header_members seed) (record { are_members = AreMembers-deeper 0 127 (session_header_members seed) (lit≤ tt) (header-are seed small); spelled = refl })
     (goes_on 1 (digit-is 1 2 1 (lit≤ tt) (lit< tt) (lit< tt))
     (goes_on 4 (digit-is 1 65 4 (lit≤ tt) (lit< tt) (lit< tt))
     (goes_on seed (small, refl)

@@ -9,21 +9,21 @@ use Rattle.scene_json.specs.Characters.{quote}
 use Rattle.scene_json.specs.Value.{IsCompact}
 use Rattle.scene_json.proofs.CompactLaws.{decimal_nests, quote-compact}
 use Rattle.scene_json.proofs.Decimals.{digit_of_decimal}
-use Rattle.workload.specs.Texts.{id_of, id_text}
+use Rattle.workload.specs.Texts.{numbered_id, id_text}
 
-id-ascii : (number : ℕ) → number < 2 ^ 64 → IsAscii (id_of number)
+id-ascii : (number : ℕ) → number < 2 ^ 64 → IsAscii (numbered_id number)
 id-ascii number small zero = lit< tt
 id-ascii number small (suc i) = elim (cases_lt i (length (decimal number))) [
   | inl within ↦ let digit = digit_of_decimal (decimal number) number i small refl within in omega (arith, digit.0, digit.1)
   | inr past ↦ omega (arith, get_or_past (decimal number) i 0 past)
 ]
 
-pub id-utf8 : (number : ℕ) → number < 2 ^ 64 → IsUtf8 (id_of number)
-id-utf8 number small = IsUtf8-from_ascii (id_of number) (id-ascii number small)
+pub id-utf8 : (number : ℕ) → number < 2 ^ 64 → IsUtf8 (numbered_id number)
+id-utf8 number small = IsUtf8-from_ascii (numbered_id number) (id-ascii number small)
 
 pub id-compact : (number : ℕ) → number < 2 ^ 64 → IsCompact 0 (id_text number)
 unfolding id_text
-id-compact number small = quote-compact 0 (id_of number) (id-utf8 number small)
+id-compact number small = quote-compact 0 (numbered_id number) (id-utf8 number small)
 
 -- a word of letters
 pub word-compact : (word : List ℕ) → IsUtf8 word → IsCompact 0 (quote word)

@@ -2,7 +2,7 @@
 use Rattle.std.proofs.Common.{◌≡◌, ℕ, List, [], ◌∷◌, ◌++◌, map, flat_map, sym, ap, ◌∙◌, append_assoc, append-nil}
 use Rattle.std.proofs.lemmas.Grind.{flat_map-append}
 use Rattle.workload.specs.Deeds.{course}
-use Rattle.workload.specs.Texts.{deed_text, delivery_text, rising, falling, last_texts, header_text, line, drill_text}
+use Rattle.workload.specs.Texts.{deed_text, delivery_text, rising, falling, last_texts, session_header_text, line, drill_text}
 
 behind4 : (o a b c d : List ℕ) → (((o ++ a) ++ b) ++ c) ++ d ≡ o ++ (a ++ (b ++ (c ++ d)))
 behind4 o a b c d = simp append_assoc
@@ -21,14 +21,14 @@ last-written made o p q r s one two three four a b c d e f g h =
     ∙ (λ i. o ++ flat_map line (delivery_text 0 (a i) ∷ delivery_text 1 (b i) ∷ delivery_text 2 (c i) ∷ delivery_text 3 (d i) ∷ [])))))
 
 -- all lines
-pub drill-written : (seed events made : ℕ) (o h n e l : List ℕ) → o ≡ [] → h ≡ o ++ header_text seed → n ≡ h ++ 10 ∷ [] → e ≡ n ++ flat_map line (map deed_text (course seed events).deeds)
+pub drill-written : (seed events made : ℕ) (o h n e l : List ℕ) → o ≡ [] → h ≡ o ++ session_header_text seed → n ≡ h ++ 10 ∷ [] → e ≡ n ++ flat_map line (map deed_text (course seed events).deeds)
     → l ≡ e ++ flat_map line (last_texts made) → made ≡ (course seed events).made → l ≡ drill_text seed events
 unfolding drill_text
 drill-written seed events made o h n e l none one two three four same =
     let drawn : List (List ℕ) = map deed_text (course seed events).deeds in
     let last : List (List ℕ) = last_texts (course seed events).made in
-    let begun : n ≡ line (header_text seed) = two ∙ ap (λ (bytes : List ℕ). bytes ++ 10 ∷ []) (one ∙ ap (λ (bytes : List ℕ). bytes ++ header_text seed) none) in
+    let begun : n ≡ line (session_header_text seed) = two ∙ ap (λ (bytes : List ℕ). bytes ++ 10 ∷ []) (one ∙ ap (λ (bytes : List ℕ). bytes ++ session_header_text seed) none) in
     four ∙ (ap (λ m. e ++ flat_map line (last_texts m)) same
     ∙ (ap (λ (bytes : List ℕ). bytes ++ flat_map line last) (three ∙ ap (λ (bytes : List ℕ). bytes ++ flat_map line drawn) begun)
-    ∙ (append_assoc (line (header_text seed)) (flat_map line drawn) (flat_map line last)
-    ∙ ap (λ (bytes : List ℕ). line (header_text seed) ++ bytes) (sym (flat_map-append line drawn last)))))
+    ∙ (append_assoc (line (session_header_text seed)) (flat_map line drawn) (flat_map line last)
+    ∙ ap (λ (bytes : List ℕ). line (session_header_text seed) ++ bytes) (sym (flat_map-append line drawn last)))))

@@ -14,12 +14,12 @@ use Rattle.effects.specs.declared.command.Side.{Side}
 use Rattle.effects.specs.declared.command.Side.TheVariants as sides
 use Rattle.effects.specs.declared.command.Spot.TheVariants as spots
 use Rattle.session_text.specs.Commands.{CommandOf}
-use Rattle.session_text.specs.Forms.{IsAfter, IsRest, AreIds, HasMembers, side_text}
+use Rattle.session_text.specs.Forms.{IsSpotAfter, IsRest, AreIds, HasObject, side_text}
 use Rattle.session_text.specs.Reads.Then.{goes_on}
 use Rattle.session_text.proofs.Said.{create-said, set-said, delete-said, place-said, bind-said, label-said, frame-said, group-said}
 use Rattle.workload.specs.Drills.{command_of}
-use Rattle.workload.specs.Elements.{element_of}
-use Rattle.workload.specs.Texts.{id_of, id_text, element_text, order_members, order_text}
+use Rattle.workload.specs.Elements.{numbered_element}
+use Rattle.workload.specs.Texts.{numbered_id, id_text, numbered_element_text, order_members, order_text}
 use Rattle.workload.specs.declared.deed.Order.{Order}
 use Rattle.workload.specs.declared.deed.Order.TheVariants.{Create, SetX, SetY, Place, Bind, Label, Frame, Group, Delete}
 use Rattle.workload.proofs.ElementLaws.{element-read, element-compact}
@@ -41,18 +41,18 @@ fits : (number : ℕ) → number < 200 → number < 2 ^ 64
 fits number small = omega arith
 
 -- ---- forms of values
-id-is : (number : ℕ) → number < 200 → IsText (Some (id_text number)) (id_of number)
+id-is : (number : ℕ) → number < 200 → IsText (Some (id_text number)) (numbered_id number)
 unfolding id_text
 id-is number small = (id-utf8 number (fits number small), refl)
 
-one-id : (element : ℕ) → element < 200 → AreIds (Some (array_text (id_text element ∷ []))) (id_of element ∷ [])
+one-id : (element : ℕ) → element < 200 → AreIds (Some (array_text (id_text element ∷ []))) (numbered_id element ∷ [])
 unfolding id_text
-one-id element small = (id_of element ∷ [], ((id-utf8 element (fits element small), tt), refl), refl)
+one-id element small = (numbered_id element ∷ [], ((id-utf8 element (fits element small), tt), refl), refl)
 
-two-ids : (element other : ℕ) → element < 200 → other < 200 → AreIds (Some (array_text (id_text element ∷ id_text other ∷ []))) (first_occurrences (id_of element ∷ id_of other ∷ []))
+two-ids : (element other : ℕ) → element < 200 → other < 200 → AreIds (Some (array_text (id_text element ∷ id_text other ∷ []))) (first_occurrences (numbered_id element ∷ numbered_id other ∷ []))
 unfolding id_text
 two-ids element other one two =
-    (id_of element ∷ id_of other ∷ [], ((id-utf8 element (fits element one), (id-utf8 other (fits other two), tt)), refl), refl)
+    (numbered_id element ∷ numbered_id other ∷ [], ((id-utf8 element (fits element one), (id-utf8 other (fits other two), tt)), refl), refl)
 
 -- ---- compact values
 id-value : (number : ℕ) → number < 200 → IsCompact 1 (id_text number)
@@ -83,7 +83,7 @@ after-are other small = record {
   distinct = IsDistinct-from_count nat_list_eq_equiv _ refl;
 }
 
-after-is : (other : ℕ) → other < 200 → IsAfter (object_text ((codes "after", id_text other) ∷ [])) (id_of other)
+after-is : (other : ℕ) → other < 200 → IsSpotAfter (object_text ((codes "after", id_text other) ∷ [])) (numbered_id other)
 after-is other small =
     let members : List Pair = (codes "after", id_text other) ∷ [] in
     (members, record { are_members = AreMembers-deeper 0 127 members (lit≤ tt) (after-are other small); spelled = refl }, id-is other small)
@@ -165,28 +165,28 @@ order-are (Delete element) small = record {
 
 order-says : (order : Order) → IsSmall order → CommandOf (order_members order) (Ok (command_of order))
 order-says (Create element) small =
-    create-said (order_members (Create element)) (element_of element) spots.Top refl (goes_on (element_text element) refl (element-read element (fits element small))) refl
+    create-said (order_members (Create element)) (numbered_element element) spots.Top refl (goes_on (numbered_element_text element) refl (element-read element (fits element small))) refl
 order-says (SetX element value) small =
-    set-said (order_members (SetX element value)) (id_of element) (codes "x") (decimal value) refl (id-is element small.0) (literal (codes "x") refl, refl)
+    set-said (order_members (SetX element value)) (numbered_id element) (codes "x") (decimal value) refl (id-is element small.0) (literal (codes "x") refl, refl)
     (refl, decimal_nests 100 value (fits value small.1))
 order-says (SetY element value) small =
-    set-said (order_members (SetY element value)) (id_of element) (codes "y") (decimal value) refl (id-is element small.0) (literal (codes "y") refl, refl)
+    set-said (order_members (SetY element value)) (numbered_id element) (codes "y") (decimal value) refl (id-is element small.0) (literal (codes "y") refl, refl)
     (refl, decimal_nests 100 value (fits value small.1))
 order-says (Place element other) small =
-    place-said (order_members (Place element other)) (id_of element) (spots.After (id_of other)) refl (id-is element small.0) (after-is other small.1)
+    place-said (order_members (Place element other)) (numbered_id element) (spots.After (numbered_id other)) refl (id-is element small.0) (after-is other small.1)
 order-says (Bind side element other) small =
-    bind-said (order_members (Bind side element other)) (id_of element) side (id_of other) [] refl (id-is element small.0) refl (id-is other small.1) no-rest
+    bind-said (order_members (Bind side element other)) (numbered_id element) side (numbered_id other) [] refl (id-is element small.0) refl (id-is other small.1) no-rest
 order-says (Label element other) small =
-    label-said (order_members (Label element other)) (id_of element) (id_of other) refl (id-is element small.0) (id-is other small.1)
+    label-said (order_members (Label element other)) (numbered_id element) (numbered_id other) refl (id-is element small.0) (id-is other small.1)
 order-says (Frame element other) small =
-    frame-said (order_members (Frame element other)) (id_of element ∷ []) (id_of other) refl (one-id element small.0) (id-is other small.1)
+    frame-said (order_members (Frame element other)) (numbered_id element ∷ []) (numbered_id other) refl (one-id element small.0) (id-is other small.1)
 order-says (Group element other) small =
-    group-said (order_members (Group element other)) (first_occurrences (id_of element ∷ id_of other ∷ [])) (codes "g") refl (two-ids element other small.0 small.1)
+    group-said (order_members (Group element other)) (first_occurrences (numbered_id element ∷ numbered_id other ∷ [])) (codes "g") refl (two-ids element other small.0 small.1)
     (literal (codes "g") refl, refl)
-order-says (Delete element) small = delete-said (order_members (Delete element)) (id_of element ∷ []) refl (one-id element small)
+order-says (Delete element) small = delete-said (order_members (Delete element)) (numbered_id element ∷ []) refl (one-id element small)
 
 -- the command as the member of a change
-pub order-read : (order : Order) → IsSmall order → HasMembers (Some (order_text order)) (order_members order) × CommandOf (order_members order) (Ok (command_of order))
+pub order-read : (order : Order) → IsSmall order → HasObject (Some (order_text order)) (order_members order) × CommandOf (order_members order) (Ok (command_of order))
 unfolding order_text
 order-read order small = (
   (order_text order, refl, record { are_members = AreMembers-deeper 1 127 (order_members order) (lit≤ tt) (order-are order small); spelled = refl }),

@@ -16,7 +16,7 @@ use Rattle.session_text.specs.declared.event.Pick.TheVariants.{All}
 use Rattle.workload.specs.Deeds.{most_drilled, course}
 use Rattle.workload.specs.Drills.{event_of, drawn_events, last_events, drill_session}
 use Rattle.workload.specs.Facts.{IsOfReplicas, IsDrill, PicksAll}
-use Rattle.workload.specs.Texts.{rising, falling, deed_text, last_texts, header_text, line, event_texts, drill_text}
+use Rattle.workload.specs.Texts.{rising, falling, deed_text, last_texts, session_header_text, line, event_texts, drill_text}
 use Rattle.workload.proofs.CourseLaws.{counted, course-lines, own-events}
 use Rattle.workload.proofs.EventLaws.{delivery-line, header-compact, header-says}
 use Rattle.workload.proofs.LineLaws.{AreLines, lines-append, lines-lead, behind_all, last-feed}
@@ -71,11 +71,11 @@ lined head texts =
       last = ap (drop (length front)) whole ∙ drop-append_seam front (10 ∷ []);
     }
 
-header-stands : (seed : ℕ) (rest : List ℕ) → seed ≤ greatest_whole → Stands (line (header_text seed) ++ rest) (header_text seed) (10 ∷ rest)
+header-stands : (seed : ℕ) (rest : List ℕ) → seed ≤ greatest_whole → Stands (line (session_header_text seed) ++ rest) (session_header_text seed) (10 ∷ rest)
 header-stands seed rest small = record {
   blank = [];
-  value = header_text seed;
-  parts = append_assoc (header_text seed) (10 ∷ []) rest;
+  value = session_header_text seed;
+  parts = append_assoc (session_header_text seed) (10 ∷ []) rest;
   space = refl;
   reads = header-compact seed small;
   ends = λ number. refl;
@@ -88,12 +88,12 @@ drill-read seed events small few =
     let is = counted seed events in
     let texts = event_texts seed events in
     let all = drawn_events seed events ++ last_events c.made in
-    let ends = lined (header_text seed) texts in
+    let ends = lined (session_header_text seed) texts in
     record {
       end = ends.end;
       lead = record {
         first = 10 ∷ flat_map line texts;
-        heads = (header_text seed, header-stands seed (flat_map line texts) small, header-says seed small);
+        heads = (session_header_text seed, header-stands seed (flat_map line texts) small, header-says seed small);
         lead = subst (λ (rest : List ℕ). EventsLead 4 0 (10 ∷ flat_map line texts) all rest) (sym ends.last) (lines-lead 0 texts all (all-lines seed events few));
         few = omega (arith, length-append (drawn_events seed events) (last_events c.made), length-map c.deeds event_of, is.long);
         within = ends.within;

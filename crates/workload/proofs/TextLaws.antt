@@ -10,7 +10,7 @@ use Rattle.elem.specs.Texts.{kind_name}
 use Rattle.effects.specs.declared.command.Capture.{Capture}
 use Rattle.effects.specs.declared.command.Side.{Side}
 use Rattle.session_text.specs.Forms.{capture_text, side_text}
-use Rattle.workload.specs.Texts.{id_text, kind_of, element_text, set_members, order_text, change_members, step_members, delivery_text, header_text}
+use Rattle.workload.specs.Texts.{id_text, kind_of, numbered_element_text, set_members, order_text, change_members, step_members, delivery_text, session_header_text}
 use Rattle.workload.specs.declared.deed.Order.{Order}
 use Rattle.workload.specs.declared.deed.Order.TheVariants.{Create, Place, Bind, Label, Frame, Group, Delete}
 
@@ -68,8 +68,8 @@ id-parts number small =
     ap (λ (digits : List ℕ). 34 ∷ 101 ∷ (digits ++ 34 ∷ [])) (digits-plain (decimal number) (λ i within. digit_of_decimal (decimal number) number i small refl within))
 
 -- ---- the header and the events
-pub header-parts : (seed : ℕ) → header_text seed ≡ codes "{\"session\":1,\"replicas\":4,\"seed\":" ++ (decimal seed ++ codes ",\"scene\":null}")
-unfolding header_text object_text quote
+pub header-parts : (seed : ℕ) → session_header_text seed ≡ codes "{\"session\":1,\"replicas\":4,\"seed\":" ++ (decimal seed ++ codes ",\"scene\":null}")
+unfolding session_header_text object_text quote
 header-parts seed =
     joined4 (member_text (codes "session", codes "1")) (member_text (codes "replicas", codes "4")) (member_text (codes "seed", decimal seed)) (member_text (codes "scene", codes "null"))
 
@@ -93,17 +93,17 @@ delivery-parts to messages =
     ∙ ap (λ (rest : List ℕ). codes "{\"do\":\"deliver\",\"to\":" ++ (decimal to ++ (codes ",\"picks\":[" ++ rest))) (append_assoc (join_with_byte 44 (map decimal messages)) (93 ∷ []) (125 ∷ []))
 
 -- ---- the commands
-element-parts : (element : ℕ) → element_text element ≡ codes "{\"id\":" ++ (id_text element ++ (codes ",\"type\":" ++ (quote (kind_name (kind_of element)) ++ codes "}")))
-unfolding element_text object_text quote
+element-parts : (element : ℕ) → numbered_element_text element ≡ codes "{\"id\":" ++ (id_text element ++ (codes ",\"type\":" ++ (quote (kind_name (kind_of element)) ++ codes "}")))
+unfolding numbered_element_text object_text quote
 element-parts element = joined2 (member_text (codes "id", id_text element)) (member_text (codes "type", quote (kind_name (kind_of element))))
 
 within4 : (a b c d e : List ℕ) → (a ++ (b ++ (c ++ d))) ++ e ≡ a ++ (b ++ (c ++ (d ++ e)))
 within4 a b c d e = simp append_assoc
 
-create-whole : (element : ℕ) → order_text (Create element) ≡ codes "{\"name\":\"create\",\"element\":" ++ (element_text element ++ codes ",\"spot\":\"top\"}")
+create-whole : (element : ℕ) → order_text (Create element) ≡ codes "{\"name\":\"create\",\"element\":" ++ (numbered_element_text element ++ codes ",\"spot\":\"top\"}")
 unfolding order_text object_text quote
 create-whole element =
-    joined3 (member_text (codes "name", quote (codes "create"))) (member_text (codes "element", element_text element)) (member_text (codes "spot", quote (codes "top")))
+    joined3 (member_text (codes "name", quote (codes "create"))) (member_text (codes "element", numbered_element_text element)) (member_text (codes "spot", quote (codes "top")))
 
 pub create-parts : (element : ℕ) → order_text (Create element)
     ≡ codes "{\"name\":\"create\",\"element\":{\"id\":" ++ (id_text element ++ (codes ",\"type\":" ++ (quote (kind_name (kind_of element)) ++ codes "},\"spot\":\"top\"}")))

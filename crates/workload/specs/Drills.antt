@@ -9,8 +9,8 @@ use Rattle.session_text.specs.declared.event.Event.TheVariants as events
 use Rattle.session_text.specs.declared.event.Pick.TheVariants.{All}
 use Rattle.session_text.specs.declared.session.Session.{Session}
 use Rattle.workload.specs.Deeds.{course}
-use Rattle.workload.specs.Elements.{element_of}
-use Rattle.workload.specs.Texts.{id_of, rising, falling}
+use Rattle.workload.specs.Elements.{numbered_element}
+use Rattle.workload.specs.Texts.{numbered_id, rising, falling}
 use Rattle.workload.specs.declared.deed.Deed.{Deed}
 use Rattle.workload.specs.declared.deed.Deed.TheVariants.{Change, Undo, Redo, Deliver}
 use Rattle.workload.specs.declared.deed.Order.{Order}
@@ -18,15 +18,15 @@ use Rattle.workload.specs.declared.deed.Order.TheVariants.{Create, SetX, SetY, P
 
 -- ---- commands and events
 abbrev pub command_of : Order → Command
-command_of (Create element) = commands.Create (element_of element) spots.Top
-command_of (SetX element value) = commands.Set (id_of element) (codes "x") (decimal value)
-command_of (SetY element value) = commands.Set (id_of element) (codes "y") (decimal value)
-command_of (Place element other) = commands.Place (id_of element) (spots.After (id_of other))
-command_of (Bind side element other) = commands.Bind (id_of element) side (id_of other) []
-command_of (Label element other) = commands.Label (id_of element) (id_of other)
-command_of (Frame element other) = commands.Frame (id_of element ∷ []) (id_of other)
-command_of (Group element other) = commands.Group (first_occurrences (id_of element ∷ id_of other ∷ [])) (codes "g")
-command_of (Delete element) = commands.Delete (id_of element ∷ [])
+command_of (Create element) = commands.Create (numbered_element element) spots.Top
+command_of (SetX element value) = commands.Set (numbered_id element) (codes "x") (decimal value)
+command_of (SetY element value) = commands.Set (numbered_id element) (codes "y") (decimal value)
+command_of (Place element other) = commands.Place (numbered_id element) (spots.After (numbered_id other))
+command_of (Bind side element other) = commands.Bind (numbered_id element) side (numbered_id other) []
+command_of (Label element other) = commands.Label (numbered_id element) (numbered_id other)
+command_of (Frame element other) = commands.Frame (numbered_id element ∷ []) (numbered_id other)
+command_of (Group element other) = commands.Group (first_occurrences (numbered_id element ∷ numbered_id other ∷ [])) (codes "g")
+command_of (Delete element) = commands.Delete (numbered_id element ∷ [])
 
 -- whole messages are delivered
 abbrev pub delivery : ℕ → List ℕ → Event

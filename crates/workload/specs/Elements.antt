@@ -4,9 +4,9 @@ use Rattle.std.specs.List.{list_any}
 use Rattle.scene_json.specs.Compact.{Member as Pair}
 use Rattle.scene_json.specs.declared.text.Member.{Member}
 use Rattle.restore_table.specs.Table.{defaults}
-use Rattle.elem.specs.Drawn.{Drawn}
+use Rattle.elem.specs.ElementValue.{ElementValue}
 use Rattle.elem.specs.Facts.{header_names}
-use Rattle.workload.specs.Texts.{id_of, kind_of}
+use Rattle.workload.specs.Texts.{numbered_id, kind_of}
 
 abbrev pub member_of : Pair → Member
 member_of pair = record { name = pair.0; value = pair.1 }
@@ -19,9 +19,9 @@ abbrev pub plain_rest : List Member
 plain_rest = map member_of (filter is_beside defaults)
 
 -- the element of this number as it is made: all but its id and its kind is as in the table
-abbrev pub element_of : ℕ → Drawn
-element_of number = record {
-  id = id_of number;
+abbrev pub numbered_element : ℕ → ElementValue
+numbered_element number = record {
+  id = numbered_id number;
   kind = kind_of number;
   version = 1;
   nonce = 0;

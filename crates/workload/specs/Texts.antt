@@ -16,11 +16,11 @@ use Rattle.workload.specs.declared.deed.Order.TheVariants.{Create, SetX, SetY, P
 
 -- ---- elements
 -- the id of the element of this number, and its text
-abbrev pub id_of : ℕ → List ℕ
-id_of number = codes "e" ++ decimal number
+abbrev pub numbered_id : ℕ → List ℕ
+numbered_id number = codes "e" ++ decimal number
 
 unfoldable pub id_text : ℕ → List ℕ
-id_text number = quote (id_of number)
+id_text number = quote (numbered_id number)
 
 -- the kind in which it is made
 abbrev pub kind_of : ℕ → Kind
@@ -31,11 +31,11 @@ kind_of number =
     else (if number % 5 == 3 then kinds.Text
     else kinds.Frame)))
 
-abbrev pub element_members : ℕ → List Pair
-element_members number = (codes "id", id_text number) ∷ (codes "type", quote (kind_name (kind_of number))) ∷ []
+abbrev pub numbered_element_members : ℕ → List Pair
+numbered_element_members number = (codes "id", id_text number) ∷ (codes "type", quote (kind_name (kind_of number))) ∷ []
 
-unfoldable pub element_text : ℕ → List ℕ
-element_text number = object_text (element_members number)
+unfoldable pub numbered_element_text : ℕ → List ℕ
+numbered_element_text number = object_text (numbered_element_members number)
 
 -- ---- commands
 abbrev pub set_members : ℕ → List ℕ → ℕ → List Pair
@@ -44,7 +44,7 @@ set_members element member value =
 
 abbrev pub order_members : Order → List Pair
 order_members (Create element) =
-    (codes "name", quote (codes "create")) ∷ (codes "element", element_text element) ∷ (codes "spot", quote (codes "top")) ∷ []
+    (codes "name", quote (codes "create")) ∷ (codes "element", numbered_element_text element) ∷ (codes "spot", quote (codes "top")) ∷ []
 order_members (SetX element value) = set_members element (codes "x") value
 order_members (SetY element value) = set_members element (codes "y") value
 order_members (Place element other) =
@@ -99,12 +99,12 @@ last_texts made =
     delivery_text 0 (rising made) ∷ delivery_text 1 (falling made) ∷ delivery_text 2 (rising made) ∷ delivery_text 3 (falling made) ∷ []
 
 -- ---- the drill
-abbrev pub header_members : ℕ → List Pair
-header_members seed =
+abbrev pub session_header_members : ℕ → List Pair
+session_header_members seed =
     (codes "session", codes "1") ∷ (codes "replicas", codes "4") ∷ (codes "seed", decimal seed) ∷ (codes "scene", codes "null") ∷ []
 
-unfoldable pub header_text : ℕ → List ℕ
-header_text seed = object_text (header_members seed)
+unfoldable pub session_header_text : ℕ → List ℕ
+session_header_text seed = object_text (session_header_members seed)
 
 -- a text and the line feed behind it
 abbrev pub line : List ℕ → List ℕ
@@ -115,4 +115,4 @@ event_texts seed events = map deed_text (course seed events).deeds ++ last_texts
 
 -- the text of the drill of a seed with so many events before the last four: a line for the header, and one for each event
 unfoldable pub drill_text : ℕ → ℕ → List ℕ
-drill_text seed events = flat_map line (header_text seed ∷ event_texts seed events)
+drill_text seed events = flat_map line (session_header_text seed ∷ event_texts seed events)

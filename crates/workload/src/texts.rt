@@ -16,7 +16,7 @@ use std::alloc::AllocError;
 
 /// Appends the text of the header.
 pub(crate) fn push_header(out: &mut Vec<u8>, seed: u64) -> Result<(), AllocError>
-    ensures { OnOk result (out.new.items ≡ out.old.items ++ texts.header_text seed) }
+    ensures { OnOk result (out.new.items ≡ out.old.items ++ texts.session_header_text seed) }
 {
     out.extend_from_slice(b"{\"session\":1,\"replicas\":4,\"seed\":")?;
     push_whole(out, seed)?;

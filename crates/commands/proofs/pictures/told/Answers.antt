@@ -1,12 +1,12 @@
 use Rattle.std.proofs.Common.{◌≡◌, List, ℕ, sym, subst}
 use Rattle.std.proofs.lemmas.Result.{IfOk-weaker}
-use Rattle.commands.specs.Pictures.{IsTold}
-use Rattle.commands.specs.Pictures.IsTold.{size, not_base64, no_data_url}
+use Rattle.commands.specs.Pictures.{IsToldOfPicture}
+use Rattle.commands.specs.Pictures.IsToldOfPicture.{size, not_base64, no_data_url}
 use Rattle.commands.proofs.pictures.told.Goals as goal
 
 -- what is told is what a text says
-told-as : (entry told text : List ℕ) → told ≡ text → IsTold entry text → IsTold entry told
-told-as entry told text same is = subst (IsTold entry) (sym same) is
+told-as : (entry told text : List ℕ) → told ≡ text → IsToldOfPicture entry text → IsToldOfPicture entry told
+told-as entry told text same is = subst (IsToldOfPicture entry) (sym same) is
 
 pub returns-in-Ok : goal.returns-in-Ok
 returns-in-Ok c =

@@ -1,6 +1,6 @@
 -- The member is put among the further ones, whose names rise and are no header names.
 use Rattle.std.proofs.Common.{◌≡◌, ap, ◌∙◌, subst, None}
-use Rattle.elem.specs.Drawn.{Drawn}
+use Rattle.elem.specs.ElementValue.{ElementValue}
 use Rattle.delta.specs.Headers.{header_named}
 use Rattle.delta.specs.Kept.{IsScalarSet}
 use Rattle.delta.specs.Rest.{with_value}
@@ -21,7 +21,7 @@ pub invariant_of-e-2 : goal.invariant_of-e-2
 invariant_of-e-2 c =
     IsElement-rest _ c.args.name.now c.args.value c.from_vec.result c.e.invariant (not-header c.e.inside.kind c.args.name.now c.requires.free (other c)) c.requires.value (put c)
 
-abbrev before : goal.After-drop-e-inside → Drawn
+abbrev before : goal.After-drop-e-inside → ElementValue
 before c = record {
   id = c.e.inside.id;
   kind = c.e.inside.kind;
@@ -42,6 +42,6 @@ before c = record {
 
 pub returns : goal.returns
 returns c =
-    let new : Drawn = record (before c) { rest = c.from_vec.result } in
+    let new : ElementValue = record (before c) { rest = c.from_vec.result } in
     subst (λ e. IsScalarSet e new c.args.name.now c.args.value) c.e.view_is
     (IsScalarSet-member (before c) c.args.name.now c.args.value c.from_vec.result (other c) (risen c.e.inside.rest c.e.invariant.rise) (put c))

@@ -3,7 +3,7 @@ use Rattle.std.proofs.Common.{◌≡◌, [], ◌∷◌, codes, sym, ap, ◌∙�
 use Rattle.delta.specs.Parts.{bound_change}
 use Rattle.delta.specs.Told.{with_change}
 use Rattle.delta.proofs.ChangeLaws.{OnOk-weaker}
-use Rattle.delta.proofs.ToldLaws.{Told-more, IsOf, IsOf-bound}
+use Rattle.delta.proofs.ToldLaws.{AreChangesOf-more, IsOf, IsOf-bound}
 use Rattle.delta.proofs.differing.note_bound.Goals as goal
 
 pub returns : goal.returns
@@ -14,5 +14,5 @@ returns c =
     let is : o ≡ bound_change old.bound new.bound =
     c.in_ok-bound_change.ensures ∙ ap (λ xs. bound_change xs c.new.inside.bound) (ap (λ e. e.bound) c.old.view_is) ∙ ap (bound_change old.bound) (ap (λ e. e.bound) c.new.view_is) in
     OnOk-weaker c.add.result (c.add.new.changes.items ≡ with_change c.args.changes.now.items o) _
-    (λ made. Told-more old new (codes "groupIds" ∷ []) c.args.changes.now.items (codes "boundElements") c.requires o c.add.new.changes.items is (subst (IsOf new (codes "boundElements")) (sym is) (IsOf-bound new old.bound new.bound)) made)
+    (λ made. AreChangesOf-more old new (codes "groupIds" ∷ []) c.args.changes.now.items (codes "boundElements") c.requires o c.add.new.changes.items is (subst (IsOf new (codes "boundElements")) (sym is) (IsOf-bound new old.bound new.bound)) made)
     (c.add.ensures c.requires.rise)

@@ -3,7 +3,7 @@ use Rattle.std.proofs.Common.{◌≤◌, ◌++◌, ◌∷◌, [], length, take, 
 use Rattle.std.specs.List.{list_any}
 use Rattle.elem.specs.Facts.{names}
 use Rattle.delta.specs.Facts.{other_names}
-use Rattle.delta.specs.Told.{Told}
+use Rattle.delta.specs.Told.{AreChangesOf}
 use Rattle.delta.proofs.ToldLaws.{free-at, names-more}
 use Rattle.delta.proofs.differing.note_rest.Goals as goal
 
@@ -19,7 +19,7 @@ loop-member-preserved c =
     let i = c.loop-member.member-index in
     let m = c.member-item.result in
     rw add-one
-    (subst (λ ns. Told c.args.old.now c.args.new.now ns c.note.new.changes.items)
+    (subst (λ ns. AreChangesOf c.args.old.now c.args.new.now ns c.note.new.changes.items)
     (append_assoc known (names (take i ms)) (m.name ∷ []) ∙ ap (λ ns. known ++ ns) (names-more ms i m (omega arith) (cc)))
     (c.in_ok-note.ensures (known ++ names (take i ms)) (c.loop-member.invariant known told)))
 
@@ -29,5 +29,5 @@ returns c =
     let ms = c.as_slice-member-items.result.now in
     let i = c.loop-member.member-index in
     let all : length ms ≤ i = omega arith in
-    subst (λ xs. Told c.args.old.now c.args.new.now (known ++ names xs) c.loop-member.changes.items) (take_all _ _ all ∙ c.as_slice-member-items.ensures)
+    subst (λ xs. AreChangesOf c.args.old.now c.args.new.now (known ++ names xs) c.loop-member.changes.items) (take_all _ _ all ∙ c.as_slice-member-items.ensures)
     (c.loop-member.invariant known told)

@@ -3,13 +3,13 @@ use Rattle.std.specs.Str.{IsUtf8}
 use Rattle.std.proofs.lemmas.List.Elements.{All-same}
 use Rattle.scene_json.specs.Members.{pairs}
 use Rattle.scene_json.specs.declared.text.Member.{Member}
-use Rattle.elem.specs.Printing.{IsBegun, front}
-use Rattle.elem.proofs.Merging.{front-take, back-drop}
+use Rattle.elem.specs.Printing.{IsBegun, members_below}
+use Rattle.elem.proofs.Merging.{members_below-take, members_not_below-drop}
 use Rattle.elem.proofs.object.push_below.Goals as goal
 use Rattle.elem.proofs.object.push_below.Goals.{In_ok-push_members}
 
-below : (c : In_ok-push_members) → c.split_at.result.0.now ≡ front c.args.name.now c.args.members.now
-below c = c.split_at.ensures.front ∙ ap (λ n. take n c.args.members.now) c.count_below.ensures.count ∙ front-take c.args.name.now c.args.members.now
+below : (c : In_ok-push_members) → c.split_at.result.0.now ≡ members_below c.args.name.now c.args.members.now
+below c = c.split_at.ensures.front ∙ ap (λ n. take n c.args.members.now) c.count_below.ensures.count ∙ members_below-take c.args.name.now c.args.members.now
 
 pub returns-clause-begun : goal.returns-clause-begun
 returns-clause-begun c = λ before first at is.
@@ -17,7 +17,7 @@ returns-clause-begun c = λ before first at is.
 
 pub returns-clause-left : goal.returns-clause-left
 returns-clause-left c =
-    c.split_at.ensures.back ∙ ap (λ n. drop n c.args.members.now) c.count_below.ensures.count ∙ back-drop c.args.name.now c.args.members.now
+    c.split_at.ensures.back ∙ ap (λ n. drop n c.args.members.now) c.count_below.ensures.count ∙ members_not_below-drop c.args.name.now c.args.members.now
 
 pub returns-clause-named : goal.returns-clause-named
 returns-clause-named c = All-same (λ (m : Member). IsUtf8 m.name) _ _ (sym (below c)) c.in_ok-push_members.ensures.named

@@ -6,7 +6,7 @@ use Rattle.scene_json.specs.declared.text.Member.{Member}
 use Rattle.scene_json.proofs.Appending.{extends_same, extends_by, extends_then, on_err}
 use Rattle.elem.specs.declared.header.Header.{Header}
 use Rattle.elem.specs.declared.header.Header.TheVariants.{BoundElements}
-use Rattle.elem.specs.Drawn.{Drawn}
+use Rattle.elem.specs.ElementValue.{ElementValue}
 use Rattle.elem.specs.Facts.{IsElement}
 use Rattle.elem.specs.Printing.{header_name, header_pair, headers_of}
 use Rattle.elem.specs.Texts.{element_members}
@@ -26,7 +26,7 @@ loop-header-init c =
     rw (headers, rest) (merging-from 119 out (header_pairs e e.kind) e.rest (nest-pairs 119 e.rest is.nest))
 
 -- one more header member
-more : (e : Drawn) (hs : List Header) (h : Header) (i : ℕ) → i < length hs → map (header_pair e) (drop i hs) ≡ header_pair e (get_or hs i h) ∷ map (header_pair e) (drop (i + 1) hs)
+more : (e : ElementValue) (hs : List Header) (h : Header) (i : ℕ) → i < length hs → map (header_pair e) (drop i hs) ≡ header_pair e (get_or hs i h) ∷ map (header_pair e) (drop (i + 1) hs)
 more e hs h i inside =
     let first : drop i hs ≡ get_or hs i h ∷ drop (i + 1) hs = rw (drop-cons hs i h inside, add-one) refl in
     ap (map (header_pair e)) first

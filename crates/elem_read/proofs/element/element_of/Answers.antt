@@ -5,7 +5,7 @@ use Rattle.scene_json.specs.Members.{pairs}
 use Rattle.elem.specs.Facts.{is_header}
 use Rattle.elem.specs.Forms.{Find, find_in, IsTextOrNull, IsBindingOrNull, AreOthers}
 use Rattle.elem_read.specs.declared.fault.ElemFault.TheVariants.{Container, Binding, File}
-use Rattle.elem_read.proofs.Drawings.{members-found}
+use Rattle.elem_read.proofs.NoSelections.{members-found}
 use Rattle.elem_read.proofs.Firsts.{after-id, after-kind, after-version, after-nonce, after-updated, after-index, after-deleted, after-groups, after-frame, after-bound, after-container, after-bindings}
 use Rattle.elem_read.proofs.Keeping.{says-element}
 use Rattle.elem_read.proofs.Others.{kept-others}

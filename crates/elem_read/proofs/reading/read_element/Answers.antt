@@ -7,7 +7,7 @@ use Rattle.scene_json.specs.Members.{pairs}
 use Rattle.scene_json.proofs.Pairs.{AreMembers-distinct}
 use Rattle.elem_read.specs.Reading.{IsFaultIn}
 use Rattle.elem_read.specs.declared.fault.ElemFault.TheVariants.{Depth}
-use Rattle.elem_read.proofs.Drawings.{is-object, selection, drawing, given-nest, kind-stays, element-in, fault-in}
+use Rattle.elem_read.proofs.NoSelections.{is-object, selection, no_selection, given-nest, kind-stays, element-in, fault-in}
 use Rattle.elem_read.proofs.Parts.{stop-same}
 use Rattle.elem_read.proofs.Whole.{whole}
 use Rattle.elem_read.proofs.reading.read_element.Goals as goal
@@ -26,11 +26,11 @@ returns-then-not-nests_at_most-clause-fault c = λ fault e.
     let value = c.args.value.now in
     let found : c.members.result ≡ Ok c.in-Some.given = c.shaped.ensures.found c.in-Some.given (c.in_ok-given.was ∙ ap Ok c.in-Some.is) in
     let object = is-object value (pairs c.in-Some.given) (IfOk-at_ok _ found c.members.ensures.spelled) (IfOk-at_ok _ found c.members.ensures.kept) in
-    let draws = drawing value (pairs c.in-Some.given) object (λ e. both_ways _ c.if-has_value.false (c.has_value.ensures.1 e)) in
+    let draws = no_selection value (pairs c.in-Some.given) object (λ e. both_ways _ c.if-has_value.false (c.has_value.ensures.1 e)) in
     let same : Depth ≡ fault = cc in
     subst (IsFaultIn value) same (record {
       members = pairs c.in-Some.given;
-      drawing = draws;
+      no_selection = draws;
       deep = λ shallow. both_ways _ c.if-not-nests_at_most.true (c.nests_at_most.ensures.1 shallow);
     })
 
@@ -58,7 +58,7 @@ returns-in_err-element-clause-fault c =
     let value = c.args.value.now in
     let found : c.members.result ≡ Ok c.in-Some.given = c.shaped.ensures.found c.in-Some.given (c.in_ok-given.was ∙ ap Ok c.in-Some.is) in
     let object = is-object value (pairs c.in-Some.given) (IfOk-at_ok _ found c.members.ensures.spelled) (IfOk-at_ok _ found c.members.ensures.kept) in
-    let draws = drawing value (pairs c.in-Some.given) object (λ e. both_ways _ c.if-has_value.false (c.has_value.ensures.1 e)) in
+    let draws = no_selection value (pairs c.in-Some.given) object (λ e. both_ways _ c.if-has_value.false (c.has_value.ensures.1 e)) in
     let shallow = c.nests_at_most.ensures.0 c.if-not-nests_at_most.false in
     let p = err_from_is_err_and c.from_residual-in_err-element.result c.from_residual-in_err-element.ensures.1 in
     rw (p.1, p.2) (λ fault e. fault-in value (pairs c.in-Some.given) (pairs c.in_ok-restored.restored) fault draws shallow c.in_ok-restored.ensures.restored
@@ -70,7 +70,7 @@ returns-clause-read c =
     let value = c.args.value.now in
     let found : c.members.result ≡ Ok c.in-Some.given = c.shaped.ensures.found c.in-Some.given (c.in_ok-given.was ∙ ap Ok c.in-Some.is) in
     let object = is-object value (pairs c.in-Some.given) (IfOk-at_ok _ found c.members.ensures.spelled) (IfOk-at_ok _ found c.members.ensures.kept) in
-    let draws = drawing value (pairs c.in-Some.given) object (λ e. both_ways _ c.if-has_value.false (c.has_value.ensures.1 e)) in
+    let draws = no_selection value (pairs c.in-Some.given) object (λ e. both_ways _ c.if-has_value.false (c.has_value.ensures.1 e)) in
     let shallow = c.nests_at_most.ensures.0 c.if-not-nests_at_most.false in
     element-in value (pairs c.in-Some.given) (pairs c.in_ok-restored.restored) c.in_ok-element.element draws shallow c.in_ok-restored.ensures.restored c.in_ok-element.ensures.says
 
@@ -80,7 +80,7 @@ returns-clause-whole c =
     let value = c.args.value.now in
     let found : c.members.result ≡ Ok c.in-Some.given = c.shaped.ensures.found c.in-Some.given (c.in_ok-given.was ∙ ap Ok c.in-Some.is) in
     let object = is-object value (pairs c.in-Some.given) (IfOk-at_ok _ found c.members.ensures.spelled) (IfOk-at_ok _ found c.members.ensures.kept) in
-    let draws = drawing value (pairs c.in-Some.given) object (λ e. both_ways _ c.if-has_value.false (c.has_value.ensures.1 e)) in
+    let draws = no_selection value (pairs c.in-Some.given) object (λ e. both_ways _ c.if-has_value.false (c.has_value.ensures.1 e)) in
     let shallow = c.nests_at_most.ensures.0 c.if-not-nests_at_most.false in
     whole value c.in_ok-element.element
     (element-in value (pairs c.in-Some.given) (pairs c.in_ok-restored.restored) c.in_ok-element.element draws shallow c.in_ok-restored.ensures.restored c.in_ok-element.ensures.says)

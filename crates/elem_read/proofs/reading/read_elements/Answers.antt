@@ -2,7 +2,7 @@ use Rattle.std.proofs.Common.{◌≡◌, ◌<◌, None, Err, length, get_or, ap,
 use Rattle.std.proofs.lemmas.Option.{MatchOption-at_some, MatchOption-at_none}
 use Rattle.std.proofs.lemmas.Result.{err_from_is_err_and}
 use Rattle.elem_read.specs.Elements.{IsFirstFaulty}
-use Rattle.elem_read.specs.Reading.{IsWhole}
+use Rattle.elem_read.specs.Reading.{IsWholeElement}
 use Rattle.elem_read.proofs.Parts.{stop-same}
 use Rattle.elem_read.proofs.ReadElements.{read-more, dropped-more, faulty-at, All-whole}
 use Rattle.elem_read.proofs.reading.read_elements.Goals as goal
@@ -38,4 +38,4 @@ loop-place-preserved c =
     ]
 
 pub returns-clause-whole : goal.returns-clause-whole
-returns-clause-whole c = subst (All IsWhole) (sym c.from_vec.ensures) (All-whole _ _ c.loop-place.invariant)
+returns-clause-whole c = subst (All IsWholeElement) (sym c.from_vec.ensures) (All-whole _ _ c.loop-place.invariant)

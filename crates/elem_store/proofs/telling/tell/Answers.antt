@@ -1,13 +1,13 @@
 use Rattle.std.proofs.Common.{subst}
 use Rattle.elem.specs.Facts.{IsElement}
-use Rattle.elem.specs.Said.{IsWritten}
+use Rattle.elem.specs.Said.{HasValidTexts}
 use Rattle.elem_store.proofs.telling.tell.Goals as goal
 
 pub returns-clause-is_element : goal.returns-clause-is_element
 returns-clause-is_element c = subst IsElement c.e.view_is c.e.invariant
 
 pub returns-clause-is_written : goal.returns-clause-is_written
-returns-clause-is_written c = subst IsWritten c.e.view_is (record {
+returns-clause-is_written c = subst HasValidTexts c.e.view_is (record {
   id = c.tell_text.ensures;
   kind = c.tell_kind.ensures;
   index = c.tell_key.ensures;

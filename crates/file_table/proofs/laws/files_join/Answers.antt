@@ -1,8 +1,8 @@
-use Rattle.file_table.proofs.Least.{AreFilesOf-join, AreFilesOf-own}
+use Rattle.file_table.proofs.Least.{AreLeastEntries-join, AreLeastEntries-own}
 use Rattle.file_table.proofs.laws.files_join.Goals as goal
 
 pub returns-clause-joined : goal.returns-clause-joined
-returns-clause-joined c = AreFilesOf-join
+returns-clause-joined c = AreLeastEntries-join
 
 pub returns-clause-own : goal.returns-clause-own
-returns-clause-own c = AreFilesOf-own
+returns-clause-own c = AreLeastEntries-own

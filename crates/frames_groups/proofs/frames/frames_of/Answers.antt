@@ -1,6 +1,6 @@
 use Rattle.std.proofs.Common.{◌≡◌, ◌+◌, ◌<◌, [], ◌∷◌, ◌++◌, length, get_or, take, sym, ap, ◌∙◌, subst, arith}
 use Rattle.std.proofs.lemmas.List.{take_more}
-use Rattle.elem.specs.Drawn.{Drawn}
+use Rattle.elem.specs.ElementValue.{ElementValue}
 use Rattle.frames_groups.proofs.FrameIds.{HasFrames, HasFrames-frame, HasFrames-other}
 use Rattle.frames_groups.proofs.frames.frames_of.Goals as goal
 use Rattle.frames_groups.proofs.frames.frames_of.Goals.{then-is_frame+in_ok-try_clone+in_ok-insert, else-is_frame}
@@ -20,7 +20,7 @@ loop-e-preserved c =
       | then-is_frame+in_ok-try_clone+in_ok-insert w ↦
           subst (λ s. HasFrames s (take i all ++ e ∷ [])) (sym w.frames-is)
           (HasFrames-frame c.loop-e.frames w.insert.new.self (take i all) e w.in_ok-try_clone.field-0 has w.in_ok-insert.ensures.updates
-          (w.in_ok-try_clone.ensures ∙ ap (λ (d : Drawn). d.id) c.e.view_is)
+          (w.in_ok-try_clone.ensures ∙ ap (λ (d : ElementValue). d.id) c.e.view_is)
           (sym c.is_frame.ensures ∙ w.if-is_frame.true))
       | else-is_frame w ↦
           subst (λ s. HasFrames s (take i all ++ e ∷ [])) (sym w.frames-is)

@@ -3,7 +3,8 @@ use Rattle.std.proofs.Common.{◌≡◌, ◌+◌, ◌<◌, ◌≤◌, ◌++◌, 
 use Rattle.std.proofs.lemmas.List.{take_more}
 use Rattle.std.proofs.lemmas.List.Elements.{Contains-push_cases}
 use Rattle.std.proofs.lemmas.Option.{same_Some}
-use Rattle.elem_store.specs.Updates.{is_of, element_of}
+use Rattle.elem.specs.Order.{has_id}
+use Rattle.elem_store.specs.Updates.{element_of}
 use Rattle.elem_store.proofs.Ids.{same_id}
 use Rattle.elem_store.proofs.Lists.{find-Some}
 use Rattle.delta.specs.Delta.{Delta}
@@ -14,7 +15,7 @@ pub is_part_seen-requires : goal.is_part_seen-requires
 is_part_seen-requires c =
     let stored : element_of c.args.store.now.elements c.part-item.result.id ≡ Some c.unwrap-now.result.now =
     ap (λ (part : Delta). element_of c.args.store.now.elements part.id) (sym c.part.view_is) ∙ sym c.get.ensures ∙ ap option_copied c.unwrap-now.ensures in
-    same_id c.part-item.result.id c.unwrap-now.result.now (find-Some (is_of c.part-item.result.id) c.args.store.now.elements c.unwrap-now.result.now stored).1
+    same_id c.part-item.result.id c.unwrap-now.result.now (find-Some (has_id c.part-item.result.id) c.args.store.now.elements c.unwrap-now.result.now stored).1
 
 pub loop-part-preserved : goal.loop-part-preserved
 loop-part-preserved c is =

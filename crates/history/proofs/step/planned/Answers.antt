@@ -1,12 +1,13 @@
 -- The parts stand in the order of their ids.
 use Rattle.std.proofs.Common.{◌≡◌, ◌+◌, ◌<◌, Some, length, take, drop, get_or, true, option_copied, sym, ap, ◌∙◌, subst, subst₂, arith}
 use Rattle.std.proofs.lemmas.Result.{err_from_is_err_and}
-use Rattle.elem_store.specs.Updates.{is_of, element_of}
+use Rattle.elem_store.specs.Updates.{element_of}
 use Rattle.elem_store.proofs.Ids.{same_id}
 use Rattle.elem_store.proofs.Lists.{find-Some}
 use Rattle.delta.specs.Delta.{Delta}
 use Rattle.delta.specs.Facts.{AreParts, part_ids}
 use Rattle.frac_keys.specs.Rising.{are_rising}
+use Rattle.elem.specs.Order.{has_id}
 use Rattle.history.specs.Steps.{IsStep, IsFull, IsLeastFull}
 use Rattle.history.proofs.StepLaws.{OnFull-weaker, least-full, next-part}
 use Rattle.history.proofs.step.planned.Goals as goal
@@ -15,7 +16,7 @@ pub revert-requires-clause-id : goal.revert-requires-clause-id
 revert-requires-clause-id c =
     let stored : element_of c.args.store.now.elements c.part-item.result.id ≡ Some c.unwrap-now.result.now =
     ap (λ (part : Delta). element_of c.args.store.now.elements part.id) (sym c.part.view_is) ∙ sym c.get.ensures ∙ ap option_copied c.unwrap-now.ensures in
-    same_id c.part-item.result.id c.unwrap-now.result.now (find-Some (is_of c.part-item.result.id) c.args.store.now.elements c.unwrap-now.result.now stored).1
+    same_id c.part-item.result.id c.unwrap-now.result.now (find-Some (has_id c.part-item.result.id) c.args.store.now.elements c.unwrap-now.result.now stored).1
 
 pub returns-in_err-revert-clause-full : goal.returns-in_err-revert-clause-full
 returns-in_err-revert-clause-full c =

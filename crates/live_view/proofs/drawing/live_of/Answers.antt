@@ -2,7 +2,7 @@ use Rattle.std.proofs.Common.{◌≡◌, ◌<◌, true, List, length, take_all, 
 use Rattle.std.proofs.lemmas.Bool.{cases_lt}
 use Rattle.std.proofs.lemmas.List.{nil_from_length}
 use Rattle.frac_keys.specs.Rising.{are_rising}
-use Rattle.elem.specs.Drawn.{Drawn}
+use Rattle.elem.specs.ElementValue.{ElementValue}
 use Rattle.elem_store.specs.Updates.{ids_of}
 use Rattle.view.specs.Shown.{live_elements}
 use Rattle.view.proofs.ShownLaws.{live_one, deleted_one, within_stored}
@@ -24,7 +24,7 @@ loop-i-preserved c = record {
 }
 
 -- a store with no element has none in any order
-rising : (stored : List Drawn) → (0 < length stored → are_rising (ids_of stored) ≡ true) → are_rising (ids_of stored) ≡ true
+rising : (stored : List ElementValue) → (0 < length stored → are_rising (ids_of stored) ≡ true) → are_rising (ids_of stored) ≡ true
 rising stored h = elim (cases_lt 0 (length stored)) [
   | inl some ↦ h some
   | inr none ↦ ap (λ es. are_rising (ids_of es)) (nil_from_length stored (omega arith))

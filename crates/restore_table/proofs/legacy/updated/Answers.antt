@@ -3,7 +3,7 @@ use Rattle.std.proofs.Common.{◌≡◌, ℕ, Vec, Global, All, List, [], ◌∷
 use Rattle.std.specs.List.{IsDistinct}
 use Rattle.std.specs.Option.{option_map}
 use Rattle.std.proofs.lemmas.Result.{IfOk-weaker}
-use Rattle.scene_json.specs.Compact.{is_other}
+use Rattle.scene_json.specs.Compact.{has_other_name}
 use Rattle.scene_json.specs.Members.{pairs}
 use Rattle.scene_json.specs.Parts.{names_of}
 use Rattle.scene_json.specs.TheOne.{IsTheOne}
@@ -34,8 +34,8 @@ ids-some listing (Some ids) e = record { listed = ids; ids_are = refl; text = cc
 distinct : (c : After-without-others) → IsDistinct bytes_eq (names_of (pairs c.args.members))
 distinct c = subst (IsDistinct bytes_eq) (sym (names-pairs c.args.members)) c.requires
 
-others : (c : After-without-others) → pairs c.without-others.result.items ≡ filter (is_other old_name) (pairs c.args.members)
-others c = c.without-others.ensures ∙ ap (λ ms. filter (is_other old_name) (pairs ms)) c.into_vec-2.ensures
+others : (c : After-without-others) → pairs c.without-others.result.items ≡ filter (has_other_name old_name) (pairs c.args.members)
+others c = c.without-others.ensures ∙ ap (λ ms. filter (has_other_name old_name) (pairs ms)) c.into_vec-2.ensures
 
 pub returns-in_default-clause-updated : goal.returns-in_default-clause-updated
 returns-in_default-clause-updated c =
@@ -53,7 +53,7 @@ returns-in-None-clause-updated c =
 pub returns-in-None-clause-nests : goal.returns-in-None-clause-nests
 returns-in-None-clause-nests c = λ limit wide each.
     let done = (goal.at.returns-in-None-clause-nests c).After-without-others in
-    members-nest limit c.without-others.result.items (filter (is_other old_name) (pairs c.args.members)) (others done)
+    members-nest limit c.without-others.result.items (filter (has_other_name old_name) (pairs c.args.members)) (others done)
     (filter-nests limit old_name (pairs c.args.members) (nest-pairs limit c.args.members each))
 
 pub returns-in-Some-listing-clause-updated : goal.returns-in-Some-listing-clause-updated
@@ -65,19 +65,19 @@ returns-in-Some-listing-clause-updated c =
     IfOk-weaker _ _ Q (λ (all : Vec Member Global) made.
     updated-listing (pairs c.args.members) (pairs all.items) c.in-Some.old.now ids.listed (distinct done) (sym c.in-Some.ensures)
     (subst (IsTheOne (AreOldIds c.in-Some.old.now)) ids.ids_are found.1)
-    (made ∙ (λ i. filter (is_other listing_name) (others done i) ++ (listing_name, ids.text i) ∷ [])))
+    (made ∙ (λ i. filter (has_other_name listing_name) (others done i) ++ (listing_name, ids.text i) ∷ [])))
     c.with_listing.ensures
 
 pub returns-in-Some-listing-clause-nests : goal.returns-in-Some-listing-clause-nests
 returns-in-Some-listing-clause-nests c = λ limit wide each.
     let done = (goal.at.returns-in-Some-listing-clause-nests c).After-without-others in
     let flat = rw c.in-Some-listing.is at c.in_ok-listing.ensures.nests in
-    let first = filter (is_other old_name) (pairs c.args.members) in
+    let first = filter (has_other_name old_name) (pairs c.args.members) in
     let Q : Vec Member Global → Type 0 = λ all. All (λ (m : Member). IsCompact limit m.value) all.items in
     IfOk-weaker _ _ Q (λ (all : Vec Member Global) made.
-    members-nest limit all.items (filter (is_other listing_name) first ++ (listing_name, c.in-Some-listing.listing) ∷ [])
-    (made ∙ ap (λ ms. filter (is_other listing_name) ms ++ (listing_name, c.in-Some-listing.listing) ∷ []) (others done))
-    (push-nests limit (listing_name, c.in-Some-listing.listing) (filter (is_other listing_name) first)
+    members-nest limit all.items (filter (has_other_name listing_name) first ++ (listing_name, c.in-Some-listing.listing) ∷ [])
+    (made ∙ ap (λ ms. filter (has_other_name listing_name) ms ++ (listing_name, c.in-Some-listing.listing) ∷ []) (others done))
+    (push-nests limit (listing_name, c.in-Some-listing.listing) (filter (has_other_name listing_name) first)
     (filter-nests limit listing_name first (filter-nests limit old_name (pairs c.args.members) (nest-pairs limit c.args.members each)))
     (Value-deeper wide flat)))
     c.with_listing.ensures

@@ -1,16 +1,16 @@
 -- What is kept are the members that the test keeps.
 use Rattle.std.proofs.Common.{◌≡◌, ℕ, List, [], ◌∷◌, not, filter, bytes_eq, refl, ap, ◌∙◌, rules, cond, true, false}
 use Rattle.std.proofs.lemmas.Fn.{filter_same}
-use Rattle.scene_json.specs.Compact.{is_other}
+use Rattle.scene_json.specs.Compact.{has_other_name}
 use Rattle.scene_json.specs.Members.{pairs, pair_of}
 use Rattle.scene_json.specs.declared.text.Member.{Member}
 use Rattle.restore_table.proofs.legacy.without.Goals as goal
 
-filter-pairs : (name : List ℕ) (ms : List Member) → pairs (filter (λ (m : Member). not (bytes_eq name m.name)) ms) ≡ filter (is_other name) (pairs ms)
+filter-pairs : (name : List ℕ) (ms : List Member) → pairs (filter (λ (m : Member). not (bytes_eq name m.name)) ms) ≡ filter (has_other_name name) (pairs ms)
 filter-pairs name [] = refl
 filter-pairs name (m ∷ ms) =
     elim (not (bytes_eq name m.name)) as (λ b. pairs (cond b (m ∷ filter (λ (m : Member). not (bytes_eq name m.name)) ms) (filter (λ (m : Member). not (bytes_eq name m.name)) ms))
-    ≡ cond b (pair_of m ∷ filter (is_other name) (pairs ms)) (filter (is_other name) (pairs ms))) [
+    ≡ cond b (pair_of m ∷ filter (has_other_name name) (pairs ms)) (filter (has_other_name name) (pairs ms))) [
       | true ↦ ap (λ rest. pair_of m ∷ rest) (filter-pairs name ms)
       | false ↦ filter-pairs name ms
     ]

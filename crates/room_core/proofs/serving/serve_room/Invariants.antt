@@ -1,7 +1,7 @@
 -- What ends the room from here on ends it from its start on.
 use Rattle.std.proofs.Common.{◌≡◌, ◌≤◌, None}
 use Rattle.room_core.specs.Rooms.{RoomState}
-use Rattle.room_core.specs.Told.{Told, told_of}
+use Rattle.room_core.specs.Told.{LinksTold, told_of}
 use Rattle.room_core.specs.Serving.{IsServed, at_start, end_of, serving_of}
 use Rattle.room_core.specs.declared.limits.ServeEnd.{ServeEnd}
 use Rattle.room_core.proofs.Served.{left_of}
@@ -9,7 +9,7 @@ use Rattle.room_core.proofs.serving.serve_room.Given as goal
 
 abbrev pub invariant-loop-end : goal.invariant-loop-end
 invariant-loop-end g l = record {
-  served : (new : RoomState) (after : Told) (end : ServeEnd)
+  served : (new : RoomState) (after : LinksTold) (end : ServeEnd)
       → IsServed l.limits (serving_of l.room l.tally) new (told_of g.L.Links.given g.L.Links.sent g.L.Links.lost l.links) after end
       → IsServed l.limits (at_start l.initial.room) new (told_of g.L.Links.given g.L.Links.sent g.L.Links.lost l.initial.links) after end;
   running : end_of l.limits (serving_of l.room l.tally) ≡ None;

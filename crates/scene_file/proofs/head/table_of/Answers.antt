@@ -1,8 +1,8 @@
 use Rattle.std.proofs.Common.{[], sym, subst}
 use Rattle.scene_json.specs.Members.{pairs}
-use Rattle.file_table.specs.Table.{AreFilesOf}
-use Rattle.file_table.proofs.Least.{AreFilesOf-none}
+use Rattle.file_table.specs.Table.{AreLeastEntries}
+use Rattle.file_table.proofs.Least.{AreLeastEntries-none}
 use Rattle.scene_file.proofs.head.table_of.Goals as goal
 
 pub returns : goal.returns
-returns c = c.in_ok-take_all-2.ensures (pairs c.args.members.now) (c.in_ok-take_all.ensures [] (subst (AreFilesOf []) (sym c.new-table.ensures) AreFilesOf-none))
+returns c = c.in_ok-take_all-2.ensures (pairs c.args.members.now) (c.in_ok-take_all.ensures [] (subst (AreLeastEntries []) (sym c.new-table.ensures) AreLeastEntries-none))

@@ -2,13 +2,13 @@ use Rattle.std.proofs.Common.{◌≡◌, ◌<◌, ◌++◌, length, get_or, take
 use Rattle.scene_json.specs.Members.{pairs}
 use Rattle.scene_json.specs.Value.{IsCompact}
 use Rattle.scene_json.specs.declared.text.Member.{Member}
-use Rattle.file_table.specs.Table.{AreFilesOf}
+use Rattle.file_table.specs.Table.{AreLeastEntries}
 use Rattle.scene_file.proofs.Joining.{table-more}
 use Rattle.scene_file.proofs.Nesting.{nests-at}
 use Rattle.scene_file.proofs.head.take_all.Goals as goal
 
 pub loop-member-init : goal.loop-member-init
-loop-member-init c = λ given are. subst (λ all. AreFilesOf all c.args.table.now) (sym (append-nil given)) are
+loop-member-init c = λ given are. subst (λ all. AreLeastEntries all c.args.table.now) (sym (append-nil given)) are
 
 pub take-requires : goal.take-requires
 take-requires c =
@@ -29,4 +29,4 @@ loop-member-preserved c =
 pub returns : goal.returns
 returns c =
     let all = take_all c.loop-member.member-index c.args.members.now (omega (arith, ap length c.as_slice-member-items.ensures)) in
-    λ given are. subst (λ ms. AreFilesOf (given ++ pairs ms) c.loop-member.table) all (c.loop-member.invariant given are)
+    λ given are. subst (λ ms. AreLeastEntries (given ++ pairs ms) c.loop-member.table) all (c.loop-member.invariant given are)

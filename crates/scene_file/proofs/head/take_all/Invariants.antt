@@ -1,8 +1,8 @@
 use Rattle.std.proofs.Common.{List, ◌++◌, take}
 use Rattle.scene_json.specs.Compact.{Member as Pair}
 use Rattle.scene_json.specs.Members.{pairs}
-use Rattle.file_table.specs.Table.{AreFilesOf}
+use Rattle.file_table.specs.Table.{AreLeastEntries}
 use Rattle.scene_file.proofs.head.take_all.Given as goal
 
 abbrev pub invariant-loop-member : goal.invariant-loop-member
-invariant-loop-member l = (given : List Pair) → AreFilesOf given l.fn.table → AreFilesOf (given ++ pairs (take l.member-index l.members)) l.table
+invariant-loop-member l = (given : List Pair) → AreLeastEntries given l.fn.table → AreLeastEntries (given ++ pairs (take l.member-index l.members)) l.table

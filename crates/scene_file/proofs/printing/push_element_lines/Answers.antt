@@ -4,12 +4,12 @@ use Rattle.std.proofs.lemmas.List.Elements.{All-more, All-same}
 use Rattle.scene_json.specs.Lines.{IsLaidOutSoFar}
 use Rattle.scene_json.specs.Value.{IsCompact}
 use Rattle.scene_json.proofs.Appended.{mapped-step}
-use Rattle.elem.specs.Drawn.{Drawn}
+use Rattle.elem.specs.ElementValue.{ElementValue}
 use Rattle.elem.specs.Texts.{element_text}
 use Rattle.scene_file.proofs.printing.push_element_lines.Goals as goal
 
 -- a comma, where it isn't the first text, and a text make the texts of one element more
-piece_behind : (text : List ℕ) (es : List Drawn) (e : Drawn) (i : ℕ) (cleared comma piece : List ℕ) → i < length es → e ≡ get_or es i e → cleared ≡ []
+piece_behind : (text : List ℕ) (es : List ElementValue) (e : ElementValue) (i : ℕ) (cleared comma piece : List ℕ) → i < length es → e ≡ get_or es i e → cleared ≡ []
     → ((0 < i) × (comma ≡ cleared ++ 44 ∷ [])) ⊎ ((i ≡ 0) × (comma ≡ cleared)) → piece ≡ comma ++ element_text e
     → (text ++ join_with_byte 44 (map element_text (take i es))) ++ piece ≡ text ++ join_with_byte 44 (map element_text (take (i + 1) es))
 piece_behind text es e i cleared comma piece inside at empty between last =

@@ -8,7 +8,7 @@ use Rattle.scene_json.specs.Value.{IsCompact}
 use Rattle.scene_json.proofs.Lookups.{rising_distinct}
 use Rattle.elem.specs.Texts.{element_text}
 use Rattle.scene_file.specs.Heads.{Heading}
-use Rattle.scene_file.specs.Printing.{back, front as front_of}
+use Rattle.scene_file.specs.Printing.{text_behind_elements, text_before_elements as front_of}
 use Rattle.scene_file.specs.Scenes.{scene_text}
 use Rattle.scene_file.proofs.SceneTexts.{scene-written, scene-told, scene-compact}
 use Rattle.scene_file.proofs.printing.push_scene_lines.Goals as goal
@@ -40,7 +40,7 @@ returns c =
     let same : done ≡ scene_text head elements =
     scene-written head elements files [] front made done
     (c.as_slice.ensures.value ∙ c.in_ok-push_front.ensures.text ∙ ap (λ (x : List ℕ). x ++ front_of head.source) c.new-piece.ensures.items) refl
-    (ap (λ x. made ++ x) (c.as_slice-2.ensures.value ∙ c.in_ok-push_back.ensures.text ∙ ap (λ (x : List ℕ). x ++ back (pairs head.app_state) files) c.clear.ensures.items))
+    (ap (λ x. made ++ x) (c.as_slice-2.ensures.value ∙ c.in_ok-push_back.ensures.text ∙ ap (λ (x : List ℕ). x ++ text_behind_elements (pairs head.app_state) files) c.clear.ensures.items))
     ∙ told in
     let compact : IsCompact 128 (scene_text head elements) =
     subst (IsCompact 128) told

@@ -1,5 +1,5 @@
 use Rattle.std.proofs.Common.{◌≡◌, ◌+◌, ◌<◌, ◌≤◌, cond, length, sym, ap, ◌∙◌, arith}
-use Rattle.session.proofs.ClashLaws.{noted-step, counted-step}
+use Rattle.session.proofs.ClashLaws.{firsts_with-step, counted-step}
 use Rattle.session.proofs.clashes.note_all.Goals as goal
 use Rattle.session.proofs.clashes.note_all.Goals.{then-branch, else-branch}
 
@@ -19,6 +19,6 @@ loop-e-preserved c =
           counted-step before es c.loop-e.e-index c.e-item.result inside c.e-item.is c.loop-e.clash c.in_ok-note.field-0 c.loop-e.count c.if-branch.count
           (c.loop-e.invariant.noted before was) (c.loop-e.invariant.counted before was) c.in_ok-note.ensures.clash counted;
       noted = λ before was.
-          noted-step before es c.loop-e.e-index c.e-item.result inside c.e-item.is c.loop-e.clash c.note.new.self (c.loop-e.invariant.noted before was) c.in_ok-note.ensures.noted;
+          firsts_with-step before es c.loop-e.e-index c.e-item.result inside c.e-item.is c.loop-e.clash c.note.new.self (c.loop-e.invariant.noted before was) c.in_ok-note.ensures.noted;
       within = few;
     }

@@ -1,6 +1,6 @@
 use Rattle.std.proofs.Common.{◌≡◌, ◌+◌, ◌<◌, ◌≤◌, length, get_or, sym, ap, ◌∙◌, subst, arith}
 use Rattle.session_text.specs.declared.event.Event.{Event}
-use Rattle.session_text.specs.Facts.{IsAmong, IsWithin}
+use Rattle.session_text.specs.Facts.{IsAmong, IsEventWithinLimits}
 use Rattle.session.specs.declared.report.Report.{Report}
 use Rattle.session.specs.Reports.{IsReportOf}
 use Rattle.session.specs.Standing.{WorldStandsFor}
@@ -22,7 +22,7 @@ step-requires-clause-within c =
     let session = c.args.session.now in
     let inside : c.loop-event.event-index < length session.events = omega (arith, ap length c.as_slice-event-items.ensures) in
     let here = c.event-item.is ∙ ap (λ es. get_or es c.loop-event.event-index c.event-item.result) c.as_slice-event-items.ensures in
-    each-event IsWithin session.events c.loop-event.event-index c.event-item.result inside here c.requires.limits
+    each-event IsEventWithinLimits session.events c.loop-event.event-index c.event-item.result inside here c.requires.limits
 
 pub loop-event-preserved : goal.loop-event-preserved
 loop-event-preserved c =

@@ -3,7 +3,7 @@ use Rattle.std.proofs.lemmas.Result.{err_from_is_err_and}
 use Rattle.elem_read.proofs.Parts.{stop-same}
 use Rattle.scene_file.proofs.Blanks.{Stands-behind}
 use Rattle.session_text.specs.Events.{EventText}
-use Rattle.session_text.specs.Sessions.{IsFaultAt}
+use Rattle.session_text.specs.Sessions.{IsTextFaultAt}
 use Rattle.session_text.specs.declared.fault.TextFault.{TextFault}
 use Rattle.session_text.specs.declared.fault.TextFault.TheVariants.{Json}
 use Rattle.session_text.proofs.Readings.{told}
@@ -13,7 +13,7 @@ pub returns-in-Err-Fault-clause-fault : goal.returns-in-Err-Fault-clause-fault
 returns-in-Err-Fault-clause-fault c fault e =
     let found : TextFault = Json c.in-Err-Fault.fault in
     let same : found ≡ fault = cc in
-    subst (IsFaultAt (EventText c.args.replicas c.args.made) c.args.bytes.now c.args.at) same
+    subst (IsTextFaultAt (EventText c.args.replicas c.args.made) c.args.bytes.now c.args.at) same
     (inl (c.in-Err-Fault.fault, refl, c.in-Err-Fault.ensures.fault c.in-Err-Fault.fault (ap Err c.in-Err-Fault.field-0-is)))
 
 pub returns-in_err-read_event-clause-fault : goal.returns-in_err-read_event-clause-fault

@@ -2,7 +2,7 @@ use Rattle.std.proofs.Common.{◌≡◌, Err, drop, inl, inr, refl, ap, subst}
 use Rattle.std.proofs.lemmas.Result.{err_from_is_err_and}
 use Rattle.elem_read.proofs.Parts.{stop-same}
 use Rattle.session_text.specs.Events.{HeaderText}
-use Rattle.session_text.specs.Sessions.{IsFaultAt}
+use Rattle.session_text.specs.Sessions.{IsTextFaultAt}
 use Rattle.session_text.specs.declared.fault.TextFault.{TextFault}
 use Rattle.session_text.specs.declared.fault.TextFault.TheVariants.{Json}
 use Rattle.session_text.proofs.Readings.{told}
@@ -12,7 +12,7 @@ pub returns-in-Err-Fault-clause-fault : goal.returns-in-Err-Fault-clause-fault
 returns-in-Err-Fault-clause-fault c fault e =
     let found : TextFault = Json c.in-Err-Fault.fault in
     let same : found ≡ fault = cc in
-    subst (IsFaultAt HeaderText c.args.bytes.now 0) same
+    subst (IsTextFaultAt HeaderText c.args.bytes.now 0) same
     (inl (c.in-Err-Fault.fault, refl, c.in-Err-Fault.ensures.fault c.in-Err-Fault.fault (ap Err c.in-Err-Fault.field-0-is)))
 
 pub returns-in_err-read_header-clause-fault : goal.returns-in_err-read_header-clause-fault

@@ -1,18 +1,18 @@
--- What the change makes of the held element is put.
+-- What the change makes of the captured element is put.
 use Rattle.std.proofs.Common.{◌≡◌, option_copied, sym, ap, ◌∙◌, subst}
-use Rattle.elem.specs.Drawn.{Drawn}
+use Rattle.elem.specs.ElementValue.{ElementValue}
 use Rattle.elem_store.specs.Updates.{element_of}
 use Rattle.delta.proofs.ChangeLaws.{OnOk-weaker}
 use Rattle.undoing.specs.Carrying.{carried_over}
 use Rattle.snapshot.specs.Carried.{IsCarried, HasCarried, carried_to, with_made}
-use Rattle.snapshot.proofs.HeldLaws.{found-id, HasCarried-made}
+use Rattle.snapshot.proofs.CapturedLaws.{found-id, HasCarried-made}
 use Rattle.snapshot.proofs.PlanLaws.{carried_over-to}
 use Rattle.snapshot.proofs.carrying.carry.Goals as goal
 
-pub carried-requires-clause-held_id : goal.carried-requires-clause-held_id
-carried-requires-clause-held_id c =
+pub carried-requires-clause-captured_id : goal.carried-requires-clause-captured_id
+carried-requires-clause-captured_id c =
     found-id c.args.elements.now.items c.args.new.now.id (option_copied c.find.result)
-    (c.find.ensures ∙ ap (element_of c.args.elements.now.items) (ap (λ (e : Drawn). e.id) c.new.view_is))
+    (c.find.ensures ∙ ap (element_of c.args.elements.now.items) (ap (λ (e : ElementValue). e.id) c.new.view_is))
 
 pub returns-clause-ok : goal.returns-clause-ok
 returns-clause-ok c =
@@ -20,10 +20,10 @@ returns-clause-ok c =
     let old = option_copied c.args.old in
     let new = c.args.new.now in
     let made = c.in_ok-made.made in
-    let held : option_copied c.find.result ≡ element_of before new.id = c.find.ensures ∙ ap (element_of before) (ap (λ (e : Drawn). e.id) c.new.view_is) in
+    let captured : option_copied c.find.result ≡ element_of before new.id = c.find.ensures ∙ ap (element_of before) (ap (λ (e : ElementValue). e.id) c.new.view_is) in
     OnOk-weaker c.put_made.result (c.put_made.new.elements.items ≡ with_made made before) (HasCarried before old new c.put_made.new.elements.items)
     (λ put. subst (HasCarried before old new) (sym put) (HasCarried-made before old new made c.requires.rise
-    (subst (λ h. IsCarried h old new made) held c.in_ok-made.ensures.is) (c.in_ok-made.ensures.to ∙ ap (λ h. carried_to h old new) held)))
+    (subst (λ h. IsCarried h old new made) captured c.in_ok-made.ensures.is) (c.in_ok-made.ensures.to ∙ ap (λ h. carried_to h old new) captured)))
     c.put_made.ensures.ok
 
 pub returns-clause-over : goal.returns-clause-over
@@ -32,7 +32,7 @@ returns-clause-over c =
     let old = option_copied c.args.old in
     let new = c.args.new.now in
     let made = c.in_ok-made.made in
-    let held : option_copied c.find.result ≡ element_of before new.id = c.find.ensures ∙ ap (element_of before) (ap (λ (e : Drawn). e.id) c.new.view_is) in
+    let captured : option_copied c.find.result ≡ element_of before new.id = c.find.ensures ∙ ap (element_of before) (ap (λ (e : ElementValue). e.id) c.new.view_is) in
     OnOk-weaker c.put_made.result (c.put_made.new.elements.items ≡ with_made made before) (c.put_made.new.elements.items ≡ carried_over old new before)
-    (λ put. put ∙ ap (λ m. with_made m before) (c.in_ok-made.ensures.to ∙ ap (λ h. carried_to h old new) held) ∙ sym (carried_over-to old new before))
+    (λ put. put ∙ ap (λ m. with_made m before) (c.in_ok-made.ensures.to ∙ ap (λ h. carried_to h old new) captured) ∙ sym (carried_over-to old new before))
     c.put_made.ensures.ok

@@ -2,7 +2,7 @@
 use Rattle.std.proofs.Common.{◌++◌, [], ◌∷◌, take, take_all, sym, ap, ap₂, ◌∙◌, arith}
 use Rattle.std.proofs.lemmas.List.{take_more}
 use Rattle.std.proofs.lemmas.Option.{slice_get_within, get_or_from_slice_get}
-use Rattle.elem.specs.Drawn.{Drawn}
+use Rattle.elem.specs.ElementValue.{ElementValue}
 use Rattle.elem_store.specs.Updates.{ids_of}
 use Rattle.frac_keys.specs.Rising.{are_rising}
 use Rattle.snapshot.proofs.PendingLaws.{stored-at, rising}
@@ -19,7 +19,7 @@ loop-i-preserved c =
             let e = w.in-Some.e.now in
             let at = sym w.in-Some.ensures.element in
             rw w.copies-is
-            (w.in_ok-push.ensures.items ∙ ap₂ (λ es (copy : Drawn). es ++ copy ∷ []) c.loop-i.invariant.made w.in_ok-try_clone.ensures
+            (w.in_ok-push.ensures.items ∙ ap₂ (λ es (copy : ElementValue). es ++ copy ∷ []) c.loop-i.invariant.made w.in_ok-try_clone.ensures
             ∙ sym (take_more store i e (slice_get_within store i e at) ∙ ap (λ x. take i store ++ x ∷ []) (get_or_from_slice_get store i e e at)))
         | in_default w ↦ absurd (stored-at store i (omega (arith, c.len-i-end.ensures)) w.in_default.ensures.element)
       ];

@@ -1,16 +1,16 @@
 -- Each new element is noted in its turn.
 use Rattle.std.proofs.Common.{◌≡◌, ◌<◌, ◌++◌, [], ◌∷◌, length, take, get_or, slice_get, Some, option_copied, sym, ap, ◌∙◌, subst, arith}
 use Rattle.std.proofs.lemmas.Option.{slice_get-get_or}
-use Rattle.elem.specs.Drawn.{Drawn}
+use Rattle.elem.specs.ElementValue.{ElementValue}
 use Rattle.delta.specs.Pairs.{EntryStandsFor, pair_with}
 use Rattle.elem_store.specs.Updates.{element_of}
 use Rattle.snapshot.specs.Pending.{pairs_since}
-use Rattle.snapshot.proofs.HeldLaws.{found-id}
+use Rattle.snapshot.proofs.CapturedLaws.{found-id}
 use Rattle.snapshot.proofs.PendingLaws.{pairs-more, pairs-less}
 use Rattle.snapshot.proofs.pending.parts_to.Goals as goal
 
 pub note-requires : goal.note-requires
-note-requires c = found-id c.args.elements.now.items c.e-item.result.id (option_copied c.find.result) (c.find.ensures ∙ ap (element_of c.args.elements.now.items) (ap (λ (e : Drawn). e.id) c.e.view_is))
+note-requires c = found-id c.args.elements.now.items c.e-item.result.id (option_copied c.find.result) (c.find.ensures ∙ ap (element_of c.args.elements.now.items) (ap (λ (e : ElementValue). e.id) c.e.view_is))
 
 pub loop-e-preserved : goal.loop-e-preserved
 loop-e-preserved c =
@@ -20,6 +20,6 @@ loop-e-preserved c =
     let e = c.e-item.result in
     let within : i < length news = omega (arith, c.loop-e-test.true) in
     let at : slice_get news i ≡ Some e = slice_get-get_or news i e within ∙ ap Some (sym (c.e-item.is ∙ ap (λ x. get_or x i e) c.deref-e-items.ensures.value)) in
-    let old : option_copied c.find.result ≡ element_of elements e.id = c.find.ensures ∙ ap (element_of elements) (ap (λ (e : Drawn). e.id) c.e.view_is) in
+    let old : option_copied c.find.result ≡ element_of elements e.id = c.find.ensures ∙ ap (element_of elements) (ap (λ (e : ElementValue). e.id) c.e.view_is) in
     subst (EntryStandsFor c.note.new.parts.items) (ap (λ o. pairs_since elements (take i news) ++ pair_with o e ∷ []) old ∙ pairs-more elements news i e at)
     (c.in_ok-note.ensures _ c.loop-e.invariant (pairs-less elements news i e at c.requires.news))

@@ -3,11 +3,11 @@ use Rattle.std.specs.List.{zip, list_all}
 use Rattle.std.proofs.lemmas.Result.{IfOk-weaker}
 use Rattle.frac_keys.specs.Rising.{is_key_or_none}
 use Rattle.index_repair.specs.Repair.{repaired}
-use Rattle.elem.specs.Drawn.{Drawn}
+use Rattle.elem.specs.ElementValue.{ElementValue}
 use Rattle.view.specs.Shown.{keyed, with_index}
 use Rattle.view.proofs.keys.with_repaired_keys.Goals as goal
 
-keyed-zip : (es : List Drawn) (keys : List (List ℕ)) → map (λ (p : Drawn × List ℕ). with_index p.0 p.1) (zip es keys) ≡ keyed es keys
+keyed-zip : (es : List ElementValue) (keys : List (List ℕ)) → map (λ (p : ElementValue × List ℕ). with_index p.0 p.1) (zip es keys) ≡ keyed es keys
 keyed-zip [] [] = refl
 keyed-zip [] (key ∷ keys) = refl
 keyed-zip (e ∷ es) [] = refl

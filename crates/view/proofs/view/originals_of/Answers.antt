@@ -1,5 +1,5 @@
 use Rattle.std.proofs.Common.{◌≡◌, ◌<◌, Some, None, option_copied, length, get_or, take_all, ap, ◌∙◌, subst, sym, arith}
-use Rattle.elem.specs.Drawn.{Drawn}
+use Rattle.elem.specs.ElementValue.{ElementValue}
 use Rattle.elem_store.specs.Updates.{element_of}
 use Rattle.view.proofs.Originals.{AreOriginals, AreOriginals-none, are_as_stored, originals-same, originals-push}
 use Rattle.view.proofs.view.originals_of.Goals as goal
@@ -16,7 +16,7 @@ loop-e-preserved c =
     let e = c.e-item.result in
     let within : i < length all = omega (arith, c.loop-e-test.true, ap length c.as_slice-e-items.ensures) in
     let there : e ≡ get_or all i e = c.e-item.is ∙ ap (λ es. get_or es i e) c.as_slice-e-items.ensures in
-    let found : element_of stored e.id ≡ _ = ap (λ (d : Drawn). element_of stored d.id) (sym c.e.view_is) ∙ sym c.get.ensures in
+    let found : element_of stored e.id ≡ _ = ap (λ (d : ElementValue). element_of stored d.id) (sym c.e.view_is) ∙ sym c.get.ensures in
     elim c.match-get.branch [
       | in-Some+then-not-same+in_ok-try_clone+in_ok-push w ↦
           let here : element_of stored e.id ≡ Some w.in-Some.stored.now = found ∙ ap option_copied w.in-Some.is in

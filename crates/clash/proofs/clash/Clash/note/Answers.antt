@@ -1,6 +1,6 @@
 use Rattle.std.proofs.Common.{sym, ◌∙◌}
 use Rattle.std.proofs.lemmas.Option.{none-some}
-use Rattle.clash.proofs.FirstLaws.{clash-told, noted-found}
+use Rattle.clash.proofs.FirstLaws.{clash-told, firsts_with-found}
 use Rattle.clash.proofs.MarkLaws.{found-first, found-none}
 use Rattle.clash.proofs.clash.Clash.note.Goals as goal
 
@@ -14,7 +14,7 @@ pub returns-in-Some-clause-noted : goal.returns-in-Some-clause-noted
 returns-in-Some-clause-noted c =
     let s = c.self.inside in
     let first = found-first s.firsts.items s.places.entries c.in_ok-mark.mark c.args.e.now c.index-first.result.now c.in-Some.place c.self.invariant c.in_ok-mark.ensures c.in-Some.ensures c.index-first.ensures in
-    rw (← c.self.view_is) (noted-found s.firsts.items c.args.e.now c.index-first.result.now first)
+    rw (← c.self.view_is) (firsts_with-found s.firsts.items c.args.e.now c.index-first.result.now first)
 
 pub returns-in_ok-add-in-None-clause-clash : goal.returns-in_ok-add-in-None-clause-clash
 returns-in_ok-add-in-None-clause-clash c = λ first found.

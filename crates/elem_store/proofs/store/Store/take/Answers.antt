@@ -2,9 +2,9 @@
 use Rattle.std.proofs.Common.{◌≡◌, get_or, sym, ap, ◌∙◌, subst, arith}
 use Rattle.std.proofs.lemmas.Option.{slice_get-get_or, get_or_from_slice_get}
 use Rattle.std.proofs.lemmas.List.Elements.{All-push}
-use Rattle.elem.specs.Drawn.{Drawn}
+use Rattle.elem.specs.ElementValue.{ElementValue}
 use Rattle.elem.specs.Facts.{IsElement}
-use Rattle.elem.specs.Said.{IsWritten}
+use Rattle.elem.specs.Said.{HasValidTexts}
 use Rattle.elem_store.specs.Updates.{is_taken}
 use Rattle.elem_store.specs.Stock.{Stock}
 use Rattle.elem_store.specs.Places.{elements_at, IsAt, IsGapFor}
@@ -16,10 +16,10 @@ use Rattle.elem_store.proofs.store.Store.take.Goals.{In-Ok, In-Err, After-unwrap
 
 -- the id of the element that was passed is at the index, or has its gap there
 at : (c : In-Ok) → IsAt (elements_at c.self.inside.elements.items c.self.inside.places.places) c.args.e.id c.in-Ok.i
-at c = subst (λ (e : Drawn). IsAt (elements_at c.self.inside.elements.items c.self.inside.places.places) e.id c.in-Ok.i) c.e.view_is c.in-Ok.ensures.found
+at c = subst (λ (e : ElementValue). IsAt (elements_at c.self.inside.elements.items c.self.inside.places.places) e.id c.in-Ok.i) c.e.view_is c.in-Ok.ensures.found
 
 gap : (c : In-Err) → IsGapFor (elements_at c.self.inside.elements.items c.self.inside.places.places) c.args.e.id c.in-Err.i
-gap c = subst (λ (e : Drawn). IsGapFor (elements_at c.self.inside.elements.items c.self.inside.places.places) e.id c.in-Err.i) c.e.view_is c.in-Err.ensures.absent
+gap c = subst (λ (e : ElementValue). IsGapFor (elements_at c.self.inside.elements.items c.self.inside.places.places) e.id c.in-Err.i) c.e.view_is c.in-Err.ensures.absent
 
 pub unwrap-place-requires : goal.unwrap-place-requires
 unwrap-place-requires c =
@@ -43,7 +43,7 @@ invariant_of-self c =
     rw c.replace_beaten.ensures.items (record {
       in_order =
           AreInOrder-replaced s.elements.items s.places.places c.self.invariant.in_order c.args.e c.in-Ok.i c.unwrap-place.result (at (goal.at.invariant_of-self c).In-Ok) (place-read (goal.at.invariant_of-self c).After-unwrap-place) _ c.replace_beaten.ensures.beaten;
-      elements = All-replaced (λ e. IsElement e × IsWritten e) s.elements.items c.unwrap-place.result c.args.e _ (c.tell.ensures.is_element, c.tell.ensures.is_written) c.self.invariant.elements;
+      elements = All-replaced (λ e. IsElement e × HasValidTexts e) s.elements.items c.unwrap-place.result c.args.e _ (c.tell.ensures.is_element, c.tell.ensures.is_written) c.self.invariant.elements;
     })
 
 pub returns-in-Ok-clause-after : goal.returns-in-Ok-clause-after
@@ -72,7 +72,7 @@ invariant_of-self-in-Err c =
     let s = c.self.inside in
     rw (c.in_ok-add-in-Err.ensures.elements, c.in_ok-add-in-Err.ensures.places) (record {
       in_order = AreInOrder-added s.elements.items s.places.places c.self.invariant.in_order c.args.e c.in-Err.i (gap (goal.at.invariant_of-self-in-Err c).In-Err);
-      elements = All-push (λ e. IsElement e × IsWritten e) s.elements.items c.args.e c.self.invariant.elements (c.tell.ensures.is_element, c.tell.ensures.is_written);
+      elements = All-push (λ e. IsElement e × HasValidTexts e) s.elements.items c.args.e c.self.invariant.elements (c.tell.ensures.is_element, c.tell.ensures.is_written);
     })
 
 pub returns-in_ok-add-in-Err-clause-after : goal.returns-in_ok-add-in-Err-clause-after

@@ -1,11 +1,11 @@
 use Rattle.std.proofs.Common.{◌≡◌, ◌++◌, List}
-use Rattle.elem.specs.Drawn.{Drawn}
+use Rattle.elem.specs.ElementValue.{ElementValue}
 use Rattle.elem_store.specs.Updates.{AreStored}
 use Rattle.elem_store.proofs.store.Store.take_each.Given as goal
 
 -- the elements so far are taken, and the others are left
 abbrev pub invariant-loop-e : goal.invariant-loop-e
 invariant-loop-e l = record {
-  stored : (updates : List Drawn) → AreStored updates l.initial.self.elements → AreStored (updates ++ l.yielded) l.self.elements;
+  stored : (updates : List ElementValue) → AreStored updates l.initial.self.elements → AreStored (updates ++ l.yielded) l.self.elements;
   parts : l.fn.elements.items ≡ l.yielded ++ l.e-iterator.rest.items;
 }

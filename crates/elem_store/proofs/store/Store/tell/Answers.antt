@@ -2,7 +2,7 @@
 use Rattle.std.proofs.Common.{sym, ap, ◌∙◌, subst}
 use Rattle.frac_keys.specs.Rising.{are_rising}
 use Rattle.elem.specs.Facts.{IsElement}
-use Rattle.elem.specs.Said.{IsWritten, AreElements}
+use Rattle.elem.specs.Said.{HasValidTexts, AreElements}
 use Rattle.elem_store.specs.Stock.{Stock}
 use Rattle.elem_store.specs.Updates.{ids_of}
 use Rattle.elem_store.proofs.Placed.{All-at}
@@ -15,4 +15,4 @@ pub returns-clause-elements : goal.returns-clause-elements
 returns-clause-elements c =
     let s = c.self.inside in
     subst (λ (s : Stock). AreElements s.elements) c.self.view_is
-    (All-at (λ e. IsElement e × IsWritten e) s.elements.items s.places.places c.self.invariant.in_order.within c.self.invariant.elements)
+    (All-at (λ e. IsElement e × HasValidTexts e) s.elements.items s.places.places c.self.invariant.in_order.within c.self.invariant.elements)

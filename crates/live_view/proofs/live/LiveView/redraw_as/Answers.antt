@@ -1,5 +1,5 @@
 use Rattle.std.proofs.Common.{ap, ◌∙◌, map}
-use Rattle.elem.specs.Drawn.{Drawn}
+use Rattle.elem.specs.ElementValue.{ElementValue}
 use Rattle.live_view.specs.Changes.{redrawn_as}
 use Rattle.live_view.proofs.Redrawn.{HasRedrawn-from}
 use Rattle.live_view.proofs.live.LiveView.redraw_as.Goals as goal
@@ -9,4 +9,4 @@ returns-clause-new c ok =
     let r = c.in-Some.redrawing in
     let found = rw c.in-Some.is at c.in_ok-redrawing.ensures in
     HasRedrawn-from c.args.self.now c.redraw.new.self c.args.new.now r.held_at r.shown_at r.shown found.1
-    (c.redraw.ensures ∙ ap (λ (e : Drawn). map (redrawn_as e) c.args.self.now) found.0)
+    (c.redraw.ensures ∙ ap (λ (e : ElementValue). map (redrawn_as e) c.args.self.now) found.0)

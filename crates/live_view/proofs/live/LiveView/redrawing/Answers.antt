@@ -1,12 +1,12 @@
 use Rattle.std.proofs.Common.{◌≡◌, ℕ, Some, sym, subst, List}
 use Rattle.std.specs.Prelude.{slice_get}
-use Rattle.elem.specs.Drawn.{Drawn}
+use Rattle.elem.specs.ElementValue.{ElementValue}
 use Rattle.live_view.specs.Changes.{outline, IsRedrawn}
 use Rattle.live_view.proofs.Redrawn.{at_place, same_kind, IsRedrawn-from}
 use Rattle.live_view.proofs.live.LiveView.redrawing.Goals as goal
 use Rattle.live_view.proofs.live.LiveView.redrawing.Goals.{After-index}
 
-record IsFound (live elements : List Drawn) (new old s : Drawn) (held_at shown_at : ℕ) : Type 0 where
+record IsFound (live elements : List ElementValue) (new old s : ElementValue) (held_at shown_at : ℕ) : Type 0 where
   held : slice_get live held_at ≡ Some old
   one : outline old ≡ outline new
   at' : slice_get elements shown_at ≡ Some s

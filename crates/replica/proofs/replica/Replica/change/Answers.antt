@@ -1,7 +1,7 @@
 -- What the board gives is stored, and the replica stands for what the change makes of its state.
 use Rattle.std.proofs.Common.{sym, subst}
 use Rattle.view.specs.Shown.{shown}
-use Rattle.replica.specs.Boards.{AreGiven, HasStoredGiven, told}
+use Rattle.replica.specs.Boards.{BecomeStored, HasStoredGiven, told}
 use Rattle.replica.proofs.GivenLaws.{command-given}
 use Rattle.replica.proofs.ReplicaLaws.{change-told, change-stands}
 use Rattle.replica.proofs.replica.Replica.change.Goals as goal
@@ -9,7 +9,7 @@ use Rattle.replica.proofs.replica.Replica.change.Goals as goal
 pub store_given-requires-clause-given : goal.store_given-requires-clause-given
 store_given-requires-clause-given c =
     let board = c.self.inside.board in
-    subst (AreGiven board.store.elements) (sym c.as_slice.ensures)
+    subst (BecomeStored board.store.elements) (sym c.as_slice.ensures)
     (command-given board.store.elements (shown board.view) c.args.command.now c.args.time c.args.nonce c.in_ok-given.given c.self.invariant.0.stored_rise c.in_ok-given.ensures.exact)
 
 pub invariant_of-self-2 : goal.invariant_of-self-2

@@ -2,7 +2,7 @@ use Rattle.std.proofs.Common.{◌≡◌, ◌+◌, Some, Err, length, sym, ap, su
 use Rattle.view.specs.Shown.{live_elements, shown}
 use Rattle.effects.specs.Changed.{OnFault, outcome}
 use Rattle.effects.specs.declared.command.Refusal.{Refusal}
-use Rattle.session.specs.declared.seat.Seat.{Seat as Held}
+use Rattle.session.specs.declared.seat.Seat.{Seat as KeptSeat}
 use Rattle.session.specs.declared.outcome.Outcome.TheVariants.{Given, Refused}
 use Rattle.session.specs.Standing.{IsActed}
 use Rattle.session.specs.Worlds.{change_on}
@@ -14,7 +14,7 @@ returns-in_ok-count-in-Ok c = λ s stands.
     let old = c.args.self.now in
     let given = c.in-Ok.given in
     let act = change_on c.args.command.now c.args.capture c.args.time c.args.nonce s.state in
-    subst (λ (h : Held). IsActed act s (Given given) h) (sym c.in_ok-count-in-Ok.ensures)
+    subst (λ (h : KeptSeat). IsActed act s (Given given) h) (sym c.in_ok-count-in-Ok.ensures)
     (acted-stands act old s (Given given) (record { replica = c.change.new.self; taken = old.taken + length c.as_slice.result.now }) stands
     (change-state c.args.command.now c.args.capture c.args.time c.args.nonce s.state c.change.new.self (c.in-Ok.ensures.after s.state stands.replica))
     (change-held c.args.command.now c.args.capture c.args.time c.args.nonce s.state)

@@ -1,9 +1,9 @@
 use Rattle.std.proofs.Common.{◌≡◌, ◌+◌, Some, None, Ok, Err, length, sym, ap, ◌∙◌, subst, add-zero}
 use Rattle.history.specs.Stacks.{OnFull}
 use Rattle.effects.specs.declared.command.Refusal.TheVariants.{VersionFull}
-use Rattle.replica.specs.Standing.{StandsFor}
+use Rattle.replica.specs.Standing.{ReplicaStandsFor}
 use Rattle.replica.specs.State.{State, IsStepAnswer, redo_on}
-use Rattle.session.specs.declared.seat.Seat.{Seat as Held}
+use Rattle.session.specs.declared.seat.Seat.{Seat as KeptSeat}
 use Rattle.session.specs.declared.outcome.Outcome.TheVariants.{Given, Refused}
 use Rattle.session.specs.Standing.{IsActed}
 use Rattle.session.specs.Worlds.{redo_of}
@@ -16,7 +16,7 @@ returns-in_ok-count-in-Ok-Done c = λ s stands.
     let given = c.in-Ok-Done.given in
     let act = redo_of c.args.time c.args.nonce s.state in
     let answer = subst (λ step. IsStepAnswer step (redo_on c.args.time c.args.nonce s.state)) c.in-Ok-Done.field-0-is (c.in-Ok-Done.ensures.step s.state stands.replica) in
-    subst (λ (h : Held). IsActed act s (Given given) h) (sym c.in_ok-count-in-Ok-Done.ensures)
+    subst (λ (h : KeptSeat). IsActed act s (Given given) h) (sym c.in_ok-count-in-Ok-Done.ensures)
     (acted-stands act old s (Given given) (record { replica = c.redo.new.self; taken = old.taken + length c.as_slice.result.now }) stands
     (redo-state c.args.time c.args.nonce s.state c.redo.new.self (c.in-Ok-Done.ensures.after s.state stands.replica))
     (redo_of-held c.args.time c.args.nonce s.state)
@@ -36,7 +36,7 @@ pub returns-in-Err-Fault : goal.returns-in-Err-Fault
 returns-in-Err-Fault c = λ s stands.
     let old = c.args.self.now in
     let id = c.in-Err-Fault.field-0-0.0 in
-    let told = subst (λ stop. OnFull stop (λ id. (t : State) → StandsFor old.replica t → redo_on c.args.time c.args.nonce t ≡ Some (Err id))) c.in-Err-Fault.field-0-is c.in-Err-Fault.ensures.full in
+    let told = subst (λ stop. OnFull stop (λ id. (t : State) → ReplicaStandsFor old.replica t → redo_on c.args.time c.args.nonce t ≡ Some (Err id))) c.in-Err-Fault.field-0-is c.in-Err-Fault.ensures.full in
     let found = told s.state stands.replica in
     refused-stands (redo_of c.args.time c.args.nonce s.state) old s (Some (VersionFull id)) c.redo.new.self stands c.in-Err-Fault.ensures.err
     (redo-left c.args.time c.args.nonce s.state id found) (redo-told c.args.time c.args.nonce s.state (Some (Err id)) found)

@@ -30,16 +30,16 @@ returns-clause-step c =
 
 pub returns-clause-pairs : goal.returns-clause-pairs
 returns-clause-pairs c =
-    let held = c.args.self.now.elements in
+    let captured = c.args.self.now.elements in
     let is = ap (λ (s : Stock). s.elements) c.self.view_is in
     let step = c.put_copies.new.elements.items in
     let rise : are_rising (ids_of step) ≡ true = ap (λ es. are_rising (ids_of es)) c.in_ok-put_copies.ensures ∙ all-rise c.args.changed.now c.in_ok-step.step.items c.in_ok-step.ensures.ordered in
-    subst (λ parts. EntryStandsFor parts (pairs_since held (taken_all c.args.changed.now c.args.store.now.elements))) (sym c.from_vec.ensures)
-    (subst (λ es. EntryStandsFor c.in_ok-parts.parts.items (pairs_since held es)) (returns-clause-step c)
-    (stands-over held step rise (subst (λ es. are_rising (ids_of es) ≡ true) is c.self.invariant) c.in_ok-parts.parts.items
+    subst (λ parts. EntryStandsFor parts (pairs_since captured (taken_all c.args.changed.now c.args.store.now.elements))) (sym c.from_vec.ensures)
+    (subst (λ es. EntryStandsFor c.in_ok-parts.parts.items (pairs_since captured es)) (returns-clause-step c)
+    (stands-over captured step rise (subst (λ es. are_rising (ids_of es) ≡ true) is c.self.invariant) c.in_ok-parts.parts.items
     (subst (λ es. EntryStandsFor c.in_ok-parts.parts.items (pairs_since es step)) is c.in_ok-parts.ensures)))
 
 pub returns-clause-entry : goal.returns-clause-entry
-returns-clause-entry c held stored changed =
-    pending-stands c.args.self.now.elements (taken_all c.args.changed.now c.args.store.now.elements) _ held
+returns-clause-entry c captured stored changed =
+    pending-stands c.args.self.now.elements (taken_all c.args.changed.now c.args.store.now.elements) _ captured
     (taken_all-elements c.args.store.now.elements c.args.changed.now stored changed) (returns-clause-pairs c)

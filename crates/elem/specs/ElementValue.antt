@@ -5,7 +5,7 @@ use Rattle.elem.specs.declared.kind.Kind.{Kind}
 use Rattle.elem.specs.declared.parts.BoundRef.{BoundRef}
 use Rattle.elem.specs.declared.parts.Binding.{Binding}
 
-pub record Drawn : Type 0 where
+pub record ElementValue : Type 0 where
   pub id : List ℕ
   pub kind : Kind
   pub version : ℕ

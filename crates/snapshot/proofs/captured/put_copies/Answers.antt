@@ -2,11 +2,11 @@
 use Rattle.std.proofs.Common.{◌<◌, ◌++◌, [], ◌∷◌, length, take, sym, ap, ◌∙◌, arith}
 use Rattle.std.proofs.lemmas.List.{take_more}
 use Rattle.frac_keys.specs.Rising.{are_rising}
-use Rattle.elem.specs.Drawn.{Drawn}
+use Rattle.elem.specs.ElementValue.{ElementValue}
 use Rattle.elem_store.specs.Updates.{ids_of}
 use Rattle.undoing.specs.Carrying.{with_put, with_all_put}
 use Rattle.snapshot.proofs.PutLaws.{all-rise, all-append}
-use Rattle.snapshot.proofs.held.put_copies.Goals as goal
+use Rattle.snapshot.proofs.captured.put_copies.Goals as goal
 
 pub put-requires : goal.put-requires
 put-requires c =
@@ -18,6 +18,6 @@ loop-e-preserved c =
     let news = c.args.news.now in
     let e = c.e-item.result in
     let within : i < length news = omega arith in
-    c.in_ok-put.ensures.ok ∙ ap (λ (copy : Drawn). with_put copy c.loop-e.elements.items) c.in_ok-try_clone.ensures ∙ ap (with_put e) c.loop-e.invariant
+    c.in_ok-put.ensures.ok ∙ ap (λ (copy : ElementValue). with_put copy c.loop-e.elements.items) c.in_ok-try_clone.ensures ∙ ap (with_put e) c.loop-e.invariant
     ∙ sym (ap (λ es. with_all_put es c.args.elements.now.items) (take_more news i e within ∙ ap (λ x. take i news ++ x ∷ []) (sym c.e-item.is))
     ∙ all-append (take i news) (e ∷ []) c.args.elements.now.items)

@@ -13,11 +13,11 @@ use Rattle.scene_json.proofs.Collapsed.{bytes_eq-same}
 use Rattle.scene_json.proofs.Pairs.{AreMembers-values}
 use Rattle.restore_table.specs.Restored.{AreRestored, old_name}
 use Rattle.restore_table.proofs.RestoredLaws.{unknown-stays}
-use Rattle.elem.specs.Drawn.{Drawn}
+use Rattle.elem.specs.ElementValue.{ElementValue}
 use Rattle.elem.specs.Forms.{find_in, IsObject}
 use Rattle.elem.specs.Said.{Says}
 use Rattle.elem_read.specs.Faults.{IsFirst}
-use Rattle.elem_read.specs.Reading.{IsSelection, IsDrawing, IsElementIn, HasFault, IsFaultIn, selection_text}
+use Rattle.elem_read.specs.Reading.{IsSelection, IsNoSelection, IsElementIn, HasFault, IsFaultIn, selection_text}
 use Rattle.elem_read.specs.declared.fault.ElemFault.{ElemFault}
 use Rattle.elem_read.specs.declared.fault.ElemFault.TheVariants.{NotObject, Depth, Id, Kind, Version, Nonce, Updated, Index, Deleted, Groups, Frame, Bound, Container, Binding, File}
 use Rattle.elem_read.proofs.Keeping.{AllFound, found-has, object-nests}
@@ -31,8 +31,8 @@ no-object value none = λ members object. none members object.spelled
 pub selection : (value : List ℕ) (ms : List Pair) → IsObject value ms → value_at (codes "type") ms ≡ Some selection_text → IsSelection value
 selection value ms object kind = record { members = ms; object = object; kind = kind }
 
-pub drawing : (value : List ℕ) (ms : List Pair) → IsObject value ms → value_at (codes "type") ms ≢ Some selection_text → IsDrawing value ms
-drawing value ms object kind = record { object = object; kind = kind }
+pub no_selection : (value : List ℕ) (ms : List Pair) → IsObject value ms → value_at (codes "type") ms ≢ Some selection_text → IsNoSelection value ms
+no_selection value ms object kind = record { object = object; kind = kind }
 
 -- the members of a value that nests at most 120
 pub given-nest : (value : List ℕ) (ms : List Member) → IsObject value (pairs ms) → IsCompact 120 value → All (λ (m : Member). IsCompact 119 m.value) ms
@@ -50,13 +50,13 @@ values-found limit (m ∷ ms) is = (is.0, values-found limit ms is.1)
 pub members-found : (ms : List Member) → All (λ (m : Member). IsCompact 119 m.value) ms → AllFound (λ name value. IsCompact 119 value) (find_in (pairs ms))
 members-found ms is = found-has (λ name value. IsCompact 119 value) (pairs ms) (values-found 119 ms (recursion_from_All (λ (m : Member). IsCompact 119 m.value) ms is))
 
-pub element-in : (value : List ℕ) (ms rs : List Pair) (e : Drawn) → IsDrawing value ms → IsCompact 120 value → AreRestored ms rs → Says (find_in rs) e → IsElementIn value e
-element-in value ms rs e drawing shallow restores says =
-    record { members = ms; restored = rs; drawing = drawing; shallow = shallow; restores = restores; says = says }
+pub element-in : (value : List ℕ) (ms rs : List Pair) (e : ElementValue) → IsNoSelection value ms → IsCompact 120 value → AreRestored ms rs → Says (find_in rs) e → IsElementIn value e
+element-in value ms rs e no_selection shallow restores says =
+    record { members = ms; restored = rs; no_selection = no_selection; shallow = shallow; restores = restores; says = says }
 
-pub fault-in : (value : List ℕ) (ms rs : List Pair) (fault : ElemFault) → IsDrawing value ms → IsCompact 120 value → AreRestored ms rs → IsFirst (find_in rs) fault → IsFaultIn value fault
-fault-in value ms rs fault drawing shallow restores first =
-    in-members fault (record { members = ms; restored = rs; drawing = drawing; shallow = shallow; restores = restores; first = first })
+pub fault-in : (value : List ℕ) (ms rs : List Pair) (fault : ElemFault) → IsNoSelection value ms → IsCompact 120 value → AreRestored ms rs → IsFirst (find_in rs) fault → IsFaultIn value fault
+fault-in value ms rs fault no_selection shallow restores first =
+    in-members fault (record { members = ms; restored = rs; no_selection = no_selection; shallow = shallow; restores = restores; first = first })
   where
     in-members : (f : ElemFault) → HasFault value f → IsFaultIn value f
     in-members NotObject h = absurd h.first.comes

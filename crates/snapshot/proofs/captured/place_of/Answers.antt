@@ -2,8 +2,8 @@
 use Rattle.std.proofs.Common.{rules, IfOk, IfErr}
 use Rattle.std.proofs.lemmas.Fn.{always_returns_same}
 use Rattle.elem_store.specs.Places.{IsAt, IsGapFor}
-use Rattle.snapshot.proofs.HeldLaws.{order_of, searched}
-use Rattle.snapshot.proofs.held.place_of.Goals as goal
+use Rattle.snapshot.proofs.CapturedLaws.{order_of, searched}
+use Rattle.snapshot.proofs.captured.place_of.Goals as goal
 
 ends : (c : goal.After-binary_search_by) → IfOk c.binary_search_by.result (IsAt c.args.elements.now.items c.args.id.now) × IfErr c.binary_search_by.result (IsGapFor c.args.elements.now.items c.args.id.now)
 ends c =

@@ -4,7 +4,7 @@ use Rattle.frac_keys.specs.Rising.{are_rising}
 use Rattle.elem_store.specs.Updates.{ids_of}
 use Rattle.undoing.specs.Carrying.{with_put}
 use Rattle.snapshot.proofs.PutLaws.{all-rise, all-append}
-use Rattle.snapshot.proofs.held.put_all.Goals as goal
+use Rattle.snapshot.proofs.captured.put_all.Goals as goal
 
 pub put-requires : goal.put-requires
 put-requires c =

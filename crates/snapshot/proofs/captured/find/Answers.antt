@@ -3,7 +3,7 @@ use Rattle.std.proofs.Common.{◌<◌, length, Some, sym, ap, ◌∙◌}
 use Rattle.std.proofs.lemmas.Option.{slice_get-get_or, slice_get_within}
 use Rattle.elem_store.proofs.Edits.{element-gap}
 use Rattle.elem_store.proofs.Placed.{found, element-found}
-use Rattle.snapshot.proofs.held.find.Goals as goal
+use Rattle.snapshot.proofs.captured.find.Goals as goal
 
 pub returns-in-Ok : goal.returns-in-Ok
 returns-in-Ok c =
