@@ -6,5 +6,7 @@ mod held;
 pub mod laws;
 mod pending;
 mod snapshot;
+mod touched;
 
 pub use snapshot::{Snapshot, SnapshotStep};
+pub use touched::Touched;
