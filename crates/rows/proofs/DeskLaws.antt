@@ -1,6 +1,7 @@
 -- What holds of a desk after each call on it.
-use Rattle.std.proofs.Common.{◌≡◌, ℕ, Bool, true, false, ◌&&◌, if◌then◌else◌, List, [], ◌∷◌, Option, Some, IsSome, Result, Ok, Err, OnOk, OnErr, IfErr, Contains, refl, sym, ap, ◌∙◌, subst, inl, inr, arith}
+use Rattle.std.proofs.Common.{◌≡◌, ℕ, Bool, true, false, ◌&&◌, if◌then◌else◌, List, [], ◌∷◌, Option, Some, None, IsSome, Result, Ok, Err, OnOk, OnErr, IfErr, Contains, refl, sym, ap, ◌∙◌, subst, inl, inr, arith}
 use Rattle.std.proofs.lemmas.List.Elements.{Contains-push_cases}
+use Rattle.std.proofs.lemmas.Option.{none-some}
 use Rattle.board_io.specs.declared.stop.Stop.{Stop}
 use Rattle.elem.specs.Drawn.{Drawn}
 use Rattle.elem_store.specs.Updates.{HasTaken, is_of, is_taken, element_of}
@@ -13,6 +14,7 @@ use Rattle.history.specs.declared.step.Step.TheVariants.{Done, Nothing}
 use Rattle.history.specs.Stacks.{Stacks, HasStoredIds, HaveStoredIds, HasUndone, HasRedone, noted, with_entry, redo_left, put_step}
 use Rattle.history.proofs.StepLaws.{ids-stored, ids-taken}
 use Rattle.snapshot.specs.Pending.{pairs_since}
+use Rattle.snapshot.specs.Touched.{AreUntouched, HasTouched}
 use Rattle.snapshot.proofs.StoredLaws.{since-stored}
 use Rattle.rows.specs.Desks.{IsDesk}
 
@@ -32,6 +34,14 @@ taken-desk stored new snapshot e stacks taken desk = record {
     either : (id : List ℕ) (b : Bool) → IsSome (element_of stored id) → IsSome (if b then Some e else element_of stored id)
     either id true some = refl
     either id false some = some
+
+pub taken-untouched : (old new : List (List ℕ)) (stored after snapshot : List Drawn) (e : Drawn) → HasTouched old (e ∷ []) new → HasTaken stored e after → AreUntouched old snapshot stored → AreUntouched new snapshot after
+taken-untouched old new stored after snapshot e touched taken same id f =
+    same id (touched.still id f) ∙ sym (taken.each id ∙ ap (λ b. if b && is_taken stored e then Some e else element_of stored id) (other (is_of id e) (touched.listed id f)))
+  where
+    other : (b : Bool) → (if b then Some e else None) ≡ None → b ≡ false
+    other true h = absurd (none-some e (sym h))
+    other false h = refl
 
 -- what is stored is captured, and an entry of it is noted
 pub captured-desk : (stored snapshot : List Drawn) (stacks : Stacks) → IsDesk stored snapshot stacks → IsDesk stored stored stacks

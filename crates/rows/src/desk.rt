@@ -7,9 +7,10 @@ use delta::{Entry, VersionFull};
 use elem::Element;
 use elem_store::Store;
 use history::{History, Step};
-use snapshot::Snapshot;
+use snapshot::{Snapshot, Touched};
 use std::alloc::Global;
 use std::marker::Model;
+use std::slice;
 use std::test::Fail;
 
 /// What is done on a desk.
@@ -33,24 +34,28 @@ pub(crate) enum Act {
     Redo,
 }
 
-/// The store, the snapshot and the history. Each id that the snapshot or an entry has is stored.
+/// The store, the snapshot with the ids that were stored since it was taken, and the history. Each id that the snapshot or
+/// an entry has is stored; of each id that isn't touched the snapshot has what is stored.
 #[derive(Drop)]
 struct Desk {
     store: Store,
     snapshot: Snapshot,
+    touched: Touched,
     history: History,
 }
 
 impl Model for Desk {
     ghost use Rattle.std.specs.Prelude.{List};
     ghost use Rattle.elem.specs.Drawn.{Drawn};
+    ghost use Rattle.snapshot.specs.Touched.{AreUntouched};
     ghost use Rattle.rows.specs.Desks.{IsDesk};
 
     ghost Value = { List Drawn };
 
     ghost view = { λ d. d.store.elements };
 
-    ghost invariant = { λ d. IsDesk d.store.elements d.snapshot.elements d.history.stacks };
+    ghost invariant = { λ d. IsDesk d.store.elements d.snapshot.elements d.history.stacks
+        × AreUntouched d.touched d.snapshot.elements d.store.elements };
 }
 
 /// What is told of acts on a new desk: of a capture its entry, of an undo or a redo what it gives, and how many entries
@@ -70,6 +75,7 @@ impl Desk {
         Desk {
             store: Store::new(alloc),
             snapshot: Snapshot::new(alloc),
+            touched: Touched::new(alloc),
             history: History::new(alloc),
         }
     }
@@ -100,6 +106,7 @@ impl Desk {
 
     /// Takes an update.
     fn take(&mut self, e: Element) -> Result<(), Fail> {
+        self.touched.touch(slice::from_ref(&e))?;
         match self.store.take(e) {
             Ok(_) => Ok(()),
             Err(_) => Err(Fail::from("memory")),
@@ -109,6 +116,7 @@ impl Desk {
     /// Captures what has changed, and notes it.
     fn capture(&mut self, told: &mut Vec<u8>) -> Result<(), Fail> {
         let entry = self.snapshot.capture(&self.store)?;
+        self.touched.clear();
         push_entry(told, &entry)?;
         self.history.note(entry)?;
         Ok(())
@@ -116,8 +124,11 @@ impl Desk {
 
     /// Plans a capture, puts it and notes it.
     fn capture_planned(&mut self, told: &mut Vec<u8>) -> Result<(), Fail> {
-        let (step, entry) = self.snapshot.plan_capture(&self.store, &[])?;
+        let (step, entry) = self
+            .snapshot
+            .plan_capture(&self.store, &self.touched, &[])?;
         self.snapshot.put(step);
+        self.touched.clear();
         push_entry(told, &entry)?;
         self.history.note(entry)?;
         Ok(())

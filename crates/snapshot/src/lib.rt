@@ -1,6 +1,7 @@
 //! What the elements of a board were when they were last captured, and what has changed since.
 #![tactic(auto)]
 
+mod boxed;
 mod carrying;
 mod held;
 pub mod laws;

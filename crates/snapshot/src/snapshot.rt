@@ -13,6 +13,7 @@ ghost use Rattle.snapshot.specs.Carried.{HasCarried};
 ghost use Rattle.snapshot.specs.Pending.{pairs_since};
 ghost use Rattle.snapshot.specs.Touched.{AreUntouched};
 
+use crate::boxed::Boxed;
 use crate::carrying::{carry, carrying};
 use crate::held::{put_all, put_copies};
 use crate::pending::{copies_of, differing, ids_of, parts_since, parts_to};
@@ -28,7 +29,7 @@ use std::marker::Model;
 /// The elements as they were when they were last captured, one for each id, in the order of the ids.
 #[derive(Drop)]
 pub struct Snapshot {
-    elements: Vec<Element>,
+    elements: Vec<Boxed>,
 }
 
 impl Model for Snapshot {
@@ -50,7 +51,7 @@ impl Model for Snapshot {
 /// Elements that are planned to be put into a snapshot, one for each id, in the order of the ids.
 #[derive(Drop)]
 pub struct SnapshotStep {
-    elements: Vec<Element>,
+    elements: Vec<Boxed>,
 }
 
 impl Model for SnapshotStep {
