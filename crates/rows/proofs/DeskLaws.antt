@@ -47,6 +47,9 @@ taken-untouched old new stored after snapshot e touched taken same id f =
 pub captured-desk : (stored snapshot : List Drawn) (stacks : Stacks) → IsDesk stored snapshot stacks → IsDesk stored stored stacks
 captured-desk stored snapshot stacks desk = record { known = λ id some. some; undo = desk.undo; redo = desk.redo }
 
+pub captured-untouched : (ids : List (List ℕ)) (snapshot stored : List Drawn) → snapshot ≡ stored → AreUntouched ids snapshot stored
+captured-untouched ids snapshot stored same id f = ap (λ es. element_of es id) same
+
 with-ids : (stored : List Drawn) (entry : List Delta) (stack : List (List Delta)) → HasStoredIds stored entry → HaveStoredIds stored stack → HaveStoredIds stored (with_entry entry stack)
 with-ids stored [] stack own ids parts c = ids parts c
 with-ids stored (part ∷ more) stack own ids parts c =

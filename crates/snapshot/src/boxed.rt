@@ -3,6 +3,7 @@
 ghost use Rattle.std.specs.Prelude.{◌≡◌, IfOk};
 
 use elem::Element;
+use scene_json::Text;
 use std::alloc::{AllocError, Global};
 use std::marker::Model;
 
@@ -34,6 +35,13 @@ impl Boxed {
         ensures { IfOk result (λ boxed. boxed ≡ e.now) }
     {
         Boxed::new(alloc, e.try_clone()?)
+    }
+
+    /// The id of the element.
+    pub(crate) fn id(&self) -> &Text
+        ensures { result.now ≡ self.now.id }
+    {
+        &self.element.id
     }
 
     /// The element.

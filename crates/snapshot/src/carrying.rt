@@ -32,7 +32,7 @@ pub(crate) fn carry(
     ensures err { OnErr result (elements.new.items ≡ elements.old.items) }
 {
     let made = carried(alloc, find(elements, &new.id), old, new)?;
-    put_made(elements, made)
+    put_made(alloc, elements, made)
 }
 
 /// What a stored change makes of the held element of its id.
@@ -144,7 +144,7 @@ fn carry_one(
         return Ok(());
     }
     let made = carried(alloc, find_over(step, held, &e.id), old, e)?;
-    put_made(step, made)?;
+    put_made(alloc, step, made)?;
     put(newer, Boxed::copy(alloc, e)?)
 }
 

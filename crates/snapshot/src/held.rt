@@ -12,7 +12,7 @@ ghost use Rattle.snapshot.specs.Carried.{with_made};
 use crate::boxed::Boxed;
 use elem::Element;
 use scene_json::Text;
-use std::alloc::AllocError;
+use std::alloc::{AllocError, Global};
 use std::cmp::Ordering;
 
 /// The index at which the element of this id is, or at which it would be.
@@ -28,7 +28,7 @@ fn place_of(elements: &Vec<Boxed>, id: &Text) -> Result<usize, usize>
 fn id_order(e: &Boxed, id: &Text) -> Ordering
     ensures { result ≡ slice_cmp nat_cmp e.now.id id.now }
 {
-    e.get().id.as_bytes().cmp(id.as_bytes())
+    e.id().as_bytes().cmp(id.as_bytes())
 }
 
 /// The element of this id.
@@ -51,7 +51,7 @@ pub(crate) fn put(elements: &mut Vec<Boxed>, e: Boxed) -> Result<(), AllocError>
     ensures count { vec_len elements.new ≤ vec_len elements.old + 1 }
     ensures kept { vec_capacity elements.old ≤ vec_capacity elements.new }
 {
-    match place_of(elements, &e.get().id) {
+    match place_of(elements, e.id()) {
         Ok(i) => elements[i] = e,
         Err(i) => elements.insert(i, e)?,
     }
@@ -59,24 +59,32 @@ pub(crate) fn put(elements: &mut Vec<Boxed>, e: Boxed) -> Result<(), AllocError>
 }
 
 /// Puts an element, if there is one.
-pub(crate) fn put_made(elements: &mut Vec<Boxed>, made: Option<Element>) -> Result<(), AllocError>
+pub(crate) fn put_made(
+    alloc: Global,
+    elements: &mut Vec<Boxed>,
+    made: Option<Element>,
+) -> Result<(), AllocError>
     requires { are_rising (ids_of elements.old.items) ≡ true }
     ensures ok { OnOk result (elements.new.items ≡ with_made made elements.old.items) }
     ensures err { OnErr result (elements.new.items ≡ elements.old.items) }
 {
     match made {
-        Some(e) => put(elements, Boxed::new(*elements.allocator(), e)?),
+        Some(e) => put(elements, Boxed::new(alloc, e)?),
         None => Ok(()),
     }
 }
 
 /// Puts copies of other elements, one after another.
-pub(crate) fn put_copies(elements: &mut Vec<Boxed>, news: &[Element]) -> Result<(), AllocError>
+pub(crate) fn put_copies(
+    alloc: Global,
+    elements: &mut Vec<Boxed>,
+    news: &[Element],
+) -> Result<(), AllocError>
     requires { are_rising (ids_of elements.old.items) ≡ true }
     ensures { OnOk result (elements.new.items ≡ with_all_put news.now elements.old.items) }
 {
     for e in news {
-        put(elements, Boxed::copy(*elements.allocator(), e)?)?;
+        put(elements, Boxed::copy(alloc, e)?)?;
     }
     Ok(())
 }

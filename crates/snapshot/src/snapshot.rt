@@ -122,7 +122,7 @@ impl Snapshot {
     {
         let alloc = *self.elements.allocator();
         let mut step = differing(alloc, &self.elements, store, &touched.ids)?;
-        put_copies(&mut step, changed)?;
+        put_copies(alloc, &mut step, changed)?;
         let parts = parts_to(alloc, &self.elements, &step)?;
         self.elements.reserve(step.len())?;
         let entry = Entry {
