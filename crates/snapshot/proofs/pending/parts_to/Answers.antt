@@ -19,7 +19,7 @@ loop-boxed-preserved c =
     let i = c.loop-boxed.boxed-index in
     let e = c.get-e.result.now in
     let within : i < length news = omega (arith, c.loop-boxed-test.true) in
-    let at : slice_get news i ≡ Some e = slice_get-get_or news i e within ∙ ap Some (sym (c.get-e.ensures ∙ c.boxed-item.is ∙ ap (λ x. get_or x i c.boxed-item.result) c.deref-boxed-items.ensures.value)) in
+    let at : slice_get news i ≡ Some e = slice_get-get_or news i c.boxed-item.result within ∙ ap Some (sym (c.get-e.ensures ∙ c.boxed-item.is ∙ ap (λ x. get_or x i c.boxed-item.result) c.deref-boxed-items.ensures.value)) in
     let old : option_copied c.find.result ≡ element_of elements e.id = c.find.ensures ∙ ap (element_of elements) (ap (λ (e : Drawn). e.id) c.e.view_is) in
     subst (EntryStandsFor c.note.new.parts.items) (ap (λ o. pairs_since elements (take i news) ++ pair_with o e ∷ []) old ∙ pairs-more elements news i e at)
     (c.in_ok-note.ensures _ c.loop-boxed.invariant (pairs-less elements news i e at c.requires.news))
