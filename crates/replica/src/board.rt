@@ -96,7 +96,9 @@ impl Board {
         ensures err { OnErr result (told self.new ≡ told self.old) }
         ensures untouched { IsUntouched self.new }
     {
-        let (step, entry) = self.snapshot.plan_capture(&self.store, &self.touched, given)?;
+        let (step, entry) = self
+            .snapshot
+            .plan_capture(&self.store, &self.touched, given)?;
         self.history.reserve()?;
         take(alloc, &mut self.store, &mut self.view, given)?;
         self.snapshot.put(step);
@@ -242,7 +244,9 @@ impl Board {
         ensures err { OnErr result (told self.new ≡ told self.old) }
         ensures untouched { IsUntouched self.new }
     {
-        let (captured, _) = self.snapshot.plan_capture(&self.store, &self.touched, given)?;
+        let (captured, _) = self
+            .snapshot
+            .plan_capture(&self.store, &self.touched, given)?;
         take(alloc, &mut self.store, &mut self.view, given)?;
         self.snapshot.put(captured);
         self.touched.clear();

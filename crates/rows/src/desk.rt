@@ -124,9 +124,7 @@ impl Desk {
 
     /// Plans a capture, puts it and notes it.
     fn capture_planned(&mut self, told: &mut Vec<u8>) -> Result<(), Fail> {
-        let (step, entry) = self
-            .snapshot
-            .plan_capture(&self.store, &self.touched, &[])?;
+        let (step, entry) = self.snapshot.plan_capture(&self.store, &self.touched, &[])?;
         self.snapshot.put(step);
         self.touched.clear();
         push_entry(told, &entry)?;

@@ -12,11 +12,10 @@ plan_undo-requires-clause-stored c = λ parts among. c.self.invariant.0.undo par
 pub invariant_of-self-in-Ok : goal.invariant_of-self-in-Ok
 invariant_of-self-in-Ok c =
     let mid : Stacks = c.reserve.new.self.stacks in
-    let step = c.in-Ok.step in
-    (
+    let step = c.in-Ok.step in (
       planned-desk c.self.inside.store.elements c.self.inside.snapshot.elements 9 8 c.self.inside.history.stacks (noted c.new.result mid) (put_step step mid) c.put.new.self.stacks c.in-Ok.answer c.self.invariant.0
-      (noted-none c.new.result mid c.new.ensures ∙ c.reserve.ensures.stacks) c.put.ensures
-      (λ given is. c.in-Ok.ensures.done step given (ap (λ (a : Step). Ok (step, a)) is))
-      (λ is. c.in-Ok.ensures.nothing_kept step (ap (λ (a : Step). Ok (step, a)) is)),
+          (noted-none c.new.result mid c.new.ensures ∙ c.reserve.ensures.stacks) c.put.ensures
+          (λ given is. c.in-Ok.ensures.done step given (ap (λ (a : Step). Ok (step, a)) is))
+          (λ is. c.in-Ok.ensures.nothing_kept step (ap (λ (a : Step). Ok (step, a)) is)),
       c.self.invariant.1,
     )
