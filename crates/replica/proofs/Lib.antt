@@ -1,6 +1,7 @@
 mod GivenLaws
 mod StoredLaws
 mod BoardLaws
+mod TouchingLaws
 mod TurnLaws
 mod ReplicaLaws
 mod CallLaws

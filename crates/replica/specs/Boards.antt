@@ -15,6 +15,7 @@ use Rattle.history.specs.declared.step.Step.{Step}
 use Rattle.history.specs.declared.step.Step.TheVariants.{Done, Nothing}
 use Rattle.undoing.specs.Carrying.{taken_all, carried_all}
 use Rattle.undoing.specs.Differing.{pending}
+use Rattle.snapshot.specs.Touched.{AreUntouched}
 use Rattle.replica.specs.declared.board.Board.{Board}
 use Rattle.replica.specs.State.{State}
 
@@ -60,8 +61,12 @@ pub record IsSound (t : Told) : Type 0 where
 abbrev pub IsTold : Told → Type 0
 IsTold t = IsSound t × ((s : State) × ToldStandsFor t s)
 
+-- Of each id that isn't touched the snapshot of a board has what is stored.
+abbrev pub IsUntouched : Board → Type 0
+IsUntouched board = AreUntouched board.touched board.snapshot.elements board.store.elements
+
 abbrev pub IsBoard : Board → Type 0
-IsBoard board = IsTold (told board)
+IsBoard board = IsTold (told board) × IsUntouched board
 
 -- The ids of changed elements rise, and each of them becomes stored.
 pub record BecomeStored (stored given : List ElementValue) : Type 0 where

@@ -12,7 +12,7 @@ ghost use Rattle.effects.specs.Limits.{IsWithinLimits};
 ghost use Rattle.history.specs.Stacks as stacks;
 ghost use Rattle.history.specs.Stacks.{FitsIn, OnFull, noted};
 ghost use Rattle.undoing.specs.Carrying.{taken_all, with_all_put};
-ghost use Rattle.replica.specs.Boards.{told, BecomeStored, GivesElements, GivesTaken, HasCaptured, HasCarriedAll, HasPutStep, HasStopped, HasStoredGiven, HasTakenAll, HasTurned, IsBoard, stored_by};
+ghost use Rattle.replica.specs.Boards.{told, BecomeStored, GivesElements, GivesTaken, HasCaptured, HasCarriedAll, HasPutStep, HasStopped, HasStoredGiven, HasTakenAll, HasTurned, IsBoard, IsUntouched, stored_by};
 
 use crate::telling::tell_all;
 use board_io::{List, Stop};
@@ -22,27 +22,30 @@ use elem::Element;
 use elem_store::Store;
 use history::{History, HistoryStep, Step};
 use live_view::LiveView;
-use snapshot::{Snapshot, SnapshotStep};
+use snapshot::{Snapshot, SnapshotStep, Touched};
 use std::alloc::{AllocError, Global};
 
-/// The stored elements, their view, the snapshot and the history.
+/// The stored elements, their view, the snapshot with the ids that were stored since it was taken, and the history.
 #[derive(Drop)]
 pub(crate) struct Board {
     pub(crate) store: Store,
     pub(crate) view: LiveView,
     pub(crate) snapshot: Snapshot,
+    pub(crate) touched: Touched,
     pub(crate) history: History,
 }
 
 impl Board {
     /// With nothing stored.
     pub(crate) fn new(alloc: Global) -> Board
-        ensures { told result ≡ record { stored = []; view = []; snapshot = []; stacks = record { undo = []; redo = [] } } }
+        ensures empty { told result ≡ record { stored = []; view = []; snapshot = []; stacks = record { undo = []; redo = [] } } }
+        ensures untouched { IsUntouched result }
     {
         Board {
             store: Store::new(alloc),
             view: LiveView::new(alloc),
             snapshot: Snapshot::new(alloc),
+            touched: Touched::new(alloc),
             history: History::new(alloc),
         }
     }
@@ -76,6 +79,7 @@ impl Board {
         requires given { BecomeStored self.old.store.elements given.now }
         ensures ok { OnOk result (HasStoredGiven capture (told self.old) given.now (told self.new)) }
         ensures err { OnErr result (told self.new ≡ told self.old) }
+        ensures untouched { IsUntouched self.new }
     {
         match capture {
             Capture::Now => self.store_captured(alloc, given),
@@ -90,11 +94,15 @@ impl Board {
         requires given { BecomeStored self.old.store.elements given.now }
         ensures ok { OnOk result (HasCaptured (told self.old) given.now (told self.new)) }
         ensures err { OnErr result (told self.new ≡ told self.old) }
+        ensures untouched { IsUntouched self.new }
     {
-        let (step, entry) = self.snapshot.plan_capture(&self.store, given)?;
+        let (step, entry) = self
+            .snapshot
+            .plan_capture(&self.store, &self.touched, given)?;
         self.history.reserve()?;
         take(alloc, &mut self.store, &mut self.view, given)?;
         self.snapshot.put(step);
+        self.touched.clear();
         note(&mut self.history, entry);
         Ok(())
     }
@@ -104,7 +112,9 @@ impl Board {
         requires board { IsBoard self.old }
         ensures ok { OnOk result (HasTakenAll (told self.old) list.now (told self.new)) }
         ensures err { OnErr result (told self.new ≡ told self.old) }
+        ensures untouched { IsUntouched self.new }
     {
+        self.touched.touch(list)?;
         take(alloc, &mut self.store, &mut self.view, list)
     }
 
@@ -117,8 +127,10 @@ impl Board {
         requires board { IsBoard self.old }
         ensures ok { OnOk result (HasCarriedAll (told self.old) list.now (told self.new)) }
         ensures err { OnErr result (told self.new ≡ told self.old) }
+        ensures untouched { IsUntouched self.new }
     {
         let step = self.snapshot.plan_carry(&self.store, list)?;
+        self.touched.touch(list)?;
         take(alloc, &mut self.store, &mut self.view, list)?;
         self.snapshot.put(step);
         Ok(())
@@ -137,8 +149,9 @@ impl Board {
         ensures ok { IfOk result (λ step. HasTurned true (told self.old) time nonce step (told self.new)) }
         ensures full { IfErr result (λ stop. OnFull stop (HasStopped true (told self.old))) }
         ensures err { OnErr result (told self.new ≡ told self.old) }
+        ensures untouched { IsUntouched self.new }
     {
-        let (captured, pending) = self.snapshot.plan_capture(&self.store, &[])?;
+        let (captured, pending) = self.snapshot.plan_capture(&self.store, &self.touched, &[])?;
         self.history.reserve()?;
         let (planned, step) = self.history.plan_undo(pending, &self.store, time, nonce)?;
         self.put_step(alloc, captured, planned, &step)?;
@@ -158,8 +171,9 @@ impl Board {
         ensures ok { IfOk result (λ step. HasTurned false (told self.old) time nonce step (told self.new)) }
         ensures full { IfErr result (λ stop. OnFull stop (HasStopped false (told self.old))) }
         ensures err { OnErr result (told self.new ≡ told self.old) }
+        ensures untouched { IsUntouched self.new }
     {
-        let (captured, pending) = self.snapshot.plan_capture(&self.store, &[])?;
+        let (captured, pending) = self.snapshot.plan_capture(&self.store, &self.touched, &[])?;
         self.history.reserve()?;
         let (planned, step) = self.history.plan_redo(pending, &self.store, time, nonce)?;
         self.put_step(alloc, captured, planned, &step)?;
@@ -182,6 +196,7 @@ impl Board {
         requires fits { FitsIn planned self.old.history.stacks }
         ensures ok { OnOk result (HasPutStep (told self.old) step.now (stacks.put_step planned self.old.history.stacks) (told self.new)) }
         ensures err { OnErr result (told self.new ≡ told self.old) }
+        ensures untouched { IsUntouched self.new }
     {
         self.put_elements(alloc, captured, step)?;
         self.history.put(planned);
@@ -205,11 +220,13 @@ impl Board {
         ensures snapshot { OnOk result (self.new.snapshot.elements ≡ stored_by step.now self.old.store.elements) }
         ensures history { self.new.history ≡ self.old.history }
         ensures err { OnErr result (told self.new ≡ told self.old) }
+        ensures untouched { IsUntouched self.new }
     {
         match step {
             Step::Done(given) => self.store_step(alloc, given.as_slice()),
             Step::Nothing => {
                 self.snapshot.put(captured);
+                self.touched.clear();
                 Ok(())
             }
         }
@@ -225,10 +242,14 @@ impl Board {
         ensures snapshot { OnOk result (self.new.snapshot.elements ≡ taken_all given.now self.old.store.elements) }
         ensures history { self.new.history ≡ self.old.history }
         ensures err { OnErr result (told self.new ≡ told self.old) }
+        ensures untouched { IsUntouched self.new }
     {
-        let (captured, _) = self.snapshot.plan_capture(&self.store, given)?;
+        let (captured, _) = self
+            .snapshot
+            .plan_capture(&self.store, &self.touched, given)?;
         take(alloc, &mut self.store, &mut self.view, given)?;
         self.snapshot.put(captured);
+        self.touched.clear();
         Ok(())
     }
 }

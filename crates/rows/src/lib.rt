@@ -4,9 +4,13 @@
 #[cfg(test)]
 mod copies;
 #[cfg(test)]
+mod desk;
+#[cfg(test)]
 mod ends;
 #[cfg(test)]
 mod held;
+#[cfg(test)]
+mod histories;
 #[cfg(test)]
 mod keys;
 #[cfg(test)]
@@ -14,8 +18,14 @@ mod kinds;
 #[cfg(test)]
 mod samples;
 #[cfg(test)]
+mod snapshots;
+#[cfg(test)]
 mod sockets;
 #[cfg(test)]
 mod stores;
+#[cfg(test)]
+mod tables;
+#[cfg(test)]
+mod told;
 #[cfg(test)]
 mod values;

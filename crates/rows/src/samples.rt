@@ -24,3 +24,16 @@ pub(crate) fn rectangle(
     )?;
     element(alloc, text.as_str())
 }
+
+/// The element of this kind, id, version and frame, in which nothing else is told.
+pub(crate) fn framed(
+    alloc: Global,
+    kind: &str,
+    id: &str,
+    (version, frame, deleted): (u64, &str, bool),
+) -> Result<Element, Fail> {
+    let text = format!(in alloc;
+        "{{\"id\":\"{id}\",\"type\":\"{kind}\",\"version\":{version},\"frameId\":\"{frame}\",\"isDeleted\":{deleted}}}"
+    )?;
+    element(alloc, text.as_str())
+}

@@ -4,3 +4,4 @@ pub mod CapturedLaws
 pub mod PendingLaws
 pub mod PlanLaws
 pub mod StoredLaws
+pub mod TouchedLaws

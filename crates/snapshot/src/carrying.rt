@@ -9,6 +9,7 @@ ghost use Rattle.undoing.specs.Carrying.{with_put, with_all_put, carried_over, c
 ghost use Rattle.undoing.specs.Undoing.{undone};
 ghost use Rattle.snapshot.specs.Carried.{IsCarried, HasCarried, carried_to};
 
+use crate::boxed::Boxed;
 use crate::captured::{find, put, put_made};
 use crate::pending::know_order;
 use delta::{apply, are_one_kind, difference};
@@ -20,7 +21,7 @@ use std::alloc::{AllocError, Global};
 /// Carries a stored change into the elements.
 pub(crate) fn carry(
     alloc: Global,
-    elements: &mut Vec<Element>,
+    elements: &mut Vec<Boxed>,
     old: Option<&Element>,
     new: &Element,
 ) -> Result<(), AllocError>
@@ -31,7 +32,7 @@ pub(crate) fn carry(
     ensures err { OnErr result (elements.new.items ≡ elements.old.items) }
 {
     let made = carried(alloc, find(elements, &new.id), old, new)?;
-    put_made(elements, made)
+    put_made(alloc, elements, made)
 }
 
 /// What a stored change makes of the captured element of its id.
@@ -100,10 +101,10 @@ fn follow(
 /// The elements that carrying makes of the captured ones, for each of a list that becomes stored.
 pub(crate) fn carrying(
     alloc: Global,
-    captured: &Vec<Element>,
+    captured: &Vec<Boxed>,
     store: &Store,
     list: &[Element],
-) -> Result<Vec<Element>, AllocError>
+) -> Result<Vec<Boxed>, AllocError>
     requires { are_rising (ids_of captured.now.items) ≡ true }
     ensures step { IfOk result (λ step. with_all_put step.items captured.now.items
         ≡ carried_all (takings store.now.elements list.now) captured.now.items) }
@@ -121,10 +122,10 @@ pub(crate) fn carrying(
 /// Carries an element into the step, if it becomes stored over the store with the newer ones.
 fn carry_one(
     alloc: Global,
-    captured: &Vec<Element>,
+    captured: &Vec<Boxed>,
     store: &Store,
-    newer: &mut Vec<Element>,
-    step: &mut Vec<Element>,
+    newer: &mut Vec<Boxed>,
+    step: &mut Vec<Boxed>,
     e: &Element,
 ) -> Result<(), AllocError>
     requires captured { are_rising (ids_of captured.now.items) ≡ true }
@@ -143,12 +144,12 @@ fn carry_one(
         return Ok(());
     }
     let made = carried(alloc, find_over(step, captured, &e.id), old, e)?;
-    put_made(step, made)?;
-    put(newer, e.try_clone()?)
+    put_made(alloc, step, made)?;
+    put(newer, Boxed::copy(alloc, e)?)
 }
 
 /// The element of this id: a newer one, or what is stored.
-fn stored_over<'a>(newer: &'a Vec<Element>, store: &'a Store, id: &Text) -> Option<&'a Element>
+fn stored_over<'a>(newer: &'a Vec<Boxed>, store: &'a Store, id: &Text) -> Option<&'a Element>
     requires { are_rising (ids_of newer.now.items) ≡ true }
     ensures { option_copied result ≡ element_of (with_all_put newer.now.items store.now.elements) id.now }
 {
@@ -159,11 +160,7 @@ fn stored_over<'a>(newer: &'a Vec<Element>, store: &'a Store, id: &Text) -> Opti
 }
 
 /// The element of this id: that of the step, or the captured one.
-fn find_over<'a>(
-    step: &'a Vec<Element>,
-    captured: &'a Vec<Element>,
-    id: &Text,
-) -> Option<&'a Element>
+fn find_over<'a>(step: &'a Vec<Boxed>, captured: &'a Vec<Boxed>, id: &Text) -> Option<&'a Element>
     requires step { are_rising (ids_of step.now.items) ≡ true }
     requires captured { are_rising (ids_of captured.now.items) ≡ true }
     ensures { option_copied result ≡ element_of (with_all_put step.now.items captured.now.items) id.now }

@@ -10,6 +10,7 @@ ghost use Rattle.undoing.specs.Carrying.{carried, carried_all, taken, taken_all}
 ghost use Rattle.undoing.specs.Differing.{pending};
 ghost use Rattle.snapshot.specs.Carried.{AreOfStoredKinds};
 ghost use Rattle.snapshot.specs.Pending.{pairs_since};
+ghost use Rattle.snapshot.specs.Touched.{AreUntouched, HasTouched, StillTouches};
 
 /// Each element of a snapshot has a stored one of its kind where it is what is stored, as after a capture; its ids are then
 /// stored.
@@ -35,4 +36,16 @@ pub fn captured_ids_are_stored()
         → EntryStandsFor parts (pairs_since snapshot stored) → Contains parts part → IsSome (element_of stored part.id) }
     ensures pending { (parts : List Delta) (snapshot stored : List ElementValue) (part : Delta)
         → EntryStandsFor parts (pending snapshot stored) → Contains parts part → IsSome (element_of stored part.id) }
+{}
+
+/// What isn't touched is stored as the snapshot has it where more is touched, and once those that are touched besides become
+/// stored, carried into the snapshot or not.
+pub fn untouched_ids_stay()
+    ensures grown { (old new : List (List ℕ)) (snapshot stored : List ElementValue)
+        → StillTouches old new → AreUntouched old snapshot stored → AreUntouched new snapshot stored }
+    ensures taken { (old new : List (List ℕ)) (list snapshot stored : List ElementValue)
+        → HasTouched old list new → AreUntouched old snapshot stored → AreUntouched new snapshot (taken_all list stored) }
+    ensures carried { (old new : List (List ℕ)) (list snapshot stored : List ElementValue)
+        → are_rising (ids_of stored) ≡ true → HasTouched old list new → AreUntouched old snapshot stored
+        → AreUntouched new (carried_all (takings stored list) snapshot) (taken_all list stored) }
 {}

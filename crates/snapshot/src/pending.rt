@@ -8,18 +8,21 @@ ghost use Rattle.delta.specs.Pairs.{Pair, IsChanged, IsUnchanged, EntryStandsFor
 ghost use Rattle.elem_store.specs.Updates as updates;
 ghost use Rattle.undoing.specs.Carrying.{with_put, with_all_put};
 ghost use Rattle.snapshot.specs.Pending.{pairs_since};
+ghost use Rattle.snapshot.specs.Touched.{AreUntouched, HasPutStored};
 
+use crate::boxed::Boxed;
 use crate::captured::{find, put};
 use delta::{Part, are_one_kind, difference};
 use elem::{Element, same, same_but_stamp};
 use elem_store::Store;
 use scene_json::Text;
 use std::alloc::{AllocError, Global};
+use std::collections::BTreeSet;
 
 /// The parts from the elements to the stored ones.
 pub(crate) fn parts_since(
     alloc: Global,
-    elements: &Vec<Element>,
+    elements: &Vec<Boxed>,
     store: &Store,
 ) -> Result<Vec<Part>, AllocError>
     requires { are_rising (updates.ids_of elements.now.items) ≡ true }
@@ -37,15 +40,16 @@ pub(crate) fn parts_since(
 /// The parts from the elements to other ones.
 pub(crate) fn parts_to(
     alloc: Global,
-    elements: &Vec<Element>,
-    news: &Vec<Element>,
+    elements: &Vec<Boxed>,
+    news: &Vec<Boxed>,
 ) -> Result<Vec<Part>, AllocError>
     requires elements { are_rising (updates.ids_of elements.now.items) ≡ true }
     requires news { are_rising (updates.ids_of news.now.items) ≡ true }
     ensures { IfOk result (λ parts. EntryStandsFor parts.items (pairs_since elements.now.items news.now.items)) }
 {
     let mut parts = Vec::new(alloc);
-    for e in news {
+    for boxed in news {
+        let e = boxed.get();
         note(alloc, &mut parts, find(elements, &e.id), e)?;
     }
     Ok(parts)
@@ -93,14 +97,14 @@ pub(crate) fn ids_of(alloc: Global, parts: &Vec<Part>) -> Result<Vec<Text>, Allo
 }
 
 /// The stored elements, copied.
-pub(crate) fn copies_of(alloc: Global, store: &Store) -> Result<Vec<Element>, AllocError>
+pub(crate) fn copies_of(alloc: Global, store: &Store) -> Result<Vec<Boxed>, AllocError>
     ensures exact { IfOk result (λ copies. copies.items ≡ store.now.elements) }
     ensures ordered { IfOk result (λ copies. are_rising (updates.ids_of copies.items) ≡ true) }
 {
     let mut copies = Vec::new(alloc);
     for i in 0..store.len() {
         if let Some(e) = store.at(i) {
-            copies.push(e.try_clone()?)?;
+            copies.push(Boxed::copy(alloc, e)?)?;
         }
     }
     Ok(copies)
@@ -113,13 +117,15 @@ pub(crate) fn know_order(store: &Store)
     let _ = store.at(0);
 }
 
-/// Copies of the stored elements that aren't the same among the elements.
+/// Copies of the stored elements of these ids that aren't the same among the elements.
 pub(crate) fn differing(
     alloc: Global,
-    elements: &Vec<Element>,
+    elements: &Vec<Boxed>,
     store: &Store,
-) -> Result<Vec<Element>, AllocError>
-    requires { are_rising (updates.ids_of elements.now.items) ≡ true }
+    touched: &BTreeSet<Text>,
+) -> Result<Vec<Boxed>, AllocError>
+    requires rise { are_rising (updates.ids_of elements.now.items) ≡ true }
+    requires untouched { AreUntouched touched.now.keys elements.now.items store.now.elements }
     ensures over { IfOk result (λ copies. with_all_put copies.items elements.now.items
         ≡ with_all_put store.now.elements elements.now.items) }
     ensures ordered { IfOk result (λ copies. are_rising (updates.ids_of copies.items) ≡ true) }
@@ -127,26 +133,25 @@ pub(crate) fn differing(
 {
     know_order(store);
     let mut copies = Vec::new(alloc);
-    for i in 0..store.len() {
-        if let Some(e) = store.at(i) {
-            put_differing(&mut copies, find(elements, &e.id), e)?;
-        }
+    for id in touched.iter() {
+        put_differing(alloc, &mut copies, find(elements, id), store.get(id))?;
     }
     Ok(copies)
 }
 
-/// Puts a copy of the element, unless the old one is the same.
+/// Puts a copy of what is stored of an id, unless nothing is or the old element is the same.
 fn put_differing(
-    copies: &mut Vec<Element>,
+    alloc: Global,
+    copies: &mut Vec<Boxed>,
     old: Option<&Element>,
-    new: &Element,
+    stored: Option<&Element>,
 ) -> Result<(), AllocError>
     requires { are_rising (updates.ids_of copies.old.items) ≡ true }
-    ensures { OnOk result ((copies.new.items ≡ with_put new.now copies.old.items)
-        ⊎ ((copies.new.items ≡ copies.old.items) × (option_copied old.entry ≡ Some new.now))) }
+    ensures { OnOk result (HasPutStored copies.old.items (option_copied old.entry) (option_copied stored.entry) copies.new.items) }
 {
-    match old {
-        Some(old) if same(old, new) => Ok(()),
-        _ => put(copies, new.try_clone()?),
+    match (old, stored) {
+        (_, None) => Ok(()),
+        (Some(old), Some(new)) if same(old, new) => Ok(()),
+        (_, Some(new)) => put(copies, Boxed::copy(alloc, new)?),
     }
 }

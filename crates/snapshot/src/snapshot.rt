@@ -11,10 +11,13 @@ ghost use Rattle.undoing.specs.Carrying.{with_all_put, taken_all, carried_over, 
 ghost use Rattle.undoing.specs.Differing as specs;
 ghost use Rattle.snapshot.specs.Carried.{HasCarried};
 ghost use Rattle.snapshot.specs.Pending.{pairs_since};
+ghost use Rattle.snapshot.specs.Touched.{AreUntouched};
 
+use crate::boxed::Boxed;
 use crate::captured::{put_all, put_copies};
 use crate::carrying::{carry, carrying};
 use crate::pending::{copies_of, differing, ids_of, parts_since, parts_to};
+use crate::touched::Touched;
 use board_io::List;
 use delta::Entry;
 use elem::Element;
@@ -26,7 +29,7 @@ use std::marker::Model;
 /// The elements as they were when they were last captured, one for each id, in the order of the ids.
 #[derive(Drop)]
 pub struct Snapshot {
-    elements: Vec<Element>,
+    elements: Vec<Boxed>,
 }
 
 impl Model for Snapshot {
@@ -48,7 +51,7 @@ impl Model for Snapshot {
 /// Elements that are planned to be put into a snapshot, one for each id, in the order of the ids.
 #[derive(Drop)]
 pub struct SnapshotStep {
-    elements: Vec<Element>,
+    elements: Vec<Boxed>,
 }
 
 impl Model for SnapshotStep {
@@ -90,14 +93,17 @@ impl Snapshot {
     }
 
     /// Plans a capture of what will be stored once the changed elements are: the elements to put, and the entry of what
-    /// will have changed since the last capture. There is then room for them; the elements of the snapshot stay, also for
-    /// want of memory.
+    /// will have changed since the last capture. Only the ids that were touched since then and those of the changed elements
+    /// are looked up. There is then room for the elements; those of the snapshot stay, also for want of memory.
     pub fn plan_capture(
         &mut self,
         store: &Store,
+        touched: &Touched,
         changed: &[Element],
     ) -> Result<(SnapshotStep, Entry), AllocError>
-        // Each id of the snapshot is stored, and all that changed would be.
+        // Of each id that isn't touched the snapshot has what is stored. Each id of the snapshot is stored, and all that
+        // changed would be.
+        requires untouched { AreUntouched touched.now self.old.elements store.now.elements }
         requires known { (id : Items ℕ)
             → IsSome (element_of self.old.elements id) → IsSome (element_of store.now.elements id) }
         requires rise { are_rising (ids_of changed.now) ≡ true }
@@ -115,8 +121,8 @@ impl Snapshot {
         ensures elements { self.new.elements ≡ self.old.elements }
     {
         let alloc = *self.elements.allocator();
-        let mut step = differing(alloc, &self.elements, store)?;
-        put_copies(&mut step, changed)?;
+        let mut step = differing(alloc, &self.elements, store, &touched.ids)?;
+        put_copies(alloc, &mut step, changed)?;
         let parts = parts_to(alloc, &self.elements, &step)?;
         self.elements.reserve(step.len())?;
         let entry = Entry {

@@ -10,7 +10,7 @@ returns-in-Ok c =
     let elements = c.args.elements.now.items in
     let x = found _ c.args.id.now c.in-Ok.ensures.found in
     let within : c.in-Ok.i < length elements = slice_get_within elements c.in-Ok.i x.0 x.1 in
-    ap Some c.index.ensures ∙ sym (slice_get-get_or elements c.in-Ok.i c.index.result.now within)
+    ap Some (c.get.ensures ∙ c.index.ensures) ∙ sym (slice_get-get_or elements c.in-Ok.i c.index.result.now within)
     ∙ element-found elements c.args.id.now c.in-Ok.i c.requires c.in-Ok.ensures.found
 
 pub returns-in-Err : goal.returns-in-Err

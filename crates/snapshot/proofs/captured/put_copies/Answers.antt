@@ -18,6 +18,6 @@ loop-e-preserved c =
     let news = c.args.news.now in
     let e = c.e-item.result in
     let within : i < length news = omega arith in
-    c.in_ok-put.ensures.ok ∙ ap (λ (copy : ElementValue). with_put copy c.loop-e.elements.items) c.in_ok-try_clone.ensures ∙ ap (with_put e) c.loop-e.invariant
+    c.in_ok-put.ensures.ok ∙ ap (λ (copy : ElementValue). with_put copy c.loop-e.elements.items) c.in_ok-copy.ensures ∙ ap (with_put e) c.loop-e.invariant
     ∙ sym (ap (λ es. with_all_put es c.args.elements.now.items) (take_more news i e within ∙ ap (λ x. take i news ++ x ∷ []) (sym c.e-item.is))
     ∙ all-append (take i news) (e ∷ []) c.args.elements.now.items)

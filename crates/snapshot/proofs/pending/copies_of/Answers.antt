@@ -7,7 +7,7 @@ use Rattle.elem_store.specs.Updates.{ids_of}
 use Rattle.frac_keys.specs.Rising.{are_rising}
 use Rattle.snapshot.proofs.PendingLaws.{stored-at, rising}
 use Rattle.snapshot.proofs.pending.copies_of.Goals as goal
-use Rattle.snapshot.proofs.pending.copies_of.Goals.{in-Some+in_ok-try_clone+in_ok-push, in_default}
+use Rattle.snapshot.proofs.pending.copies_of.Goals.{in-Some+in_ok-copy+in_ok-push, in_default}
 
 pub loop-i-preserved : goal.loop-i-preserved
 loop-i-preserved c =
@@ -15,11 +15,11 @@ loop-i-preserved c =
     let i = c.loop-i.i in
     record {
       made = elim c.match-at.branch [
-        | in-Some+in_ok-try_clone+in_ok-push w ↦
+        | in-Some+in_ok-copy+in_ok-push w ↦
             let e = w.in-Some.e.now in
             let at = sym w.in-Some.ensures.element in
             rw w.copies-is
-            (w.in_ok-push.ensures.items ∙ ap₂ (λ es (copy : ElementValue). es ++ copy ∷ []) c.loop-i.invariant.made w.in_ok-try_clone.ensures
+            (w.in_ok-push.ensures.items ∙ ap₂ (λ es (copy : ElementValue). es ++ copy ∷ []) c.loop-i.invariant.made w.in_ok-copy.ensures
             ∙ sym (take_more store i e (slice_get_within store i e at) ∙ ap (λ x. take i store ++ x ∷ []) (get_or_from_slice_get store i e e at)))
         | in_default w ↦ absurd (stored-at store i (omega (arith, c.len-i-end.ensures)) w.in_default.ensures.element)
       ];

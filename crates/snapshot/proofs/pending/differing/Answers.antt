@@ -1,23 +1,36 @@
--- Each stored element is put in its turn, or is there already.
-use Rattle.std.proofs.Common.{◌≡◌, option_copied, sym, ap, ◌∙◌, arith}
-use Rattle.elem.specs.ElementValue.{ElementValue}
-use Rattle.elem_store.specs.Updates.{element_of}
-use Rattle.snapshot.proofs.PendingLaws.{stored-at}
-use Rattle.snapshot.proofs.PlanLaws.{differ-more}
+-- What is stored of each id is put in its turn, or is there already.
+use Rattle.std.proofs.Common.{option_copied, sym, ap, ◌∙◌}
+use Rattle.undoing.specs.Carrying.{with_all_put}
+use Rattle.snapshot.proofs.TouchedLaws.{all_found, found-over, found-ordered, found-found, found-all}
 use Rattle.snapshot.proofs.pending.differing.Goals as goal
-use Rattle.snapshot.proofs.pending.differing.Goals.{in-Some+in_ok-put_differing, in_default}
 
-pub loop-i-preserved : goal.loop-i-preserved
-loop-i-preserved c =
+pub put_differing-requires : goal.put_differing-requires
+put_differing-requires c = c.loop-id.invariant.ordered
+
+pub loop-id-preserved : goal.loop-id-preserved
+loop-id-preserved c =
+    let stored = c.args.store.now.elements in
     let captured = c.args.elements.now.items in
-    let store = c.args.store.now.elements in
-    let i = c.loop-i.i in
-    elim c.match-at.branch [
-      | in-Some+in_ok-put_differing w ↦
-          let e = w.in-Some.e.now in
-          let old : option_copied w.find.result ≡ element_of captured e.id = w.find.ensures ∙ ap (element_of captured) (ap (λ (e : ElementValue). e.id) w.e.view_is) in
-          let more = differ-more captured store c.requires c.know_order.ensures i e (sym w.in-Some.ensures.element) c.loop-i.copies.items w.put_differing.new.copies.items
-          (option_copied w.find.result) c.loop-i.invariant.ordered c.loop-i.invariant.over old w.in_ok-put_differing.ensures in
-          record { over = rw w.copies-is more.0; ordered = rw w.copies-is more.1 }
-      | in_default w ↦ absurd (stored-at store i (omega (arith, c.len-i-end.ensures)) w.in_default.ensures.element)
-    ]
+    let id = c.in-Some.id.now in
+    let copies = c.loop-id.copies.items in
+    let new = c.put_differing.new.copies.items in
+    let old = option_copied c.find.result in
+    let own = option_copied c.get.result in
+    let was = c.loop-id.invariant in
+    let put = c.in_ok-put_differing.ensures in
+    record {
+      next = tt;
+      finite = tt;
+      over =
+          ap (all_found stored c.next.new.self) (found-over stored captured c.requires.rise id copies new old was.ordered was.found c.find.ensures own c.get.ensures put)
+          ∙ sym (ap (λ ids. all_found stored ids (with_all_put copies captured)) c.in-Some.ensures.steps) ∙ was.over;
+      ordered = found-ordered stored captured c.requires.rise id copies new old was.ordered was.found c.find.ensures own put;
+      found = found-found stored captured c.requires.rise id copies new old was.ordered was.found c.find.ensures own c.get.ensures put;
+    }
+
+pub returns-clause-over : goal.returns-clause-over
+returns-clause-over c =
+    let stored = c.args.store.now.elements in
+    let captured = c.args.elements.now.items in
+    sym (ap (λ ids. all_found stored ids (with_all_put c.loop-id.copies.items captured)) c.in-None.ensures.steps.0) ∙ c.loop-id.invariant.over
+    ∙ found-all stored captured c.requires.rise c.args.touched.now.keys c.know_order.ensures c.requires.untouched

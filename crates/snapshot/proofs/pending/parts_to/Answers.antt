@@ -10,16 +10,16 @@ use Rattle.snapshot.proofs.PendingLaws.{pairs-more, pairs-less}
 use Rattle.snapshot.proofs.pending.parts_to.Goals as goal
 
 pub note-requires : goal.note-requires
-note-requires c = found-id c.args.elements.now.items c.e-item.result.id (option_copied c.find.result) (c.find.ensures ∙ ap (element_of c.args.elements.now.items) (ap (λ (e : ElementValue). e.id) c.e.view_is))
+note-requires c = found-id c.args.elements.now.items c.get-e.result.now.id (option_copied c.find.result) (c.find.ensures ∙ ap (element_of c.args.elements.now.items) (ap (λ (e : ElementValue). e.id) c.e.view_is))
 
-pub loop-e-preserved : goal.loop-e-preserved
-loop-e-preserved c =
+pub loop-boxed-preserved : goal.loop-boxed-preserved
+loop-boxed-preserved c =
     let elements = c.args.elements.now.items in
     let news = c.args.news.now.items in
-    let i = c.loop-e.e-index in
-    let e = c.e-item.result in
-    let within : i < length news = omega (arith, c.loop-e-test.true) in
-    let at : slice_get news i ≡ Some e = slice_get-get_or news i e within ∙ ap Some (sym (c.e-item.is ∙ ap (λ x. get_or x i e) c.deref-e-items.ensures.value)) in
+    let i = c.loop-boxed.boxed-index in
+    let e = c.get-e.result.now in
+    let within : i < length news = omega (arith, c.loop-boxed-test.true) in
+    let at : slice_get news i ≡ Some e = slice_get-get_or news i c.boxed-item.result within ∙ ap Some (sym (c.get-e.ensures ∙ c.boxed-item.is ∙ ap (λ x. get_or x i c.boxed-item.result) c.deref-boxed-items.ensures.value)) in
     let old : option_copied c.find.result ≡ element_of elements e.id = c.find.ensures ∙ ap (element_of elements) (ap (λ (e : ElementValue). e.id) c.e.view_is) in
     subst (EntryStandsFor c.note.new.parts.items) (ap (λ o. pairs_since elements (take i news) ++ pair_with o e ∷ []) old ∙ pairs-more elements news i e at)
-    (c.in_ok-note.ensures _ c.loop-e.invariant (pairs-less elements news i e at c.requires.news))
+    (c.in_ok-note.ensures _ c.loop-boxed.invariant (pairs-less elements news i e at c.requires.news))

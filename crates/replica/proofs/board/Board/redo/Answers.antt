@@ -12,7 +12,7 @@ use Rattle.replica.proofs.CallLaws.{told-between, turned-from, redo-comes, redo-
 use Rattle.replica.proofs.board.Board.redo.Goals as goal
 
 pub plan_redo-requires-clause-stored : goal.plan_redo-requires-clause-stored
-plan_redo-requires-clause-stored c = λ parts among. c.requires.board.0.redo_ids parts (subst (λ (s : Stacks). Contains s.redo parts) c.reserve.ensures.stacks among)
+plan_redo-requires-clause-stored c = λ parts among. c.requires.board.0.0.redo_ids parts (subst (λ (s : Stacks). Contains s.redo parts) c.reserve.ensures.stacks among)
 
 pub put_step-requires-clause-given : goal.put_step-requires-clause-given
 put_step-requires-clause-given c =
@@ -23,7 +23,7 @@ put_step-requires-clause-given c =
 
 pub returns-clause-ok : goal.returns-clause-ok
 returns-clause-ok c =
-    let sound = c.requires.board.0 in
+    let sound = c.requires.board.0.0 in
     let planned = c.in_ok-planned.planned in
     let old : Told = told c.args.self.now in
     let mid : Told = record { stored = old.stored; view = old.view; snapshot = c.plan_capture.new.self.elements; stacks = c.reserve.new.self.stacks } in

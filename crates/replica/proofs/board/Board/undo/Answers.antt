@@ -14,12 +14,12 @@ use Rattle.replica.proofs.board.Board.undo.Goals as goal
 
 pub plan_undo-requires-clause-pending : goal.plan_undo-requires-clause-pending
 plan_undo-requires-clause-pending c =
-    let sound = c.requires.board.0 in
+    let sound = c.requires.board.0.0 in
     pending-ids c.args.self.now.snapshot.elements c.args.self.now.store.elements c.in_ok-captured.pending sound.stored_rise
     (c.in_ok-captured.ensures.entry sound.snapshot_elements sound.stored_elements (All-nil (λ e. IsElement e × HasValidTexts e)))
 
 pub plan_undo-requires-clause-stored : goal.plan_undo-requires-clause-stored
-plan_undo-requires-clause-stored c = λ parts among. c.requires.board.0.undo_ids parts (subst (λ (s : Stacks). Contains s.undo parts) c.reserve.ensures.stacks among)
+plan_undo-requires-clause-stored c = λ parts among. c.requires.board.0.0.undo_ids parts (subst (λ (s : Stacks). Contains s.undo parts) c.reserve.ensures.stacks among)
 
 pub put_step-requires-clause-given : goal.put_step-requires-clause-given
 put_step-requires-clause-given c =
@@ -30,7 +30,7 @@ put_step-requires-clause-given c =
 
 pub returns-clause-ok : goal.returns-clause-ok
 returns-clause-ok c =
-    let sound = c.requires.board.0 in
+    let sound = c.requires.board.0.0 in
     let planned = c.in_ok-planned.planned in
     let old : Told = told c.args.self.now in
     let mid : Told = record { stored = old.stored; view = old.view; snapshot = c.plan_capture.new.self.elements; stacks = c.reserve.new.self.stacks } in

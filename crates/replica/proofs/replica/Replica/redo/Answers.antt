@@ -4,17 +4,19 @@ use Rattle.replica.proofs.ReplicaLaws.{redo-told, redo-answers, redo-faults, red
 use Rattle.replica.proofs.replica.Replica.redo.Goals as goal
 
 pub invariant_of-self : goal.invariant_of-self
-invariant_of-self c =
-    redo-told (told c.self.inside.board) (told c.redo.new.self) c.self.inside.held c.args.self.now c.self.view_is c.self.invariant c.args.time c.args.nonce c.requires.time c.requires.nonce c.redo.result c.redo.ensures.ok c.redo.ensures.err
+invariant_of-self c = (
+  redo-told (told c.self.inside.board) (told c.redo.new.self) c.self.inside.held c.args.self.now c.self.view_is c.self.invariant.0 c.args.time c.args.nonce c.requires.time c.requires.nonce c.redo.result c.redo.ensures.ok c.redo.ensures.err,
+  c.redo.ensures.untouched,
+)
 
 pub returns-clause-step : goal.returns-clause-step
 returns-clause-step c =
-    redo-answers (told c.self.inside.board) (told c.redo.new.self) c.self.inside.held c.args.self.now c.self.view_is c.self.invariant c.args.time c.args.nonce c.requires.time c.requires.nonce c.redo.result c.redo.ensures.ok
+    redo-answers (told c.self.inside.board) (told c.redo.new.self) c.self.inside.held c.args.self.now c.self.view_is c.self.invariant.0 c.args.time c.args.nonce c.requires.time c.requires.nonce c.redo.result c.redo.ensures.ok
 
 pub returns-clause-full : goal.returns-clause-full
 returns-clause-full c =
-    redo-faults (told c.self.inside.board) (told c.redo.new.self) c.self.inside.held c.args.self.now c.self.view_is c.self.invariant c.args.time c.args.nonce c.requires.time c.requires.nonce c.redo.result c.redo.ensures.full
+    redo-faults (told c.self.inside.board) (told c.redo.new.self) c.self.inside.held c.args.self.now c.self.view_is c.self.invariant.0 c.args.time c.args.nonce c.requires.time c.requires.nonce c.redo.result c.redo.ensures.full
 
 pub returns-clause-after : goal.returns-clause-after
 returns-clause-after c =
-    redo-after (told c.self.inside.board) (told c.redo.new.self) c.self.inside.held c.args.self.now c.self.view_is c.self.invariant c.args.time c.args.nonce c.requires.time c.requires.nonce c.redo.result c.redo.ensures.ok
+    redo-after (told c.self.inside.board) (told c.redo.new.self) c.self.inside.held c.args.self.now c.self.view_is c.self.invariant.0 c.args.time c.args.nonce c.requires.time c.requires.nonce c.redo.result c.redo.ensures.ok

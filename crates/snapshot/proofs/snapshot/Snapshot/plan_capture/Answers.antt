@@ -8,9 +8,14 @@ use Rattle.undoing.specs.Carrying.{with_all_put, taken_all}
 use Rattle.undoing.proofs.DifferingLaws.{pending-stands}
 use Rattle.undoing.proofs.TakenLaws.{taken_all-elements}
 use Rattle.snapshot.specs.Pending.{pairs_since}
+use Rattle.snapshot.specs.Touched.{is_among}
 use Rattle.snapshot.proofs.PutLaws.{all-rise}
 use Rattle.snapshot.proofs.PlanLaws.{plan-step, stands-over}
 use Rattle.snapshot.proofs.snapshot.Snapshot.plan_capture.Goals as goal
+
+pub differing-requires-clause-untouched : goal.differing-requires-clause-untouched
+differing-requires-clause-untouched c id f =
+    ap (λ (s : Stock). element_of s.elements id) c.self.view_is ∙ c.requires.untouched id (ap (λ ids. is_among ids id) (sym c.touched.view_is) ∙ f)
 
 pub parts_to-requires-clause-news : goal.parts_to-requires-clause-news
 parts_to-requires-clause-news c =

@@ -1,0 +1,201 @@
+//! A store, a snapshot of it and its history, on which calls are made one after another.
+
+use crate::samples::framed;
+use crate::told::{push_element, push_entry, push_pending, push_stacks};
+use board_io::{List, Stop};
+use delta::{Entry, VersionFull};
+use elem::Element;
+use elem_store::Store;
+use history::{History, Step};
+use snapshot::{Snapshot, Touched};
+use std::alloc::Global;
+use std::marker::Model;
+use std::slice;
+use std::test::Fail;
+
+/// What is done on a desk.
+#[derive(Clone, Copy)]
+pub(crate) enum Act {
+    /// An update of this kind, id, version and frame is taken.
+    Take(&'static str, &'static str, u64, &'static str),
+    /// An update of this id and version is taken that deletes the rectangle.
+    Delete(&'static str, u64),
+    /// What has changed since the last capture is captured and noted.
+    Capture,
+    /// The same, planned and then put.
+    CapturePlanned,
+    /// The ids of what has changed since the last capture are told.
+    Pending,
+    /// An entry is undone, and what that gives is taken.
+    Undo,
+    /// The same, planned and then put.
+    UndoPlanned,
+    /// An undo is undone, and what that gives is taken.
+    Redo,
+}
+
+/// The store, the snapshot with the ids that were stored since it was taken, and the history. Each id that the snapshot or
+/// an entry has is stored; of each id that isn't touched the snapshot has what is stored.
+#[derive(Drop)]
+struct Desk {
+    store: Store,
+    snapshot: Snapshot,
+    touched: Touched,
+    history: History,
+}
+
+impl Model for Desk {
+    ghost use Rattle.std.specs.Prelude.{List};
+    ghost use Rattle.elem.specs.ElementValue.{ElementValue};
+    ghost use Rattle.snapshot.specs.Touched.{AreUntouched};
+    ghost use Rattle.rows.specs.Desks.{IsDesk};
+
+    ghost Value = { List ElementValue };
+
+    ghost view = { λ d. d.store.elements };
+
+    ghost invariant = { λ d. IsDesk d.store.elements d.snapshot.elements d.history.stacks
+        × AreUntouched d.touched d.snapshot.elements d.store.elements };
+}
+
+/// What is told of acts on a new desk: of a capture its entry, of an undo or a redo what it gives, and how many entries
+/// can be undone and redone then.
+pub(crate) fn told_of(alloc: Global, acts: &[Act]) -> Result<Vec<u8>, Fail> {
+    let mut desk = Desk::new(alloc);
+    let mut told = Vec::new(alloc);
+    for act in acts {
+        desk.act(alloc, act, &mut told)?;
+    }
+    Ok(told)
+}
+
+impl Desk {
+    /// With nothing.
+    fn new(alloc: Global) -> Desk {
+        Desk {
+            store: Store::new(alloc),
+            snapshot: Snapshot::new(alloc),
+            touched: Touched::new(alloc),
+            history: History::new(alloc),
+        }
+    }
+
+    /// Does what an act says.
+    fn act(&mut self, alloc: Global, act: &Act, told: &mut Vec<u8>) -> Result<(), Fail> {
+        match act {
+            Act::Take(kind, id, version, frame) => {
+                self.take(framed(alloc, kind, id, (*version, frame, false))?)
+            }
+            Act::Delete(id, version) => {
+                self.take(framed(alloc, "rectangle", id, (*version, "f", true))?)
+            }
+            Act::Capture => {
+                self.capture(told)?;
+                self.tell_stacks(told)
+            }
+            Act::CapturePlanned => {
+                self.capture_planned(told)?;
+                self.tell_stacks(told)
+            }
+            Act::Pending => self.pending(told),
+            Act::Undo => self.undo(told),
+            Act::UndoPlanned => self.undo_planned(alloc, told),
+            Act::Redo => self.redo(told),
+        }
+    }
+
+    /// Takes an update.
+    fn take(&mut self, e: Element) -> Result<(), Fail> {
+        self.touched.touch(slice::from_ref(&e))?;
+        match self.store.take(e) {
+            Ok(_) => Ok(()),
+            Err(_) => Err(Fail::from("memory")),
+        }
+    }
+
+    /// Captures what has changed, and notes it.
+    fn capture(&mut self, told: &mut Vec<u8>) -> Result<(), Fail> {
+        let entry = self.snapshot.capture(&self.store)?;
+        self.touched.clear();
+        push_entry(told, &entry)?;
+        self.history.note(entry)?;
+        Ok(())
+    }
+
+    /// Plans a capture, puts it and notes it.
+    fn capture_planned(&mut self, told: &mut Vec<u8>) -> Result<(), Fail> {
+        let (step, entry) = self.snapshot.plan_capture(&self.store, &self.touched, &[])?;
+        self.snapshot.put(step);
+        self.touched.clear();
+        push_entry(told, &entry)?;
+        self.history.note(entry)?;
+        Ok(())
+    }
+
+    /// Tells what has changed.
+    fn pending(&self, told: &mut Vec<u8>) -> Result<(), Fail> {
+        let ids = self.snapshot.pending(&self.store)?;
+        push_pending(told, ids.as_slice())?;
+        Ok(())
+    }
+
+    /// Takes an entry back.
+    fn undo(&mut self, told: &mut Vec<u8>) -> Result<(), Fail> {
+        let answer = self.history.undo(&self.store, 9, 8);
+        self.settle(told, answer)
+    }
+
+    /// Takes an undo back.
+    fn redo(&mut self, told: &mut Vec<u8>) -> Result<(), Fail> {
+        let answer = self.history.redo(&self.store, 9, 8);
+        self.settle(told, answer)
+    }
+
+    /// Plans to take an entry back where nothing is pending, and puts it.
+    fn undo_planned(&mut self, alloc: Global, told: &mut Vec<u8>) -> Result<(), Fail> {
+        let pending = Entry {
+            parts: List::new(alloc),
+        };
+        self.history.reserve()?;
+        match self.history.plan_undo(pending, &self.store, 9, 8) {
+            Ok((step, answer)) => {
+                self.history.put(step);
+                self.settle(told, Ok(answer))
+            }
+            Err(stop) => self.settle(told, Err(stop)),
+        }
+    }
+
+    /// Tells the answer of a step, and takes what it gives.
+    fn settle(
+        &mut self,
+        told: &mut Vec<u8>,
+        answer: Result<Step, Stop<VersionFull>>,
+    ) -> Result<(), Fail> {
+        match answer {
+            Ok(Step::Done(given)) => self.take_all(told, given)?,
+            Ok(Step::Nothing) => told.extend_from_slice(b"nothing ")?,
+            Err(Stop::Fault(VersionFull(id))) => {
+                told.extend_from_slice(id.as_bytes())?;
+                told.extend_from_slice(b" is full ")?;
+            }
+            Err(Stop::Memory) => return Err(Fail::from("memory")),
+        }
+        self.tell_stacks(told)
+    }
+
+    /// Tells how many entries can be undone and redone.
+    fn tell_stacks(&self, told: &mut Vec<u8>) -> Result<(), Fail> {
+        push_stacks(told, &self.history)?;
+        Ok(())
+    }
+
+    /// Takes what a step gives.
+    fn take_all(&mut self, told: &mut Vec<u8>, given: List<Element>) -> Result<(), Fail> {
+        for e in given.into_vec() {
+            push_element(told, &e)?;
+            self.take(e)?;
+        }
+        Ok(())
+    }
+}
