@@ -31,5 +31,5 @@ returns-then-branch-clause-view c =
 pub returns-clause-view : goal.returns-clause-view
 returns-clause-view c =
     let stored = c.args.store.now.elements in
-    c.drop.view_is ∙ (c.in_ok-self-inside.ensures ∙ ap live_elements
+    c.drop-2.view_is ∙ (c.in_ok-self-inside.ensures ∙ ap live_elements
     (taken_all-is stored stored c.args.changed.now c.in_ok-store.store.elements (AreStored-itself stored c.in_ok-store.ensures.ordered) c.in_ok-store.ensures.stored))
