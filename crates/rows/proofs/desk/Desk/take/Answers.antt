@@ -7,12 +7,6 @@ use Rattle.rows.specs.Desks.{IsDesk}
 use Rattle.rows.proofs.DeskLaws.{either-way, taken-desk, taken-untouched}
 use Rattle.rows.proofs.desk.Desk.take.Goals as goal
 
-pub invariant_of-self-in_err-touch : goal.invariant_of-self-in_err-touch
-invariant_of-self-in_err-touch c = (
-  c.self.invariant.0,
-  untouched-grown c.self.inside.touched c.touch.new.self c.self.inside.snapshot.elements c.self.inside.store.elements c.touch.ensures.kept c.self.invariant.1,
-)
-
 pub invariant_of-self-2 : goal.invariant_of-self-2
 invariant_of-self-2 c =
     let stored = c.self.inside.store.elements in
