@@ -288,9 +288,11 @@ followed-more live mid after news i e rising within there so_far one = record { 
         last (Some x) = refl
 
 -- ---- a view that is kept twice
-pub twin-followed : (old new news : List Drawn) (twin : Option (List Drawn)) → HaveFollowed old news new → IfSome twin (HaveFollowed old news) → IfSome twin (λ t. t ≡ new)
-twin-followed old new news None has is = tt
-twin-followed old new news (Some t) has is = same-followed old news t new is has
+pub twin-followed : (old new news : List Drawn) (twin after : Option (List Drawn)) → IfSome twin (λ t. t ≡ old) → HaveFollowed old news new → IfSome after (λ a. IfSome twin (λ b. HaveFollowed b news a)) → (IsSome after → IsSome twin)
+    → IfSome after (λ t. t ≡ new)
+twin-followed old new news twin None same has is there = tt
+twin-followed old new news None (Some a) same has is there = let never : false ≡ true = there refl in cc
+twin-followed old new news (Some b) (Some a) same has is there = same-followed old news a new (subst (λ es. HaveFollowed es news a) same is) has
 
 pub twin-redrawn : (old new : List Drawn) (e : Drawn) (twin after : Option (List Drawn)) → IfSome twin (λ t. t ≡ old) → HasRedrawn old e new → IfSome after (λ a. IfSome twin (λ b. HasRedrawn b e a)) → (IsSome after → IsSome twin)
     → IfSome after (λ t. t ≡ new)

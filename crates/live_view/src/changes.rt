@@ -68,6 +68,9 @@ impl LiveView {
         ensures old { OnErr result (self.new ≡ self.old) }
         ensures other { result ≡ Ok false → self.new ≡ self.old }
     {
+        if !self.is_small(ids.len()) {
+            return Ok(false);
+        }
         let alloc = self.kept.allocator();
         match picked(alloc, store, ids)? {
             Some(news) => self.follow(&news),
@@ -98,19 +101,30 @@ impl LiveView {
         ensures old { OnErr result (self.new ≡ self.old) }
         ensures other { result ≡ Ok false → self.new ≡ self.old }
     {
+        if !self.is_small(changed.len()) {
+            return Ok(false);
+        }
         let alloc = self.kept.allocator();
         let news = taken_of(alloc, store, changed)?;
         self.follow(&news)
     }
 
-    /// Makes this the view of the store anew. For want of memory it is unchanged.
+    /// Whether a change of so many elements is followed near them: where more of the board changes, a view made anew costs
+    /// less.
+    fn is_small(&self, changed: usize) -> bool {
+        changed <= 4 + self.kept.len() / 8
+    }
+
+    /// Makes this the view of the store anew, twice, so that no change near its elements copies all of it. For want of
+    /// memory it is unchanged.
     fn renew(&mut self, store: &Store) -> Result<(), AllocError>
         ensures view { OnOk result (self.new ≡ live_elements store.now.elements) }
         ensures err { OnErr result (self.new ≡ self.old) }
     {
         let alloc = self.kept.allocator();
         let kept = kept_of(alloc, store)?;
-        *self = LiveView { kept, twin: None };
+        let twin = kept.copied().ok();
+        *self = LiveView { kept, twin };
         Ok(())
     }
 }

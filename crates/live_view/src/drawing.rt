@@ -4,6 +4,7 @@ ghost use Rattle.std.specs.Prelude.{◌≡◌, true, IfOk};
 ghost use Rattle.std.specs.List.{list_all};
 ghost use Rattle.frac_keys.specs.Rising.{are_rising};
 ghost use Rattle.elem_store.specs.Updates.{ids_of};
+ghost use Rattle.links.specs.Rows.{has_row};
 ghost use Rattle.live_view.specs.Reached.{HaveRowsOf};
 ghost use Rattle.view.specs.Settled.{settled};
 ghost use Rattle.view.specs.Shown.{is_live, live_elements, placed, shown, HaveDistinctIds, HaveKeysOrNone};
@@ -15,8 +16,9 @@ use board_io::List;
 use elem::Element;
 use elem_store::Store;
 use frames_groups::{settle_frames, settle_groups};
-use links::{LinkTable, settle_arrows, settle_texts};
+use links::{LinkRow, LinkTable, settle_arrows, settle_texts};
 use std::alloc::{AllocError, Global};
+use std::cmp::Ordering;
 use view::with_repaired_keys;
 
 /// What is kept of a store. Fails only for want of memory.
@@ -38,11 +40,27 @@ pub(crate) fn table_of(alloc: Global, live: &Vec<Element>) -> Result<LinkTable, 
     requires { HaveDistinctIds live.now.items }
     ensures { IfOk result (λ table. HaveRowsOf live.now.items table.rows) }
 {
-    let rows = rows_of_all(alloc, live)?;
+    let rows = in_order(rows_of_all(alloc, live)?)?;
     let mut table = LinkTable::new(alloc);
     table.reserve(rows.as_slice().len())?;
     table.replace(&List::new(alloc), rows);
     Ok(table)
+}
+
+/// The rows in the order of a table, in which each of them is then put behind all others.
+fn in_order(rows: List<LinkRow>) -> Result<List<LinkRow>, AllocError>
+    ensures { IfOk result (λ ordered. (row : LinkRow) → has_row ordered row ≡ has_row rows row) }
+{
+    let mut rows = rows.into_vec();
+    rows.sort_by(row_order)?;
+    Ok(List::from_vec(rows))
+}
+
+/// The order of rows: by the named id, and then by the namer.
+fn row_order(row: &LinkRow, other: &LinkRow) -> Ordering {
+    row.named
+        .cmp(&other.named)
+        .then(row.namer.cmp(&other.namer))
 }
 
 /// The live elements of a store, in the order of their ids.

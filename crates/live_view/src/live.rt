@@ -15,6 +15,9 @@ use std::alloc::{AllocError, Global};
 use std::marker::Model;
 use std::mem;
 
+/// The most elements that are followed one after the other: each that comes or goes moves the tail of the arrays.
+const MOST_MOVED: usize = 32;
+
 /// What a board shows, kept under changes. Contracts see the live elements that it is of, as stored, in the order of their
 /// ids.
 ///
@@ -80,20 +83,54 @@ impl LiveView {
         Ok(true)
     }
 
-    /// Follows what is stored of the ids of these elements, and tells whether it is found near their places. For want of
-    /// memory nothing changes.
+    /// Follows what is stored of the ids of these elements, and tells whether it is found near their places: those that keep
+    /// their places at once, others one after the other, if they are few. For want of memory nothing changes.
     pub(crate) fn follow(&mut self, news: &Vec<Element>) -> Result<bool, AllocError>
         requires { are_rising (ids_of news.now.items) ≡ true }
         ensures new { result ≡ Ok true → HaveFollowed self.old news.now.items self.new }
         ensures old { OnErr result (self.new ≡ self.old) }
         ensures other { result ≡ Ok false → self.new ≡ self.old }
     {
+        if self.replace(news)? {
+            return Ok(true);
+        }
+        if news.len() > MOST_MOVED {
+            return Ok(false);
+        }
+        self.follow_each(news)
+    }
+
+    /// Lets elements take the places of those of their ids, if none is deleted and each is held with the same index, and
+    /// tells whether they do. For want of memory nothing changes.
+    fn replace(&mut self, news: &Vec<Element>) -> Result<bool, AllocError>
+        requires { are_rising (ids_of news.now.items) ≡ true }
+        ensures new { result ≡ Ok true → HaveFollowed self.old news.now.items self.new }
+        ensures old { OnErr result (self.new ≡ self.old) }
+        ensures other { result ≡ Ok false → self.new ≡ self.old }
+    {
+        let twin = self.twin.take();
+        if !self.kept.replace_live(news)? {
+            self.twin = twin;
+            return Ok(false);
+        }
+        self.twin = followed_twin(twin, news);
+        Ok(true)
+    }
+
+    /// Follows elements one after the other in the twin, which then changes places with what is kept. For want of memory
+    /// nothing changes.
+    fn follow_each(&mut self, news: &Vec<Element>) -> Result<bool, AllocError>
+        requires { are_rising (ids_of news.now.items) ≡ true }
+        ensures new { result ≡ Ok true → HaveFollowed self.old news.now.items self.new }
+        ensures old { OnErr result (self.new ≡ self.old) }
+        ensures other { result ≡ Ok false → self.new ≡ self.old }
+    {
         let mut kept = self.twin_or_copy()?;
-        if !kept.follow(news)? {
+        if !kept.follow_each(news)? {
             return Ok(false);
         }
         mem::swap(&mut self.kept, &mut kept);
-        self.twin = followed_twin(kept, news);
+        self.twin = followed_twin(Some(kept), news);
         Ok(true)
     }
 
@@ -122,11 +159,12 @@ fn redrawn_twin(twin: Option<Kept>, new: &Element) -> Option<Kept>
 }
 
 /// The twin after it followed these elements, unless it is lost for want of memory.
-fn followed_twin(kept: Kept, news: &Vec<Element>) -> Option<Kept>
+fn followed_twin(twin: Option<Kept>, news: &Vec<Element>) -> Option<Kept>
     requires { are_rising (ids_of news.now.items) ≡ true }
-    ensures { IfSome result (HaveFollowed kept news.now.items) }
+    ensures followed { IfSome result (λ after. IfSome twin (λ before. HaveFollowed before news.now.items after)) }
+    ensures there { IsSome result → IsSome twin }
 {
-    let mut twin = kept;
+    let mut twin = twin?;
     match twin.follow(news) {
         Ok(true) => Some(twin),
         _ => None,

@@ -1,6 +1,6 @@
 //! Elements that are followed one after the other.
 
-ghost use Rattle.std.specs.Prelude.{◌≡◌, [], ◌∷◌, Ok, true, false};
+ghost use Rattle.std.specs.Prelude.{◌≡◌, [], ◌∷◌, Ok, true, false, OnErr};
 ghost use Rattle.frac_keys.specs.Rising.{are_rising};
 ghost use Rattle.elem_store.specs.Updates.{ids_of};
 ghost use Rattle.live_view.specs.Following.{HaveFollowed};
@@ -17,6 +17,11 @@ impl Kept {
         *self.live.allocator()
     }
 
+    /// How many live elements there are.
+    pub(crate) fn len(&self) -> usize {
+        self.live.len()
+    }
+
     /// Follows what is stored of the ids of these elements: all of them in their places at once, or one after the other. It
     /// tells whether all are found near their places; otherwise, and for want of memory, some may be followed.
     pub(crate) fn follow(&mut self, news: &Vec<Element>) -> Result<bool, AllocError>
@@ -29,10 +34,11 @@ impl Kept {
         self.follow_each(news)
     }
 
-    /// Replaces elements, if none is deleted and each is held with the same index.
-    fn replace_live(&mut self, news: &Vec<Element>) -> Result<bool, AllocError>
+    /// Replaces elements, if none is deleted and each is held with the same index. For want of memory nothing changes.
+    pub(crate) fn replace_live(&mut self, news: &Vec<Element>) -> Result<bool, AllocError>
         requires { are_rising (ids_of news.now.items) ≡ true }
         ensures new { result ≡ Ok true → HaveFollowed self.old news.now.items self.new }
+        ensures old { OnErr result (self.new ≡ self.old) }
         ensures other { result ≡ Ok false → self.new ≡ self.old }
     {
         if are_live(news) {
@@ -42,8 +48,9 @@ impl Kept {
         }
     }
 
-    /// Follows elements one after the other.
-    fn follow_each(&mut self, news: &Vec<Element>) -> Result<bool, AllocError>
+    /// Follows elements one after the other. It tells whether all are found near their places; otherwise, and for want of
+    /// memory, some may be followed.
+    pub(crate) fn follow_each(&mut self, news: &Vec<Element>) -> Result<bool, AllocError>
         requires { are_rising (ids_of news.now.items) ≡ true }
         ensures { result ≡ Ok true → HaveFollowed self.old news.now.items self.new }
     {
