@@ -1,4 +1,4 @@
-use Rattle.std.proofs.Common.{◌≡◌, ℕ, ◌+◌, ◌-◌, List, [], ◌++◌, None, Ok, length, drop, take, length-drop, refl, sym, ap, subst, ◌∙◌, arith}
+use Rattle.std.proofs.Common.{◌≡◌, not, ℕ, ◌+◌, ◌-◌, List, [], ◌++◌, None, Ok, length, drop, take, length-drop, refl, sym, ap, subst, ◌∙◌, arith}
 use Rattle.std.proofs.lemmas.List.{take_all, drop_all, drop-drop}
 use Rattle.intake.specs.Texts.{IsLed, StandsIn}
 use Rattle.intake.proofs.Leads.{stands_more, used_so_far, stands_stopped, none_of}
@@ -20,7 +20,7 @@ texts-init g c = record {
 
 pub texts-smaller-in-On : goal.texts-smaller-in-On
 texts-smaller-in-On g c =
-    let none = none_of c.texts.stop (sym c.is_none.ensures ∙ c.texts-test.true) in
+    let none = none_of c.texts.stop (ap not (c.is_none.ensures ∙ ap not c.texts-test.true)) in
     rw none (omega (arith, width_of c.args.piece.now c.texts.at, c.in_ok-used.ensures.less c.in-On.used (ap Ok c.in-On.is), c.in_ok-used.ensures.within c.in-On.used (ap Ok c.in-On.is)))
 
 pub texts-preserved-in-On : goal.texts-preserved-in-On
@@ -28,7 +28,7 @@ texts-preserved-in-On g c =
     let piece = c.args.piece.now in
     let at = c.texts.at in
     let used = c.in-On.used in
-    let none = none_of c.texts.stop (sym c.is_none.ensures ∙ c.texts-test.true) in
+    let none = none_of c.texts.stop (ap not (c.is_none.ensures ∙ ap not c.texts-test.true)) in
     let width = width_of piece at in
     let within = c.in_ok-used.ensures.within used (ap Ok c.in-On.is) in
     record {
@@ -48,7 +48,7 @@ pub texts-preserved-in-Faulty : goal.texts-preserved-in-Faulty
 texts-preserved-in-Faulty g c =
     let piece = c.args.piece.now in
     let at = c.texts.at in
-    let none = none_of c.texts.stop (sym c.is_none.ensures ∙ c.texts-test.true) in
+    let none = none_of c.texts.stop (ap not (c.is_none.ensures ∙ ap not c.texts-test.true)) in
     record {
       within = c.texts.invariant.within;
       fits = λ is. absurd (cc);
@@ -63,7 +63,7 @@ pub texts-preserved : goal.texts-preserved
 texts-preserved g c =
     let piece = c.args.piece.now in
     let at = c.texts.at in
-    let none = none_of c.texts.stop (sym c.is_none.ensures ∙ c.texts-test.true) in
+    let none = none_of c.texts.stop (ap not (c.is_none.ensures ∙ ap not c.texts-test.true)) in
     record {
       within = c.texts.invariant.within;
       fits = λ is. absurd (cc);
@@ -82,4 +82,4 @@ returns-else-at-piece g c stream h =
 pub returns-after-texts : goal.returns-after-texts
 returns-after-texts g c stream h =
     stands_stopped g.R.Reader.has_read g.R.Reader.refuses (stream ++ c.args.piece.now) c.args.piece.now c.texts.feed c.texts.reader (drop c.texts.at c.args.piece.now) c.texts.stop
-    (sym c.is_none.ensures ∙ c.texts-test.false) (c.texts.invariant.stands stream h)
+    (ap not (c.is_none.ensures ∙ ap not c.texts-test.false)) (c.texts.invariant.stands stream h)
