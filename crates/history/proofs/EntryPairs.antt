@@ -201,9 +201,9 @@ module _ (store : List ElementValue) (are : AreElements store) where
           let own = turns.given-each store time nonce pairs e c in
           let of = from-pair own.pair own.now own.among own.found in
           let all = gives.all of.0 of.1.at.among in
-          let one : all.0 ≡ own.now = same_Some all.0 own.now (sym all.2.stored ∙ of.1.at.stored) in
-          let same : all.1 ≡ undone own.pair own.now = of.1.once all.1 (subst (λ now. Reverts of.0 now all.1) one all.3) in
-          elim all.4 [
+          let one : all.now ≡ own.now = same_Some all.now own.now (sym all.at.stored ∙ of.1.at.stored) in
+          let same : all.reverted ≡ undone own.pair own.now = of.1.once all.reverted (subst (λ now. Reverts of.0 now all.reverted) one all.reverts) in
+          elim all.comes [
             | inl still ↦ absurd (of.1.differ own.differs (sym (ap unstamped one) ∙ still ∙ ap unstamped same))
             | inr among ↦ subst (Contains es) (ap (stamped time nonce) same ∙ sym own.is) among
           ]
@@ -211,14 +211,14 @@ module _ (store : List ElementValue) (are : AreElements store) where
       in-given : (e : ElementValue) → Contains es e → Contains (given store time nonce pairs) e
       in-given e c =
           let own = gives.each e c in
-          let of = from-part own.0 own.1 own.2 own.3 own.4 in
+          let of = from-part own.part own.now own.reverted own.at own.reverts in
           turns.given-all store time nonce pairs e (record {
             pair = of.0;
-            now = own.1;
+            now = own.now;
             among = of.1.among;
             found = of.1.found;
-            differs = of.1.differ own.5;
-            is = own.6 ∙ ap (stamped time nonce) of.1.once;
+            differs = of.1.differ own.differs;
+            is = own.is ∙ ap (stamped time nonce) of.1.once;
           })
 
       -- the elements of a step are those that undoing the pairs gives

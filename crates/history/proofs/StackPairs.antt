@@ -159,9 +159,9 @@ module _ (store : List ElementValue) (are : AreElements store) where
 pub step-taken : (store es : List ElementValue) (time nonce : ℕ) (from to below grown : List (List Delta)) → HasStepped store time nonce es from to below grown → (e : ElementValue) → Contains es e → IsSome (element_of store e.id) × (is_taken store e ≡ true)
 step-taken store es time nonce from to below grown stepped e c =
     let own = stepped.step.gives.each e c in
-    let now = own.1 in
-    let stored : element_of store e.id ≡ Some now = ap (element_of store) (sym (came-id store time nonce own.0 now own.2 e own.3.stored own.4.kept own.6)) ∙ own.3.stored in
-    let version : e.version ≡ now.version + 1 = ap (λ (d : ElementValue). d.version) own.6 ∙ ap (λ n. n + 1) own.4.kept.version in
+    let now = own.now in
+    let stored : element_of store e.id ≡ Some now = ap (element_of store) (sym (came-id store time nonce own.part now own.reverted e own.at.stored own.reverts.kept own.is)) ∙ own.at.stored in
+    let version : e.version ≡ now.version + 1 = ap (λ (d : ElementValue). d.version) own.is ∙ ap (λ n. n + 1) own.reverts.kept.version in
     let newer : now.version < e.version = omega (arith, version) in (
       subst IsSome (sym stored) refl,
       ap (is_newer e) stored

@@ -1,5 +1,5 @@
 -- Steps that grow by a part, and the least id that stops one.
-use Rattle.std.proofs.Common.{◌≡◌, ◌⊎◌, ℕ, zero, suc, ◌+◌, ◌<◌, length, take, drop, get_or, take-append-drop, append_assoc, map, reverse, Bool, true, false, ◌&&◌, if◌then◌else◌, List, [], ◌∷◌, ◌++◌, Some, None, IsSome, Contains, refl, sym, ap, ◌∙◌, subst, subst₂, inl, inr, arith}
+use Rattle.std.proofs.Common.{◌≡◌, ◌⊎◌, ℕ, zero, suc, ◌+◌, ◌<◌, length, take, drop, get_or, take-append-drop, append_assoc, append-nil, map, reverse, Bool, true, false, ◌&&◌, if◌then◌else◌, List, [], ◌∷◌, ◌++◌, Some, None, IsSome, Contains, refl, sym, ap, ◌∙◌, subst, subst₂, inl, inr, arith}
 use Rattle.std.proofs.lemmas.Bool.{cases_Bool}
 use Rattle.std.proofs.lemmas.List.{map-append, take_more}
 use Rattle.std.proofs.lemmas.List.Elements.{Contains-append_left, Contains-append_right, Contains-append_cases, Contains-push, Contains-push_cases}
@@ -25,7 +25,7 @@ use Rattle.delta.proofs.PartLaws.{applied-apart}
 use Rattle.delta.proofs.RisingIds.{Contains-map, rising-push, rising-front, earlier_less, later_greater}
 use Rattle.history.proofs.PlanLaws.{reverse-cons}
 use Rattle.history.specs.Stacks.{OnFull, HasStepped, HasStoredIds, HaveStoredIds}
-use Rattle.history.specs.Steps.{stamped, Reverts, IsNow, IsFull, IsFullId, IsLeastFull, IsStep, ComesOf}
+use Rattle.history.specs.Steps.{stamped, Reverts, IsNow, IsFull, IsFullId, IsLeastFull, PartHasGiven, IsGivenByPart, IsStep, ComesOf}
 
 pub reverse-Contains : {X : Type 0} (xs : List X) (x : X) → Contains (reverse xs) x → Contains xs x
 reverse-Contains [] x c = absurd (omega (arith, c.1))
@@ -67,25 +67,47 @@ module _ (store : List ElementValue) (time nonce : ℕ) (parts : List Delta) (gi
         not (subst₂ IsFull (sym same) (same_Some full.1 now (sym full.2.stored ∙ ap (λ (q : Delta). element_of store q.id) (sym same) ∙ stored)) full.3)
   ]
 
+  -- what is given of a part is so in a longer step
+  given-longer : (e : ElementValue) → IsGivenByPart parts store time nonce e → IsGivenByPart (parts ++ part ∷ []) store time nonce e
+  given-longer e old = record {
+    part = old.part;
+    now = old.now;
+    reverted = old.reverted;
+    at = longer old.part old.now old.at;
+    reverts = old.reverts;
+    differs = old.differs;
+    is = old.is;
+  }
+
   -- what a longer step says of each part
   abbrev Comes : List ElementValue → Delta → Type 0
-  Comes es q =
-      (x : ElementValue) × (reverted : ElementValue) × IsNow (parts ++ part ∷ []) store q x × Reverts q x reverted
-      × ((unstamped x ≡ unstamped reverted) ⊎ Contains es (stamped time nonce reverted))
+  Comes es q = PartHasGiven (parts ++ part ∷ []) store time nonce es q
+
+  comes-longer : (more : List ElementValue) (q : Delta) → PartHasGiven parts store time nonce given q → Comes (given ++ more) q
+  comes-longer more q old = record {
+    now = old.now;
+    reverted = old.reverted;
+    at = longer q old.now old.at;
+    reverts = old.reverts;
+    comes = elim old.comes [
+      | inl same ↦ inl same
+      | inr among ↦ inr (Contains-append_left given more (stamped time nonce old.reverted) among)
+    ];
+  }
 
   -- the last part leaves its element as it is
   pub step-same : ComesOf part now time nonce None → IsStep (parts ++ part ∷ []) store time nonce given made
   step-same came = record {
     gives = record {
       ordered = step.gives.ordered;
-      each = λ e c. let old = step.gives.each e c in (old.0, old.1, old.2, longer old.0 old.1 old.3, old.4, old.5, old.6);
+      each = λ e c. given-longer e (step.gives.each e c);
       all = λ q c. elim (Contains-push_cases parts part q c) [
-        | inl earlier ↦ let old = step.gives.all q earlier in (old.0, old.1, longer q old.0 old.2, old.3, old.4)
-        | inr same ↦ subst (Comes given) same (now, came.0, own, came.1, inl came.2)
+        | inl earlier ↦ subst (λ es. Comes es q) (append-nil given) (comes-longer [] q (step.gives.all q earlier))
+        | inr same ↦ subst (Comes given) same (record { now = now; reverted = came.reverted; at = own; reverts = came.reverts; comes = inl came.same })
       ];
     };
     undoes = step.undoes;
-    none_full = none-more (λ full. applied-apart (inverse part) now came.0 full.0 came.1.is_element full.1.is_element came.1.applied full.1.applied (λ same. full.2 (came.2 ∙ same)));
+    none_full = none-more (λ full. applied-apart (inverse part) now came.reverted full.0 came.reverts.is_element full.1.is_element came.reverts.applied full.1.applied (λ same. full.2 (came.same ∙ same)));
   }
 
   -- the last part changes its element
@@ -94,23 +116,23 @@ module _ (store : List ElementValue) (time nonce : ℕ) (parts : List Delta) (gi
     given-less g c =
         let old = step.gives.each g c in
         subst₂ (λ a b. bytes_less a b ≡ true)
-        (came-id store time nonce old.0 old.1 old.2 g old.3.stored old.4.kept old.6)
-        (came-id store time nonce part now came.0 e stored came.1.kept came.4)
-        (earlier_less (λ (q : Delta). q.id) parts part [] old.0 rising old.3.among)
+        (came-id store time nonce old.part old.now old.reverted g old.at.stored old.reverts.kept old.is)
+        (came-id store time nonce part now came.reverted e stored came.reverts.kept came.is)
+        (earlier_less (λ (q : Delta). q.id) parts part [] old.part rising old.at.among)
 
     made-more : EntryStandsFor (made ++ p ∷ []) (pairs_from (element_of store) (given ++ e ∷ []))
     made-more =
         let pairs = pairs_from (element_of store) given in
         let pair = λ (x : ElementValue). pair_with (element_of store x.id) x in
-        let held : element_of store e.id ≡ Some now = ap (element_of store) (sym (came-id store time nonce part now came.0 e stored came.1.kept came.4)) ∙ stored in
+        let held : element_of store e.id ≡ Some now = ap (element_of store) (sym (came-id store time nonce part now came.reverted e stored came.reverts.kept came.is)) ∙ stored in
         let less : (other : Pair) → Contains pairs other → bytes_less other.after.id e.id ≡ true = λ other c.
         let g = Contains-map pair given other c in subst (λ (o : Pair). bytes_less o.after.id e.id ≡ true) g.2 (given-less g.0 g.1) in
         subst (EntryStandsFor (made ++ p ∷ [])) (ap (λ o. pairs ++ pair_with o e ∷ []) (sym held) ∙ sym (map-append pair given (e ∷ [])))
         (entry-more made pairs (pair_with (Some now) e) step.undoes p less
         (record {
-          id = sym (same_id part.id now (find-Some (has_id part.id) store now stored).1) ∙ came-id store time nonce part now came.0 e stored came.1.kept came.4;
-          kind = sym (ap (λ (d : ElementValue). d.kind) came.4 ∙ came.1.kept.kind);
-          differ = λ same. came.2 (same ∙ ap unstamped came.4);
+          id = sym (same_id part.id now (find-Some (has_id part.id) store now stored).1) ∙ came-id store time nonce part now came.reverted e stored came.reverts.kept came.is;
+          kind = sym (ap (λ (d : ElementValue). d.kind) came.is ∙ came.reverts.kept.kind);
+          differ = λ same. came.differs (same ∙ ap unstamped came.is);
         })
         difference)
 
@@ -119,25 +141,30 @@ module _ (store : List ElementValue) (time nonce : ℕ) (parts : List Delta) (gi
       gives = record {
         ordered = rising-push (λ (d : ElementValue). d.id) given e given-less step.gives.ordered;
         each = λ g c. elim (Contains-push_cases given e g c) [
-          | inl earlier ↦ let old = step.gives.each g earlier in (old.0, old.1, old.2, longer old.0 old.1 old.3, old.4, old.5, old.6)
-          | inr same ↦ (part, now, came.0, own, came.1, came.2, sym same ∙ came.4)
+          | inl earlier ↦ given-longer g (step.gives.each g earlier)
+          | inr same ↦ record {
+              part = part;
+              now = now;
+              reverted = came.reverted;
+              at = own;
+              reverts = came.reverts;
+              differs = came.differs;
+              is = sym same ∙ came.is;
+            }
         ];
         all = λ q c. elim (Contains-push_cases parts part q c) [
-          | inl earlier ↦ let old = step.gives.all q earlier in (
-            old.0,
-            old.1,
-            longer q old.0 old.2,
-            old.3,
-            elim old.4 [
-              | inl same ↦ inl same
-              | inr among ↦ inr (Contains-append_left given (e ∷ []) (stamped time nonce old.1) among)
-            ],
-          )
-          | inr same ↦ subst (Comes (given ++ e ∷ [])) same (now, came.0, own, came.1, inr (subst (Contains (given ++ e ∷ [])) came.4 (Contains-push given e)))
+          | inl earlier ↦ comes-longer (e ∷ []) q (step.gives.all q earlier)
+          | inr same ↦ subst (Comes (given ++ e ∷ [])) same (record {
+              now = now;
+              reverted = came.reverted;
+              at = own;
+              reverts = came.reverts;
+              comes = inr (subst (Contains (given ++ e ∷ [])) came.is (Contains-push given e));
+            })
         ];
       };
       undoes = made-more;
-      none_full = none-more (λ full. came.3 full.3);
+      none_full = none-more (λ full. came.room full.3);
     }
 
 -- where the parts before one stop nothing and it does, its id is the least
@@ -208,9 +235,9 @@ ids-stored store given time nonce from to below grown stepped before others = (
         let of = stepped.step.undoes.each_part p c in
         let g = Contains-map (λ (x : ElementValue). pair_with (element_of store x.id) x) given of.0 of.1 in
         let own = stepped.step.gives.each g.0 g.1 in
-        let id : own.0.id ≡ p.id =
-        came-id store time nonce own.0 own.1 own.2 g.0 own.3.stored own.4.kept own.6 ∙ ap (λ (o : Pair). o.after.id) g.2 ∙ sym of.2.stands.id in
-        subst (λ i. IsSome (element_of store i)) id (subst IsSome (sym own.3.stored) refl)
+        let id : own.part.id ≡ p.id =
+        came-id store time nonce own.part own.now own.reverted g.0 own.at.stored own.reverts.kept own.is ∙ ap (λ (o : Pair). o.after.id) g.2 ∙ sym of.2.stands.id in
+        subst (λ i. IsSome (element_of store i)) id (subst IsSome (sym own.at.stored) refl)
 
 -- storing an element keeps that the ids are stored
 pub ids-taken : (old new : List ElementValue) (e : ElementValue) (stack : List (List Delta)) → HasTaken old e new → HaveStoredIds old stack → HaveStoredIds new stack

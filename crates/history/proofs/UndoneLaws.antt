@@ -26,34 +26,35 @@ module _ (parts : List Delta) (store given : List ElementValue) (time nonce : �
     ordered = gives.ordered;
     each = λ e c.
         let own = gives.each e c in
-        let of = stands.each_part own.0 own.3.among in
-        let both = elements of.0 of.1 in (
-          of.0,
-          own.1,
-          own.2,
-          record {
+        let of = stands.each_part own.part own.at.among in
+        let both = elements of.0 of.1 in
+        record {
+          pair = of.0;
+          now = own.now;
+          undone = own.reverted;
+          undoes = record {
             among = of.1;
-            stored = ap (element_of store) (sym of.2.stands.id) ∙ own.3.stored;
-            undoes = undone-from own.0 of.0.before of.0.after both.0 both.1 of.2.stands own.1 own.2 (stored-is store own.0.id own.1 are own.3.stored) own.4.is_element own.4.applied;
-          },
-          own.5,
-          own.6,
-        );
+            stored = ap (element_of store) (sym of.2.stands.id) ∙ own.at.stored;
+            undoes = undone-from own.part of.0.before of.0.after both.0 both.1 of.2.stands own.now own.reverted (stored-is store own.part.id own.now are own.at.stored) own.reverts.is_element own.reverts.applied;
+          };
+          differs = own.differs;
+          is = own.is;
+        };
     all = λ pair c. elim (stands.each_pair pair c) [
       | inl same ↦ inl same
       | inr of ↦
           let own = gives.all of.0 of.1 in
           let both = elements pair c in
-          inr (
-            own.0,
-            own.1,
-            record {
+          inr (record {
+            now = own.now;
+            undone = own.reverted;
+            undoes = record {
               among = c;
-              stored = ap (element_of store) (sym of.2.stands.id) ∙ own.2.stored;
-              undoes = undone-from of.0 pair.before pair.after both.0 both.1 of.2.stands own.0 own.1 (stored-is store of.0.id own.0 are own.2.stored) own.3.is_element own.3.applied;
-            },
-            own.4,
-          )
+              stored = ap (element_of store) (sym of.2.stands.id) ∙ own.at.stored;
+              undoes = undone-from of.0 pair.before pair.after both.0 both.1 of.2.stands own.now own.reverted (stored-is store of.0.id own.now are own.at.stored) own.reverts.is_element own.reverts.applied;
+            };
+            comes = own.comes;
+          })
     ];
   }
 
@@ -92,11 +93,11 @@ module _ (parts : List Delta) (store given : List ElementValue) (time nonce : �
         | inl same ↦ inl (sym (same kind))
         | inr of ↦
             let own = gives.all of.0 of.1 in
-            let one : own.0 ≡ now = same_Some own.0 now (sym own.2.stored ∙ ap (element_of store) of.2.stands.id ∙ stored) in
-            let back : unstamped own.1 ≡ unstamped before =
-            applied-back of.0 before now is' is of.2.stands own.1 own.3.is_element (counted-id old now (element_of old now.id) refl) kind (subst (λ x. IsApplied (inverse of.0) x own.1) one own.3.applied) in
-            elim own.4 [
+            let one : own.now ≡ now = same_Some own.now now (sym own.at.stored ∙ ap (element_of store) of.2.stands.id ∙ stored) in
+            let back : unstamped own.reverted ≡ unstamped before =
+            applied-back of.0 before now is' is of.2.stands own.reverted own.reverts.is_element (counted-id old now (element_of old now.id) refl) kind (subst (λ x. IsApplied (inverse of.0) x own.reverted) one own.reverts.applied) in
+            elim own.comes [
               | inl same ↦ inl (ap unstamped (sym one) ∙ same ∙ back)
-              | inr among ↦ inr (stamped time nonce own.1, among, own.3.kept.id ∙ ap (λ (x : ElementValue). x.id) one, back)
+              | inr among ↦ inr (stamped time nonce own.reverted, among, own.reverts.kept.id ∙ ap (λ (x : ElementValue). x.id) one, back)
             ]
       ]

@@ -39,17 +39,30 @@ pub record IsNow (parts : List Delta) (store : List ElementValue) (part : Delta)
 abbrev pub IsSeen : List ElementValue → List Delta → Type 0
 IsSeen store parts = (part : Delta) × (now : ElementValue) × IsNow parts store part now × IsSeenPart part now
 
+-- The element is what the inverse of a part makes of the stored element, stamped, and differs from that.
+pub record IsGivenByPart (parts : List Delta) (store : List ElementValue) (time nonce : ℕ) (e : ElementValue) : Type 0 where
+  pub part : Delta
+  pub now : ElementValue
+  pub reverted : ElementValue
+  pub at : IsNow parts store part now
+  pub reverts : Reverts part now reverted
+  pub differs : Differ now reverted
+  pub is : e ≡ stamped time nonce reverted
+
+-- What the inverse of the part makes of the stored element is that one but for the stamp, or is given, stamped.
+pub record PartHasGiven (parts : List Delta) (store : List ElementValue) (time nonce : ℕ) (given : List ElementValue) (part : Delta) : Type 0 where
+  pub now : ElementValue
+  pub reverted : ElementValue
+  pub at : IsNow parts store part now
+  pub reverts : Reverts part now reverted
+  pub comes : (unstamped now ≡ unstamped reverted) ⊎ Contains given (stamped time nonce reverted)
+
 -- The elements that a step gives: of each part's id what the inverse of the part makes of the stored element, stamped, if it
 -- differs; in the order of their ids.
 pub record AreGiven (parts : List Delta) (store : List ElementValue) (time nonce : ℕ) (given : List ElementValue) : Type 0 where
   pub ordered : are_rising (ids_of given) ≡ true
-  pub each : (e : ElementValue) → Contains given e
-      → (part : Delta) × (now : ElementValue) × (reverted : ElementValue)
-      × IsNow parts store part now × Reverts part now reverted × Differ now reverted × (e ≡ stamped time nonce reverted)
-  pub all : (part : Delta) → Contains parts part
-      → (now : ElementValue) × (reverted : ElementValue)
-      × IsNow parts store part now × Reverts part now reverted
-      × ((unstamped now ≡ unstamped reverted) ⊎ Contains given (stamped time nonce reverted))
+  pub each : (e : ElementValue) → Contains given e → IsGivenByPart parts store time nonce e
+  pub all : (part : Delta) → Contains parts part → PartHasGiven parts store time nonce given part
 
 -- The stored element would change, and stands at the greatest version.
 abbrev pub IsFull : Delta → ElementValue → Type 0
@@ -70,9 +83,21 @@ pub record IsStep (parts : List Delta) (store : List ElementValue) (time nonce :
   pub undoes : EntryStandsFor made (pairs_from (element_of store) given)
   pub none_full : (id : List ℕ) → ¬ (IsFullId parts store id)
 
+-- The inverse of the part makes of the stored element that one but for the stamp.
+pub record StaysSame (part : Delta) (now : ElementValue) : Type 0 where
+  pub reverted : ElementValue
+  pub reverts : Reverts part now reverted
+  pub same : unstamped now ≡ unstamped reverted
+
+-- This is the new version of the stored element: what the inverse of the part makes of it differs, and no version is full.
+pub record IsNewVersion (part : Delta) (now : ElementValue) (time nonce : ℕ) (e : ElementValue) : Type 0 where
+  pub reverted : ElementValue
+  pub reverts : Reverts part now reverted
+  pub differs : Differ now reverted
+  pub room : now.version ≢ greatest_whole
+  pub is : e ≡ stamped time nonce reverted
+
 -- What comes of one part: nothing where the stored element stays, and else its new version.
 abbrev pub ComesOf : Delta → ElementValue → ℕ → ℕ → Option ElementValue → Type 0
-ComesOf part now time nonce None = (reverted : ElementValue) × Reverts part now reverted × (unstamped now ≡ unstamped reverted)
-ComesOf part now time nonce (Some e) =
-    (reverted : ElementValue) × Reverts part now reverted × Differ now reverted
-    × (now.version ≢ greatest_whole) × (e ≡ stamped time nonce reverted)
+ComesOf part now time nonce None = StaysSame part now
+ComesOf part now time nonce (Some e) = IsNewVersion part now time nonce e

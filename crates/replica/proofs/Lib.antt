@@ -5,7 +5,6 @@ mod TouchingLaws
 mod TurnLaws
 mod ReplicaLaws
 mod CallLaws
-mod TellingLaws
 pub mod Backward
 pub mod TakenAt
 pub mod Leading

@@ -1,18 +1,9 @@
-//! What the types of elements keep, told for contracts. These calls do nothing else.
+//! What the type of elements keeps, told for contracts. The call does nothing else.
 
-ghost use Rattle.std.specs.Prelude.{◌≡◌, true, IfSome};
-ghost use Rattle.std.specs.List.{AllByRecursion};
-ghost use Rattle.std.specs.Str.{IsUtf8};
-ghost use Rattle.frac_keys.specs.Keys.{is_key};
-ghost use Rattle.elem.specs.Facts.{names, IsElement};
-ghost use Rattle.elem.specs.Said.{AreElements, IsBindingText, HasValidTexts};
-ghost use Rattle.elem.specs.Texts.{kind_name};
-ghost use Rattle.elem.specs.declared.parts.BoundRef.{BoundRef};
+ghost use Rattle.elem.specs.Said.{AreElements};
 
-use board_io::List;
-use elem::{Binding, BoundRef, Element, Kind};
-use frac_keys::Key;
-use scene_json::{Member, Text};
+use elem::Element;
+use elem_store::tell;
 
 /// Elements are elements.
 pub(crate) fn tell_all(list: &[Element])
@@ -21,100 +12,4 @@ pub(crate) fn tell_all(list: &[Element])
     for e in list {
         tell(e);
     }
-}
-
-/// An element is one, and its texts are texts.
-fn tell(e: &Element)
-    ensures is_element { IsElement e.now }
-    ensures is_written { HasValidTexts e.now }
-{
-    tell_text(&e.id);
-    tell_kind(&e.kind);
-    tell_key(&e.index);
-    tell_texts(&e.groups);
-    tell_optional(&e.frame);
-    tell_entries(&e.bound);
-    tell_optional(&e.container);
-    tell_binding(&e.start_binding);
-    tell_binding(&e.end_binding);
-    tell_optional(&e.file);
-    tell_names(&e.rest);
-}
-
-/// A text is UTF-8.
-fn tell_text(text: &Text)
-    ensures { IsUtf8 text.now }
-{
-    let _bytes = text.as_bytes();
-}
-
-/// A text is UTF-8, if there is one.
-fn tell_optional(text: &Option<Text>)
-    ensures { IfSome text.now IsUtf8 }
-{
-    if let Some(text) = text {
-        tell_text(text);
-    }
-}
-
-/// The name of a kind is UTF-8.
-fn tell_kind(kind: &Kind)
-    ensures { IsUtf8 (kind_name kind.now) }
-{
-    if let Kind::Other(name) = kind {
-        tell_text(name);
-    }
-}
-
-/// A key is one, if there is one.
-fn tell_key(key: &Option<Key>)
-    ensures { IfSome key.now (λ key. is_key key ≡ true) }
-{
-    if let Some(key) = key {
-        let _bytes = key.as_bytes();
-    }
-}
-
-/// Texts are UTF-8.
-fn tell_texts(texts: &List<Text>)
-    ensures { AllByRecursion IsUtf8 texts.now }
-{
-    for text in texts.as_slice() {
-        tell_text(text);
-    }
-}
-
-/// The ids of entries are UTF-8.
-fn tell_entries(entries: &List<BoundRef>)
-    ensures { AllByRecursion (λ (entry : BoundRef). IsUtf8 entry.id) entries.now }
-{
-    for entry in entries.as_slice() {
-        tell_text(&entry.id);
-    }
-}
-
-/// The names of members are UTF-8.
-fn tell_names(members: &List<Member>)
-    ensures { AllByRecursion IsUtf8 (names members.now) }
-{
-    for member in members.as_slice() {
-        tell_text(&member.name);
-    }
-}
-
-/// The texts of a binding are UTF-8, if there is one.
-fn tell_binding(binding: &Option<Binding>)
-    ensures { IfSome binding.now IsBindingText }
-{
-    if let Some(binding) = binding {
-        tell_texts_of(binding);
-    }
-}
-
-/// The texts of a binding are UTF-8.
-fn tell_texts_of(binding: &Binding)
-    ensures { IsBindingText binding.now }
-{
-    tell_text(&binding.target);
-    tell_names(&binding.rest);
 }
