@@ -10,11 +10,10 @@ use Rattle.frac_keys.specs.Keys.{bytes_less}
 use Rattle.frac_keys.specs.Rising.{ends_rise, rise_between, are_rising}
 use Rattle.elem.specs.ElementValue.{ElementValue}
 use Rattle.elem.proofs.Sorting.{bytes_less-turned}
-use Rattle.elem.specs.Order.{has_id}
+use Rattle.elem.specs.Order.{has_id, HaveDistinctIds}
 use Rattle.elem_store.specs.Updates.{ids_of, AreStored}
 use Rattle.elem_store.proofs.Leader.{leader, stored-leader}
 use Rattle.elem_store.proofs.StoreLaws.{AreStored-itself}
-use Rattle.view.specs.Shown.{HaveDistinctIds}
 
 -- elements in the order of their ids and one more
 abbrev with_id : ElementValue → List ElementValue → List ElementValue

@@ -17,7 +17,8 @@ use Rattle.elem_store.specs.Updates.{AreStored, ids_of}
 use Rattle.elem_store.proofs.StoreLaws.{store-unique}
 use Rattle.file_table.specs.Table.{AreLeastEntries}
 use Rattle.file_table.proofs.Least.{AreLeastEntries-own}
-use Rattle.view.specs.Shown.{is_live, live_elements, HaveDistinctIds, HaveKeysOrNone, HaveRisingKeys}
+use Rattle.elem.specs.Order.{HaveDistinctIds}
+use Rattle.view.specs.Shown.{is_live, live_elements, HaveKeysOrNone, HaveRisingKeys}
 use Rattle.view.specs.Settled.{AreSettled}
 use Rattle.view.proofs.ShownLaws.{HaveDistinctIds-rising, live_elements-rise, live_elements-live, shown-is, shown-again}
 use Rattle.scene_file.specs.Heads.{Heading, IsJoinedHead}

@@ -18,10 +18,11 @@ use Rattle.delta.specs.declared.header.Header.{Header}
 use Rattle.delta.specs.declared.header.Header.TheVariants as headers
 use Rattle.delta.specs.Applied.{IsApplied, scalar_after, groups_after, bound_after}
 use Rattle.delta.specs.Delta.{Delta}
-use Rattle.delta.specs.Entries.{same_listing_entry-exact, same_listing_entry-same}
+use Rattle.elem.specs.Listings.{same_listing_entry-exact, same_listing_entry-same, same_listing_entry}
 use Rattle.delta.specs.Facts.{name_of}
 use Rattle.delta.specs.Headers.{own_header, header_named, scalar_text, value_named, scalar_at, scalar_of}
-use Rattle.delta.specs.Joined.{are_same, joined, stays, is_gained, first_occurrences, same_listing_entry}
+use Rattle.first_texts.specs.FirstOccurrences.{first_occurrences}
+use Rattle.delta.specs.Joined.{are_same, joined, stays, is_gained}
 use Rattle.delta.specs.Parts.{change_of, scalar_change, groups_change, bound_change, scalars_same, is_list, PartStandsFor, inverted, inverse}
 use Rattle.delta.specs.Undone.{undone_scalar, undone_list, IsUndone}
 use Rattle.delta.proofs.HeaderLaws.{header_name, named, own-named}

@@ -19,7 +19,8 @@ use Rattle.delta.specs.declared.header.Header.{Header}
 use Rattle.delta.specs.declared.header.Header.TheVariants as headers
 use Rattle.delta.specs.Facts.{IsChange, IsScalar, name_of, change_names, other_names}
 use Rattle.delta.specs.Headers.{header_named, value_named, scalar_at, scalar_of}
-use Rattle.delta.specs.Joined.{are_same, same_listing_entry}
+use Rattle.elem.specs.Listings.{same_listing_entry}
+use Rattle.delta.specs.Joined.{are_same}
 use Rattle.delta.specs.Parts.{change_of, scalar_change, groups_change, bound_change, scalars_same}
 use Rattle.delta.specs.Told.{change_between, with_change, AreChangesOf, AreAllChanges}
 use Rattle.delta.proofs.HeaderLaws.{header_name, named}

@@ -6,7 +6,8 @@ use Rattle.delta.specs.declared.change.Change.{Change}
 use Rattle.delta.specs.declared.change.Change.TheVariants.{Scalar, Groups, Bound}
 use Rattle.delta.specs.Delta.{Delta}
 use Rattle.delta.specs.Headers.{scalar_of}
-use Rattle.delta.specs.Joined.{joined, same_listing_entry}
+use Rattle.elem.specs.Listings.{same_listing_entry}
+use Rattle.delta.specs.Joined.{joined}
 use Rattle.delta.specs.Parts.{change_of}
 
 -- a scalar after its change, if there is one, whatever it is now

@@ -1,19 +1,7 @@
 -- Lists that change item by item. This project's own, after Excalidraw's deltas.
-use Rattle.std.specs.Prelude.{List, [], ◌∷◌, ◌++◌, Bool, true, false, not, ◌==◌, length, ◌&&◌, ◌||◌, filter, bytes_eq, if◌then◌else◌}
+use Rattle.std.specs.Prelude.{List, ◌++◌, Bool, not, ◌==◌, length, ◌&&◌, ◌||◌, filter, if◌then◌else◌}
 use Rattle.std.specs.List.{list_any, list_all, zip}
-use Rattle.elem.specs.declared.kind.Role.{Role}
-use Rattle.elem.specs.declared.kind.Role.TheVariants as roles
-use Rattle.elem.specs.declared.parts.BoundRef.{BoundRef}
-
-abbrev pub same_role : Role → Role → Bool
-same_role roles.Arrow roles.Arrow = true
-same_role roles.Text roles.Text = true
-same_role roles.Arrow roles.Text = false
-same_role roles.Text roles.Arrow = false
-
--- whether two entries of a listing are the same
-abbrev pub same_listing_entry : BoundRef → BoundRef → Bool
-same_listing_entry a b = bytes_eq a.id b.id && same_role a.role b.role
+use Rattle.first_texts.specs.FirstOccurrences.{first_occurrences}
 
 -- whether two lists are the same: as long, and the same item by item
 abbrev pub are_same : {T : Type 0} → (T → T → Bool) → List T → List T → Bool
@@ -22,11 +10,6 @@ are_same {T} same xs ys = length xs == length ys && list_all (λ (p : T × T). s
 -- whether an item is in a list
 abbrev pub is_in : {T : Type 0} → (T → T → Bool) → List T → T → Bool
 is_in same items item = list_any (λ other. same other item) items
-
--- each item once, in the order of the first occurrences
-abbrev pub first_occurrences : {T : Type 0} → (T → T → Bool) → List T → List T
-first_occurrences same [] = []
-first_occurrences same (x ∷ xs) = x ∷ filter (λ y. not (same x y)) (first_occurrences same xs)
 
 -- whether an item stays: it isn't one that was before and isn't after
 abbrev pub stays : {T : Type 0} → (T → T → Bool) → List T → List T → T → Bool

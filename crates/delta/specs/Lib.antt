@@ -1,6 +1,5 @@
 pub mod Applied
 pub mod Delta
-pub mod Entries
 pub mod Facts
 pub mod Headers
 pub mod Joined

@@ -8,7 +8,8 @@ use Rattle.delta.specs.declared.change.Change.TheVariants.{Scalar, Groups, Bound
 use Rattle.delta.specs.Delta.{Delta}
 use Rattle.delta.specs.Facts.{name_of, change_names}
 use Rattle.delta.specs.Headers.{scalar_of}
-use Rattle.delta.specs.Joined.{are_same, same_listing_entry}
+use Rattle.elem.specs.Listings.{same_listing_entry}
+use Rattle.delta.specs.Joined.{are_same}
 
 -- the change of the member of this name, if there is one
 abbrev pub change_of : List Change → List ℕ → Option Change

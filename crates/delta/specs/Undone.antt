@@ -3,7 +3,8 @@ use Rattle.std.specs.Prelude.{◌≡◌, ◌≢◌, ℕ, List, Bool, Option, byt
 use Rattle.elem.specs.ElementValue.{ElementValue}
 use Rattle.delta.specs.Applied.{KeepsStamp}
 use Rattle.delta.specs.Headers.{scalar_of}
-use Rattle.delta.specs.Joined.{are_same, joined, same_listing_entry}
+use Rattle.elem.specs.Listings.{same_listing_entry}
+use Rattle.delta.specs.Joined.{are_same, joined}
 use Rattle.delta.specs.Parts.{scalars_same}
 
 -- a scalar that differed before and after becomes that of before, or goes where there was none

@@ -2,8 +2,9 @@
 
 ghost use Rattle.std.specs.Prelude.{◌≡◌, [], ◌∷◌, ◌++◌, not, ◌&&◌, filter, true, bytes_eq, IfOk, OnOk, if◌then◌else◌};
 ghost use Rattle.scene_json.proofs.Collapsed.{bytes_eq-true};
-ghost use Rattle.delta.specs.Joined.{are_same, is_in, stays, is_gained, first_occurrences, joined, same_listing_entry, same_role};
-ghost use Rattle.delta.specs.Entries.{same_listing_entry-exact};
+ghost use Rattle.first_texts.specs.FirstOccurrences.{first_occurrences};
+ghost use Rattle.delta.specs.Joined.{are_same, is_in, stays, is_gained, joined};
+ghost use Rattle.elem.specs.Listings.{same_listing_entry-exact, same_listing_entry, same_role};
 
 use board_io::List;
 use elem::{BoundRef, Role};
@@ -47,7 +48,7 @@ impl Item for BoundRef {
     ghost exact = { same_listing_entry-exact };
 
     fn same(&self, other: &BoundRef) -> bool {
-        self.id == other.id && same_role(self.role, other.role)
+        same_role(self.role, other.role) && self.id == other.id
     }
 
     fn try_clone(&self) -> Result<BoundRef, AllocError> {

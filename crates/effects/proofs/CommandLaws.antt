@@ -18,7 +18,8 @@ use Rattle.elem_store.specs.Updates.{element_of, ids_of}
 use Rattle.elem_store.proofs.Ids.{same_id}
 use Rattle.elem_store.proofs.Lists.{Contains-head, Contains-cons, find-Some, is_some-find, list_any-false}
 use Rattle.links.specs.Arrows.{names_target}
-use Rattle.links.specs.Entries.{same_listing_entry, arrow_entry, lists}
+use Rattle.elem.specs.Listings.{same_listing_entry}
+use Rattle.links.specs.Entries.{arrow_entry, lists}
 use Rattle.links.specs.Names.{is_id, is_arrow, target_of}
 use Rattle.view.specs.Shown.{index_of, is_live, HaveRisingKeys, HaveKeysOrNone}
 use Rattle.effects.specs.declared.command.Command.{Command}

@@ -10,7 +10,7 @@ use Rattle.elem.specs.declared.parts.BoundRef.{BoundRef}
 use Rattle.elem.specs.declared.parts.Binding.{Binding}
 use Rattle.elem.specs.ElementValue.{ElementValue}
 use Rattle.elem.specs.Order.{unstamped}
-use Rattle.links.specs.Entries.{same_listing_entry, same_role}
+use Rattle.elem.specs.Listings.{same_listing_entry, same_role}
 use Rattle.effects.specs.Differing.{differs, same_truth, same_member, same_binding}
 
 -- the test tells whether two are the same

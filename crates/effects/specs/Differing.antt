@@ -5,7 +5,7 @@ use Rattle.std.specs.Cmp.Lexicographic.{pointwise}
 use Rattle.scene_json.specs.declared.text.Member.{Member}
 use Rattle.elem.specs.declared.parts.Binding.{Binding}
 use Rattle.elem.specs.ElementValue.{ElementValue}
-use Rattle.links.specs.Entries.{same_listing_entry}
+use Rattle.elem.specs.Listings.{same_listing_entry}
 
 abbrev pub same_truth : Bool → Bool → Bool
 same_truth true other = other

@@ -6,7 +6,8 @@ use Rattle.elem.specs.declared.parts.BoundRef.{BoundRef}
 use Rattle.elem.specs.declared.parts.Binding.{Binding}
 use Rattle.elem.specs.ElementValue.{ElementValue}
 use Rattle.elem_store.specs.Updates.{element_of}
-use Rattle.links.specs.Entries.{same_listing_entry, arrow_entry, text_entry, lists}
+use Rattle.elem.specs.Listings.{same_listing_entry}
+use Rattle.links.specs.Entries.{arrow_entry, text_entry, lists}
 use Rattle.links.specs.Names.{is_id, is_arrow, is_text, target_of}
 use Rattle.links.specs.Texts.{is_for_text}
 use Rattle.effects.specs.declared.command.Side.{Side}

@@ -4,6 +4,7 @@ ghost use Rattle.std.specs.Prelude.{◌≡◌, ◌||◌, not, bytes_eq, IfOk, If
 ghost use Rattle.std.specs.Option.{unwrap_or};
 ghost use Rattle.elem.specs.declared.kind.Kind.TheVariants as kinds;
 ghost use Rattle.elem.specs.Facts.{IsBinding};
+ghost use Rattle.elem.specs.Listings as listings;
 ghost use Rattle.links.specs.Entries as entries;
 ghost use Rattle.links.specs.Names.{is_id, target_of};
 ghost use Rattle.links.specs.Texts.{is_for_text};
@@ -131,14 +132,14 @@ fn with_bound(mut e: Element, bound: List<BoundRef>) -> Element
 
 /// Whether two entries of listings are the same.
 fn same_listing_entry(entry: &BoundRef, other: &BoundRef) -> bool
-    ensures { result ≡ entries.same_listing_entry entry.now other.now }
+    ensures { result ≡ listings.same_listing_entry entry.now other.now }
 {
     same_role(entry.role, other.role) && entry.id == other.id
 }
 
 /// Whether two entries are for the same.
 fn same_role(role: Role, other: Role) -> bool
-    ensures { result ≡ entries.same_role role other }
+    ensures { result ≡ listings.same_role role other }
 {
     match (role, other) {
         (Role::Arrow, Role::Arrow) | (Role::Text, Role::Text) => true,

@@ -2,6 +2,7 @@ pub mod ElementValue
 pub mod Facts
 pub mod Forms
 pub mod Left
+pub mod Listings
 pub mod Order
 pub mod Printing
 pub mod Said

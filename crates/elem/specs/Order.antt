@@ -1,5 +1,6 @@
 -- Which of two elements of one id counts.
-use Rattle.std.specs.Prelude.{Bool, ◌&&◌, ◌||◌, ◌==◌, nat_lt, ℕ, List, bytes_eq}
+use Rattle.std.specs.Prelude.{Bool, ◌&&◌, ◌||◌, ◌==◌, nat_lt, ℕ, List, map, bytes_eq}
+use Rattle.std.specs.List.{IsDistinct}
 use Rattle.frac_keys.specs.Keys.{bytes_less}
 use Rattle.elem.specs.ElementValue.{ElementValue}
 use Rattle.elem.specs.Texts.{element_text}
@@ -7,6 +8,10 @@ use Rattle.elem.specs.Texts.{element_text}
 -- whether an element is of this id
 abbrev pub has_id : List ℕ → ElementValue → Bool
 has_id id e = bytes_eq id e.id
+
+-- no two elements have one id
+abbrev pub HaveDistinctIds : List ElementValue → Type 0
+HaveDistinctIds elements = IsDistinct bytes_eq (map (λ (e : ElementValue). e.id) elements)
 
 -- whether an element's text is less than another one's in the order of their bytes. This project's own.
 unfoldable pub text_less : ElementValue → ElementValue → Bool

@@ -139,7 +139,6 @@ impl Store {
     /// The stored element at this index, in the order of the ids. It takes no memory.
     pub fn at(&self, i: usize) -> Option<&Element>
         ensures element { option_copied result ≡ slice_get self.now.elements i }
-        ensures ordered { are_rising (ids_of self.now.elements) ≡ true }
     {
         let place = self.places.get(i)?;
         Some(&self.elements[place])

@@ -11,8 +11,8 @@ use Rattle.scene_json.specs.Compact.{Member as Pair}
 use Rattle.scene_json.specs.Named.{value_at}
 use Rattle.scene_json.specs.Parts.{names_of}
 use Rattle.scene_json.specs.Value.{IsCompact}
-use Rattle.first_texts.specs.FirstOccurrences.{first_occurrences}
-use Rattle.first_texts.proofs.FirstLaws.{IsDistinct-filter, any-first_occurrences}
+use Rattle.first_texts.specs.FirstOccurrences.{first_texts}
+use Rattle.first_texts.proofs.FirstLaws.{IsDistinct-filter, any-first_texts}
 use Rattle.elem.specs.ElementValue.{ElementValue}
 use Rattle.file_table.specs.References.{references, file_of, referred_files}
 use Rattle.elem.specs.Texts.{sorted_members}
@@ -115,8 +115,8 @@ found-at files (id ∷ ids) name = go (value_at id files) refl (found-at files i
 
 pub referred-at : (files : List Pair) (elements : List ElementValue) (id : List ℕ) → value_at id (referred_files files elements) ≡ cond (list_any (bytes_eq id) (references elements)) (value_at id files) None
 referred-at files elements id =
-    found-at files (first_occurrences (references elements)) id
-    ∙ ap (λ b. cond b (value_at id files) None) (any-first_occurrences (references elements) id)
+    found-at files (first_texts (references elements)) id
+    ∙ ap (λ b. cond b (value_at id files) None) (any-first_texts (references elements) id)
 
-pub referred-ids : (files : List Pair) (elements : List ElementValue) → names_of (referred_files files elements) ≡ filter (λ id. is_some (value_at id files)) (first_occurrences (references elements))
-referred-ids files elements = names-found files (first_occurrences (references elements))
+pub referred-ids : (files : List Pair) (elements : List ElementValue) → names_of (referred_files files elements) ≡ filter (λ id. is_some (value_at id files)) (first_texts (references elements))
+referred-ids files elements = names-found files (first_texts (references elements))

@@ -3,7 +3,7 @@ use Rattle.std.specs.Prelude.{ℕ, List, Option, filter_map}
 use Rattle.std.specs.Option.{option_map}
 use Rattle.scene_json.specs.Compact.{Member as Pair}
 use Rattle.scene_json.specs.Named.{value_at}
-use Rattle.first_texts.specs.FirstOccurrences.{first_occurrences}
+use Rattle.first_texts.specs.FirstOccurrences.{first_texts}
 use Rattle.elem.specs.ElementValue.{ElementValue}
 
 -- the ids of files that elements name, as images alone do, in the order of the elements
@@ -16,4 +16,4 @@ file_of files id = option_map (λ entry. (id, entry)) (value_at id files)
 
 -- the files that elements name, each once, in the order in which they are first named
 abbrev pub referred_files : List Pair → List ElementValue → List Pair
-referred_files files elements = filter_map (file_of files) (first_occurrences (references elements))
+referred_files files elements = filter_map (file_of files) (first_texts (references elements))

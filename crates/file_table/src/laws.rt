@@ -6,7 +6,7 @@ ghost use Rattle.scene_json.specs.Compact.{Member as Pair};
 ghost use Rattle.scene_json.specs.Named.{HaveRisingNames, value_at};
 ghost use Rattle.scene_json.specs.Parts.{names_of};
 ghost use Rattle.scene_json.specs.Value.{IsCompact};
-ghost use Rattle.first_texts.specs.FirstOccurrences.{first_occurrences};
+ghost use Rattle.first_texts.specs.FirstOccurrences.{first_texts};
 ghost use Rattle.elem.specs.ElementValue.{ElementValue};
 ghost use Rattle.file_table.specs.References.{references, referred_files};
 ghost use Rattle.file_table.specs.Picture.{HasData, IsPictureSize};
@@ -47,7 +47,7 @@ pub fn referred_files_are_named()
     ensures exact { (files : List Pair) (elements : List ElementValue) (id : List ℕ) → value_at id (referred_files files elements)
         ≡ (if list_any (bytes_eq id) (references elements) then value_at id files else None) }
     ensures order { (files : List Pair) (elements : List ElementValue) → names_of (referred_files files elements)
-        ≡ filter (λ id. is_some (value_at id files)) (first_occurrences (references elements)) }
+        ≡ filter (λ id. is_some (value_at id files)) (first_texts (references elements)) }
 {}
 
 /// An entry has a picture of some size, or data that is no base64, or no data.

@@ -8,7 +8,7 @@ use Rattle.std.proofs.lemmas.List.Elements.{filter_passes, filter-append, recurs
 use Rattle.std.proofs.lemmas.Map.Views.{any-filter_same, Contains-from_any, list_any-from_Contains}
 use Rattle.std.proofs.lemmas.Slice.Eq.{bytes_eq-Decides}
 use Rattle.indexmap.specs.IndexSet.{insert_key}
-use Rattle.first_texts.specs.FirstOccurrences.{is_other_text, first_occurrences}
+use Rattle.first_texts.specs.FirstOccurrences.{is_other, first_texts}
 
 -- ---- one text more
 with_one_more : (text other : List ℕ) (texts : List (List ℕ)) (among same : Bool)
@@ -22,15 +22,16 @@ filter_either : (p : List ℕ → Bool) (b : Bool) (xs ys : List (List ℕ)) →
 filter_either p true xs ys = refl
 filter_either p false xs ys = refl
 
-pub first_occurrences-push : (texts : List (List ℕ)) (other : List ℕ) → first_occurrences (texts ++ other ∷ []) ≡ cond (list_any (bytes_eq other) texts) (first_occurrences texts) (first_occurrences texts ++ other ∷ [])
-first_occurrences-push [] other = refl
-first_occurrences-push (text ∷ texts) other =
-    let p = is_other_text text in
-    let found = first_occurrences texts in
+pub first_texts-push : (texts : List (List ℕ)) (other : List ℕ) → first_texts (texts ++ other ∷ []) ≡ cond (list_any (bytes_eq other) texts) (first_texts texts) (first_texts texts ++ other ∷ [])
+first_texts-push [] other = refl
+first_texts-push (text ∷ texts) other =
+    let p = is_other bytes_eq text in
+    let found = first_texts texts in
     let among = list_any (bytes_eq other) texts in
-    ap (λ x. text ∷ filter p x) (first_occurrences-push texts other)
+    ap (λ x. text ∷ filter p x) (first_texts-push texts other)
     ∙ ap (λ x. text ∷ x) (filter_either p among found (found ++ other ∷ []))
     ∙ ap (λ x. text ∷ cond among (filter p found) x) (filter-append p found (other ∷ []))
+    ∙ ap (λ b. text ∷ cond among (filter p found) (filter p found ++ cond (not b) (other ∷ []) [])) (nat_list_eq_equiv.symm text other)
     ∙ with_one_more text other (filter p found) among (bytes_eq other text)
 
 -- ---- they are distinct
@@ -55,17 +56,17 @@ IsDistinct-filter p (x ∷ xs) h =
       | false ↦ IsDistinct-filter p xs h.1
     ]
 
-apart : (x y : List ℕ) → is_other_text x y ≡ true → bytes_eq x y ≡ false
-apart x y h = nat_list_eq_equiv.symm x y ∙ not-true (bytes_eq y x) h
+apart : (x y : List ℕ) → is_other bytes_eq x y ≡ true → bytes_eq x y ≡ false
+apart x y h = not-true (bytes_eq x y) h
 
-pub IsDistinct-first_occurrences : (texts : List (List ℕ)) → IsDistinct bytes_eq (first_occurrences texts)
+pub IsDistinct-first_texts : (texts : List (List ℕ)) → IsDistinct bytes_eq (first_texts texts)
 unfolding IsDistinct
-IsDistinct-first_occurrences [] = tt
-IsDistinct-first_occurrences (text ∷ texts) =
-    let found = first_occurrences texts in (
-      AllByRecursion-weaker (filter (is_other_text text) found) (apart text)
-          (recursion_from_All (λ y. is_other_text text y ≡ true) (filter (is_other_text text) found) (filter_passes (is_other_text text) found)),
-      IsDistinct-filter (is_other_text text) found (IsDistinct-first_occurrences texts),
+IsDistinct-first_texts [] = tt
+IsDistinct-first_texts (text ∷ texts) =
+    let found = first_texts texts in (
+      AllByRecursion-weaker (filter (is_other bytes_eq text) found) (apart text)
+          (recursion_from_All (λ y. is_other bytes_eq text y ≡ true) (filter (is_other bytes_eq text) found) (filter_passes (is_other bytes_eq text) found)),
+      IsDistinct-filter (is_other bytes_eq text) found (IsDistinct-first_texts texts),
     )
 
 -- ---- they are the texts
@@ -76,37 +77,37 @@ either_way : (same among : Bool) → (same || (not same && among)) ≡ (same || 
 either_way true among = refl
 either_way false among = refl
 
-pub any-first_occurrences : (texts : List (List ℕ)) (text : List ℕ) → list_any (bytes_eq text) (first_occurrences texts) ≡ list_any (bytes_eq text) texts
-any-first_occurrences [] text = refl
-any-first_occurrences (first ∷ texts) text =
+pub any-first_texts : (texts : List (List ℕ)) (text : List ℕ) → list_any (bytes_eq text) (first_texts texts) ≡ list_any (bytes_eq text) texts
+any-first_texts [] text = refl
+any-first_texts (first ∷ texts) text =
     let same = bytes_eq text first in
-    ap (λ b. same || b) (any-filter_same (bytes_eq text) (is_other_text first) (not same) (λ k h. ap (λ x. not (bytes_eq x first)) (sym (same_texts text k h))) (first_occurrences texts))
-    ∙ ap (λ b. same || (not same && b)) (any-first_occurrences texts text)
+    ap (λ b. same || b) (any-filter_same (bytes_eq text) (is_other bytes_eq first) (not same) (λ k h. ap (λ x. not (bytes_eq first x)) (sym (same_texts text k h)) ∙ ap not (nat_list_eq_equiv.symm first text)) (first_texts texts))
+    ∙ ap (λ b. same || (not same && b)) (any-first_texts texts text)
     ∙ either_way same (list_any (bytes_eq text) texts)
 
-pub Contains-first_occurrences : (texts : List (List ℕ)) (text : List ℕ) → Contains (first_occurrences texts) text ↔ Contains texts text
-Contains-first_occurrences texts text = (
-  λ c. Contains-from_any same_texts text texts (sym (any-first_occurrences texts text) ∙ list_any-from_Contains nat_list_eq_equiv text (first_occurrences texts) c),
-  λ c. Contains-from_any same_texts text (first_occurrences texts) (any-first_occurrences texts text ∙ list_any-from_Contains nat_list_eq_equiv text texts c),
+pub Contains-first_texts : (texts : List (List ℕ)) (text : List ℕ) → Contains (first_texts texts) text ↔ Contains texts text
+Contains-first_texts texts text = (
+  λ c. Contains-from_any same_texts text texts (sym (any-first_texts texts text) ∙ list_any-from_Contains nat_list_eq_equiv text (first_texts texts) c),
+  λ c. Contains-from_any same_texts text (first_texts texts) (any-first_texts texts text ∙ list_any-from_Contains nat_list_eq_equiv text texts c),
 )
 
 -- inserted into the first occurrences, a text joins them at their end if it isn't among them
-pub first_occurrences-inserted : (texts : List (List ℕ)) (text : List ℕ) → insert_key bytes_eq (first_occurrences texts) text ≡ first_occurrences (texts ++ text ∷ [])
-first_occurrences-inserted texts text =
-    let found = first_occurrences texts in
-    ap (λ b. cond b found (found ++ text ∷ [])) (any-first_occurrences texts text) ∙ sym (first_occurrences-push texts text)
+pub first_texts-inserted : (texts : List (List ℕ)) (text : List ℕ) → insert_key bytes_eq (first_texts texts) text ≡ first_texts (texts ++ text ∷ [])
+first_texts-inserted texts text =
+    let found = first_texts texts in
+    ap (λ b. cond b found (found ++ text ∷ [])) (any-first_texts texts text) ∙ sym (first_texts-push texts text)
 
 -- ---- distinct texts stay
 filter_keeps : (p : List ℕ → Bool) (xs : List (List ℕ)) → AllByRecursion (λ x. p x ≡ true) xs → filter p xs ≡ xs
 filter_keeps p [] h = refl
 filter_keeps p (x ∷ xs) h = ap (λ b. cond b (x ∷ filter p xs) (filter p xs)) h.0 ∙ ap (λ ys. x ∷ ys) (filter_keeps p xs h.1)
 
-other : (x y : List ℕ) → bytes_eq x y ≡ false → is_other_text x y ≡ true
-other x y h = not_from_false (bytes_eq y x) (nat_list_eq_equiv.symm y x ∙ h)
+other : (x y : List ℕ) → bytes_eq x y ≡ false → is_other bytes_eq x y ≡ true
+other x y h = not_from_false (bytes_eq x y) h
 
-pub first_occurrences-distinct : (texts : List (List ℕ)) → IsDistinct bytes_eq texts → first_occurrences texts ≡ texts
+pub first_texts-distinct : (texts : List (List ℕ)) → IsDistinct bytes_eq texts → first_texts texts ≡ texts
 unfolding IsDistinct
-first_occurrences-distinct [] h = refl
-first_occurrences-distinct (text ∷ texts) h =
-    ap (λ x. text ∷ filter (is_other_text text) x) (first_occurrences-distinct texts h.1)
-    ∙ ap (λ x. text ∷ x) (filter_keeps (is_other_text text) texts (AllByRecursion-weaker texts (other text) h.0))
+first_texts-distinct [] h = refl
+first_texts-distinct (text ∷ texts) h =
+    ap (λ x. text ∷ filter (is_other bytes_eq text) x) (first_texts-distinct texts h.1)
+    ∙ ap (λ x. text ∷ x) (filter_keeps (is_other bytes_eq text) texts (AllByRecursion-weaker texts (other text) h.0))

@@ -2,23 +2,23 @@
 
 ghost use Rattle.std.specs.Prelude.{◌≡◌, ◌↔◌, ℕ, List, [], ◌∷◌, ◌++◌, Contains, bytes_eq, if◌then◌else◌};
 ghost use Rattle.std.specs.List.{list_any, IsDistinct};
-ghost use Rattle.first_texts.specs.FirstOccurrences.{first_occurrences};
+ghost use Rattle.first_texts.specs.FirstOccurrences.{first_texts};
 
 /// One text more joins the first occurrences at their end, if it isn't among the texts before.
 pub fn one_more_is_last()
-    ensures none { first_occurrences [] ≡ [] }
-    ensures one_more { (texts : List (List ℕ)) (text : List ℕ) → first_occurrences (texts ++ text ∷ [])
-        ≡ (if list_any (bytes_eq text) texts then first_occurrences texts else first_occurrences texts ++ text ∷ []) }
+    ensures none { first_texts [] ≡ [] }
+    ensures one_more { (texts : List (List ℕ)) (text : List ℕ) → first_texts (texts ++ text ∷ [])
+        ≡ (if list_any (bytes_eq text) texts then first_texts texts else first_texts texts ++ text ∷ []) }
 {}
 
 /// The first occurrences are the texts, each once.
 pub fn first_occurrences_are_the_texts()
-    ensures distinct { (texts : List (List ℕ)) → IsDistinct bytes_eq (first_occurrences texts) }
+    ensures distinct { (texts : List (List ℕ)) → IsDistinct bytes_eq (first_texts texts) }
     ensures same { (texts : List (List ℕ)) (text : List ℕ)
-        → Contains (first_occurrences texts) text ↔ Contains texts text }
+        → Contains (first_texts texts) text ↔ Contains texts text }
 {}
 
 /// Texts that are distinct stay as they are.
 pub fn distinct_texts_stay()
-    ensures { (texts : List (List ℕ)) → IsDistinct bytes_eq texts → first_occurrences texts ≡ texts }
+    ensures { (texts : List (List ℕ)) → IsDistinct bytes_eq texts → first_texts texts ≡ texts }
 {}

@@ -17,7 +17,7 @@ type Firsts = IndexSet<Text, BuildHasherDefault<DefaultHasher>>;
 
 /// The texts, each once, in the order in which they first stand. Fails only for want of memory.
 pub fn first_occurrences(alloc: Global, texts: &[Text]) -> Result<Vec<Text>, AllocError>
-    ensures exact { IfOk result (λ found. found.items ≡ first.first_occurrences texts.now) }
+    ensures exact { IfOk result (λ found. found.items ≡ first.first_texts texts.now) }
     ensures distinct { IfOk result (λ found. IsDistinct bytes_eq found.items) }
 {
     let mut found = Firsts::with_hasher(alloc, BuildHasherDefault::new());

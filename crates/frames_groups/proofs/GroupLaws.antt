@@ -2,7 +2,7 @@
 use Rattle.std.proofs.Common.{◌≡◌, ℕ, Bool, true, false, cond, List, map, bytes_eq, refl, sym, ap, ◌∙◌, subst}
 use Rattle.std.specs.List.{IsDistinct}
 use Rattle.std.proofs.lemmas.List.Elements.{All-map, All-weaker}
-use Rattle.first_texts.proofs.FirstLaws.{IsDistinct-first_occurrences, first_occurrences-distinct}
+use Rattle.first_texts.proofs.FirstLaws.{IsDistinct-first_texts, first_texts-distinct}
 use Rattle.elem.specs.ElementValue.{ElementValue}
 use Rattle.frames_groups.specs.Frames.{is_frame_of, has_frame, keeps_frame, without_frame, framed, frames_settled, NameFrames}
 use Rattle.frames_groups.specs.Groups.{with_groups, grouped, groups_settled, without_groups, HaveDistinctGroups}
@@ -14,10 +14,10 @@ HasDistinctGroups e = IsDistinct bytes_eq e.groups
 
 pub HaveDistinctGroups-settled : (elements : List ElementValue) → HaveDistinctGroups (groups_settled elements)
 HaveDistinctGroups-settled elements =
-    All-map HasDistinctGroups grouped elements (λ k d l. IsDistinct-first_occurrences _)
+    All-map HasDistinctGroups grouped elements (λ k d l. IsDistinct-first_texts _)
 
 grouped-distinct : (e : ElementValue) → HasDistinctGroups e → grouped e ≡ e
-grouped-distinct e h = ap (with_groups e) (first_occurrences-distinct e.groups h)
+grouped-distinct e h = ap (with_groups e) (first_texts-distinct e.groups h)
 
 pub groups_settled-distinct : (elements : List ElementValue) → HaveDistinctGroups elements → groups_settled elements ≡ elements
 groups_settled-distinct elements h =

@@ -1,7 +1,7 @@
 -- The groups that an element is in. That repeated ones go is this project's own.
 use Rattle.std.specs.Prelude.{ℕ, List, [], All, map, bytes_eq}
 use Rattle.std.specs.List.{IsDistinct}
-use Rattle.first_texts.specs.FirstOccurrences.{first_occurrences}
+use Rattle.first_texts.specs.FirstOccurrences.{first_texts}
 use Rattle.elem.specs.ElementValue.{ElementValue}
 
 -- the element in these groups
@@ -10,7 +10,7 @@ with_groups e groups = record e { groups = groups }
 
 -- the element, each of its groups once, where it stands first
 abbrev pub grouped : ElementValue → ElementValue
-grouped e = with_groups e (first_occurrences e.groups)
+grouped e = with_groups e (first_texts e.groups)
 
 -- each element of a list, each of its groups once
 abbrev pub groups_settled : List ElementValue → List ElementValue

@@ -42,7 +42,7 @@ fn grouped(alloc: Global, e: Element) -> Result<Element, AllocError>
 
 /// The groups of an element, each once.
 fn groups_once(alloc: Global, e: &Element) -> Result<List<Text>, AllocError>
-    ensures { IfOk result (λ groups. groups ≡ first.first_occurrences e.now.groups) }
+    ensures { IfOk result (λ groups. groups ≡ first.first_texts e.now.groups) }
 {
     Ok(List::from_vec(first_occurrences(alloc, e.groups.as_slice())?))
 }

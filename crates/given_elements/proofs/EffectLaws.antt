@@ -19,7 +19,8 @@ use Rattle.elem.specs.Facts.{IsBinding, AllNest, names}
 use Rattle.elem.specs.Said.{IsBindingText}
 use Rattle.delta.specs.Rest.{with_value}
 use Rattle.delta.proofs.RestLaws.{each-with_value}
-use Rattle.links.specs.Entries.{same_listing_entry, arrow_entry, text_entry, lists}
+use Rattle.elem.specs.Listings.{same_listing_entry}
+use Rattle.links.specs.Entries.{arrow_entry, text_entry, lists}
 use Rattle.links.specs.Names.{is_id, is_arrow, is_text, target_of}
 use Rattle.links.specs.Texts.{is_for_text}
 use Rattle.view.specs.Shown.{HaveRisingKeys}

@@ -13,9 +13,9 @@ use Rattle.elem.specs.Said.{HasValidTexts}
 use Rattle.delta.specs.declared.change.Change.TheVariants.{Scalar, Groups, Bound}
 use Rattle.delta.specs.Applied.{IsApplied, scalar_after, groups_after, bound_after}
 use Rattle.delta.specs.Delta.{Delta}
-use Rattle.delta.specs.Entries.{same_listing_entry-exact, same_listing_entry-same}
+use Rattle.elem.specs.Listings.{same_listing_entry-exact, same_listing_entry-same, same_listing_entry}
 use Rattle.delta.specs.Headers.{header_named, value_named, scalar_at, scalar_of}
-use Rattle.delta.specs.Joined.{are_same, joined, same_listing_entry}
+use Rattle.delta.specs.Joined.{are_same, joined}
 use Rattle.delta.specs.Pairs.{Pair, IsPartOf}
 use Rattle.delta.specs.Parts.{change_of, scalar_change, groups_change, bound_change, scalars_same, is_list, PartStandsFor, inverted, inverse}
 use Rattle.delta.specs.Undone.{undone_scalar, undone_list, IsUndone}

@@ -3,7 +3,8 @@ use Rattle.std.proofs.Common.{◌≡◌, ℕ, zero, suc, Bool, true, false, cond
 use Rattle.std.specs.List.{list_any, AllByRecursion, IsDistinct}
 use Rattle.std.proofs.lemmas.Bool.{both_ways, cases_Bool, cond-true, cond-false, false_from_ne_true}
 use Rattle.elem.specs.ElementValue.{ElementValue}
-use Rattle.links.specs.Names.{id_of, HaveDistinctIds}
+use Rattle.elem.specs.Order.{HaveDistinctIds}
+use Rattle.links.specs.Names.{id_of}
 use Rattle.links.proofs.Members.{list_any-same, Contains-head, Contains-cons}
 use Rattle.links.proofs.Tabled.{list_any-filter}
 

@@ -12,13 +12,14 @@ use Rattle.elem.specs.declared.kind.Role.TheVariants.{Arrow, Text}
 use Rattle.elem.specs.declared.parts.BoundRef.{BoundRef}
 use Rattle.elem.specs.declared.parts.Binding.{Binding}
 use Rattle.elem.specs.ElementValue.{ElementValue}
-use Rattle.elem.specs.Order.{has_id}
-use Rattle.links.specs.Names.{id_of, is_arrow, is_text, is_id, can_hold_text, names_container, target_of, end_names, has_end_at, is_target, HaveDistinctIds}
-use Rattle.links.specs.Entries.{same_listing_entry, lists, arrow_entry, text_entry, first_occurrences}
+use Rattle.elem.specs.Order.{has_id, HaveDistinctIds}
+use Rattle.links.specs.Names.{id_of, is_arrow, is_text, is_id, can_hold_text, names_container, target_of, end_names, has_end_at, is_target}
+use Rattle.elem.specs.Listings.{same_listing_entry}
+use Rattle.links.specs.Entries.{lists, arrow_entry, text_entry, first_entries}
 use Rattle.links.specs.Texts.{is_for_text, is_text_entry, listed_text, first_text, text_of, is_text_of, keeps_container, with_settled_container, settled_texts}
 use Rattle.links.specs.Arrows.{names_target, settled_end, is_bound_to, is_true_as, is_true_entry, arrow_entries, text_entries, listing, with_settled_links, settled_arrows}
 use Rattle.links.specs.Settled.{ArrowsAgree, TextsAgree, texts_listed, HaveOneText, NameTargets}
-use Rattle.links.proofs.EntryLaws.{same_listing_entry-true, same_listing_entry-refl, first_occurrences-filter, list_any-first_occurrences, first_occurrences-again}
+use Rattle.links.proofs.EntryLaws.{same_listing_entry-true, same_listing_entry-refl, first_entries-filter, list_any-first_entries, first_entries-again}
 use Rattle.links.proofs.Members.{same_bools, bytes_eq-refl, map-same, map-map, map-fixed, filter-map, find-map, Contains-map, list_any-from, list_any-found, list_any-same, find-Some, find-found, find-None, one_of_id}
 use Rattle.links.proofs.Tabled.{list_any-map, list_any-filter, held, not_held}
 use Rattle.links.proofs.TextLaws.{is_id-from, is_id-true, text_of-stands, keeps-at}
@@ -29,7 +30,7 @@ module _ (list : List ElementValue) (e : ElementValue) where
       ≡ (lists (filter (is_true_entry list e) e.bound) x || (lists (arrow_entries list e) x || lists (text_entries (text_of list e)) x))
   unfolding listing
   lists-listing x =
-      list_any-first_occurrences (same_listing_entry x) (filter (is_true_entry list e) e.bound ++ (arrow_entries list e ++ text_entries (text_of list e)))
+      list_any-first_entries (same_listing_entry x) (filter (is_true_entry list e) e.bound ++ (arrow_entries list e ++ text_entries (text_of list e)))
       ∙ list_any-append (same_listing_entry x) (filter (is_true_entry list e) e.bound) (arrow_entries list e ++ text_entries (text_of list e))
       ∙ ap (λ b. lists (filter (is_true_entry list e) e.bound) x || b) (list_any-append (same_listing_entry x) (arrow_entries list e) (text_entries (text_of list e)))
 
@@ -90,13 +91,13 @@ filter-listed p (x ∷ xs) h =
     cond-true (p x) (x ∷ filter p xs) (filter p xs) (h x (or_left (same_listing_entry x x) (lists xs x) (same_listing_entry-refl x)))
     ∙ ap (λ ys. x ∷ ys) (filter-listed p xs (λ y l. h y (or_right (same_listing_entry y x) (lists xs y) l)))
 
-suffix-listed : (xs ys : List BoundRef) → list_all (lists (first_occurrences (xs ++ ys))) ys ≡ true
+suffix-listed : (xs ys : List BoundRef) → list_all (lists (first_entries (xs ++ ys))) ys ≡ true
 suffix-listed xs [] = refl
 suffix-listed xs (y ∷ ys) =
     and_from _ _
-    (list_any-first_occurrences (same_listing_entry y) (xs ++ y ∷ ys) ∙ list_any-append (same_listing_entry y) xs (y ∷ ys)
+    (list_any-first_entries (same_listing_entry y) (xs ++ y ∷ ys) ∙ list_any-append (same_listing_entry y) xs (y ∷ ys)
     ∙ or_right (lists xs y) (lists (y ∷ ys) y) (or_left (same_listing_entry y y) (lists ys y) (same_listing_entry-refl y)))
-    (subst (λ zs. list_all (lists (first_occurrences zs)) ys ≡ true) (append_assoc xs (y ∷ []) ys) (suffix-listed (xs ++ y ∷ []) ys))
+    (subst (λ zs. list_all (lists (first_entries zs)) ys ≡ true) (append_assoc xs (y ∷ []) ys) (suffix-listed (xs ++ y ∷ []) ys))
 
 -- ---- a list with settled arrows
 module _ (list : List ElementValue) where
@@ -236,9 +237,9 @@ module _ (list : List ElementValue) where
       let kept : filter (is_true_entry (settled_arrows list) (with_settled_links list e)) (listing list e) ≡ listing list e =
       filter_agree (is_true_entry (settled_arrows list) (with_settled_links list e)) (is_true_entry list e) (λ x. true-settled e x x.role refl there) (listing list e)
       ∙ filter-listed (is_true_entry list e) (listing list e) (listed-true list e) in
-      ap₂ (λ xs ys. first_occurrences (xs ++ ys)) kept
+      ap₂ (λ xs ys. first_entries (xs ++ ys)) kept
       (ap₂ (λ xs o. xs ++ text_entries o) (arrows-settled e there) (text_of-linked e))
-      ∙ first_occurrences-again (true' ++ entries) entries (suffix-listed true' entries)
+      ∙ first_entries-again (true' ++ entries) entries (suffix-listed true' entries)
 
   pub settled_arrows-again : settled_arrows (settled_arrows list) ≡ settled_arrows list
   settled_arrows-again =
@@ -264,12 +265,12 @@ module _ (list : List ElementValue) where
         some (Some b) h = names_target-settled (Some b.target) ∙ h
 
   -- ---- one text at most
-  same_ones : (xs : List BoundRef) → ((x y : BoundRef) → lists xs x ≡ true → lists xs y ≡ true → x ≡ y) → length (first_occurrences xs) ≤ 1
+  same_ones : (xs : List BoundRef) → ((x y : BoundRef) → lists xs x ≡ true → lists xs y ≡ true → x ≡ y) → length (first_entries xs) ≤ 1
   same_ones [] h = omega arith
   same_ones (x ∷ xs) h =
-      let none : filter (λ y. not (same_listing_entry x y)) (first_occurrences xs) ≡ [] = nothing (λ y. not (same_listing_entry x y)) (first_occurrences xs)
+      let none : filter (λ y. not (same_listing_entry x y)) (first_entries xs) ≡ [] = nothing (λ y. not (same_listing_entry x y)) (first_entries xs)
       (λ y l. let here = or_left (same_listing_entry x x) (lists xs x) (same_listing_entry-refl x) in
-      let later = or_right (same_listing_entry y x) (lists xs y) (sym (list_any-first_occurrences (same_listing_entry y) xs) ∙ l) in
+      let later = or_right (same_listing_entry y x) (lists xs y) (sym (list_any-first_entries (same_listing_entry y) xs) ∙ l) in
       ap not (ap (same_listing_entry x) (sym (h x y here later)) ∙ same_listing_entry-refl x)) in
       subst (λ ys. length (x ∷ ys) ≤ 1) (sym none) (omega arith)
     where
@@ -284,7 +285,7 @@ module _ (list : List ElementValue) where
   one-listed e =
       let p = λ (x : BoundRef). is_for_text x.role in
       let zs = filter (is_true_entry list e) e.bound ++ (arrow_entries list e ++ text_entries (text_of list e)) in
-      subst (λ ys. length ys ≤ 1) (first_occurrences-filter p zs)
+      subst (λ ys. length ys ≤ 1) (first_entries-filter p zs)
       (same_ones (filter p zs) (λ x y l m.
       let first = text_is e x (passed zs x l) in
       let second = text_is e y (passed zs y m) in
@@ -293,11 +294,11 @@ module _ (list : List ElementValue) where
       λ i. record { id = id i; role = role i }))
     where
       -- an entry for a text among these is the one for the element's text
-      passed : (zs : List BoundRef) (x : BoundRef) → lists (filter (λ (x : BoundRef). is_for_text x.role) zs) x ≡ true → (lists (first_occurrences zs) x ≡ true) × (is_for_text x.role ≡ true)
+      passed : (zs : List BoundRef) (x : BoundRef) → lists (filter (λ (x : BoundRef). is_for_text x.role) zs) x ≡ true → (lists (first_entries zs) x ≡ true) × (is_for_text x.role ≡ true)
       passed zs x l =
           let found = list_any-found (λ z. is_for_text z.role && same_listing_entry x z) zs (sym (list_any-filter (λ (x : BoundRef). is_for_text x.role) (same_listing_entry x) zs) ∙ l) in
           let parts = and_parts (is_for_text found.0.role) (same_listing_entry x found.0) found.2 in (
-            list_any-first_occurrences (same_listing_entry x) zs ∙ list_any-from (same_listing_entry x) zs found.0 found.1 parts.1,
+            list_any-first_entries (same_listing_entry x) zs ∙ list_any-from (same_listing_entry x) zs found.0 found.1 parts.1,
             ap (λ (z : BoundRef). is_for_text z.role) (same_listing_entry-true x found.0 parts.1) ∙ parts.0,
           )
 

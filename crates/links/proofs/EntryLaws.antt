@@ -7,7 +7,8 @@ use Rattle.std.proofs.lemmas.Slice.Eq.{bytes_eq-Decides}
 use Rattle.elem.specs.declared.kind.Role.{Role}
 use Rattle.elem.specs.declared.kind.Role.TheVariants.{Arrow, Text}
 use Rattle.elem.specs.declared.parts.BoundRef.{BoundRef}
-use Rattle.links.specs.Entries.{same_role, same_listing_entry, lists, first_occurrences}
+use Rattle.elem.specs.Listings.{same_listing_entry, same_role}
+use Rattle.links.specs.Entries.{lists, first_entries}
 use Rattle.links.specs.Tables.{with_listing_entry, with_entries}
 
 -- ---- when entries are the same
@@ -77,26 +78,26 @@ skips p x h z =
     and_false false = refl
 
 -- ---- what the first occurrences are
-pub first_occurrences-filter : (p : BoundRef → Bool) (xs : List BoundRef) → first_occurrences (filter p xs) ≡ filter p (first_occurrences xs)
-first_occurrences-filter p [] = refl
-first_occurrences-filter p (x ∷ xs) =
+pub first_entries-filter : (p : BoundRef → Bool) (xs : List BoundRef) → first_entries (filter p xs) ≡ filter p (first_entries xs)
+first_entries-filter p [] = refl
+first_entries-filter p (x ∷ xs) =
     elim (cases_Bool (p x)) [
-      | inl t ↦ ap first_occurrences (cond-true (p x) (x ∷ filter p xs) (filter p xs) t)
-          ∙ ap (λ ys. x ∷ filter (is_other_entry x) ys) (first_occurrences-filter p xs)
-          ∙ ap (λ ys. x ∷ ys) (filter-comm (is_other_entry x) p (first_occurrences xs))
-          ∙ sym (cond-true (p x) (x ∷ filter p (filter (is_other_entry x) (first_occurrences xs))) _ t)
-      | inr f ↦ ap first_occurrences (cond-false (p x) (x ∷ filter p xs) (filter p xs) f)
-          ∙ first_occurrences-filter p xs
-          ∙ sym (filter-filter p (is_other_entry x) (first_occurrences xs) ∙ filter_agree (λ z. is_other_entry x z && p z) p (skips p x f) (first_occurrences xs))
-          ∙ sym (cond-false (p x) _ (filter p (filter (is_other_entry x) (first_occurrences xs))) f)
+      | inl t ↦ ap first_entries (cond-true (p x) (x ∷ filter p xs) (filter p xs) t)
+          ∙ ap (λ ys. x ∷ filter (is_other_entry x) ys) (first_entries-filter p xs)
+          ∙ ap (λ ys. x ∷ ys) (filter-comm (is_other_entry x) p (first_entries xs))
+          ∙ sym (cond-true (p x) (x ∷ filter p (filter (is_other_entry x) (first_entries xs))) _ t)
+      | inr f ↦ ap first_entries (cond-false (p x) (x ∷ filter p xs) (filter p xs) f)
+          ∙ first_entries-filter p xs
+          ∙ sym (filter-filter p (is_other_entry x) (first_entries xs) ∙ filter_agree (λ z. is_other_entry x z && p z) p (skips p x f) (first_entries xs))
+          ∙ sym (cond-false (p x) _ (filter p (filter (is_other_entry x) (first_entries xs))) f)
     ]
 
-pub first_occurrences-twice : (xs : List BoundRef) → first_occurrences (first_occurrences xs) ≡ first_occurrences xs
-first_occurrences-twice [] = refl
-first_occurrences-twice (x ∷ xs) =
-    ap (λ ys. x ∷ filter (is_other_entry x) ys) (first_occurrences-filter (is_other_entry x) (first_occurrences xs))
-    ∙ ap (λ ys. x ∷ ys) (filter-twice (is_other_entry x) (first_occurrences (first_occurrences xs)))
-    ∙ ap (λ ys. x ∷ filter (is_other_entry x) ys) (first_occurrences-twice xs)
+pub first_entries-twice : (xs : List BoundRef) → first_entries (first_entries xs) ≡ first_entries xs
+first_entries-twice [] = refl
+first_entries-twice (x ∷ xs) =
+    ap (λ ys. x ∷ filter (is_other_entry x) ys) (first_entries-filter (is_other_entry x) (first_entries xs))
+    ∙ ap (λ ys. x ∷ ys) (filter-twice (is_other_entry x) (first_entries (first_entries xs)))
+    ∙ ap (λ ys. x ∷ filter (is_other_entry x) ys) (first_entries-twice xs)
 
 -- a test finds the same among first occurrences
 list_any-others : (p : BoundRef → Bool) (x : BoundRef) (xs : List BoundRef) → (p x || list_any p (filter (is_other_entry x) xs)) ≡ (p x || list_any p xs)
@@ -120,9 +121,9 @@ list_any-others p x (y ∷ ys) =
     swap' false true d = refl
     swap' false false d = refl
 
-pub list_any-first_occurrences : (p : BoundRef → Bool) (xs : List BoundRef) → list_any p (first_occurrences xs) ≡ list_any p xs
-list_any-first_occurrences p [] = refl
-list_any-first_occurrences p (x ∷ xs) = list_any-others p x (first_occurrences xs) ∙ ap (λ b. p x || b) (list_any-first_occurrences p xs)
+pub list_any-first_entries : (p : BoundRef → Bool) (xs : List BoundRef) → list_any p (first_entries xs) ≡ list_any p xs
+list_any-first_entries p [] = refl
+list_any-first_entries p (x ∷ xs) = list_any-others p x (first_entries xs) ∙ ap (λ b. p x || b) (list_any-first_entries p xs)
 
 -- ---- one more entry
 lists-others : (x y : BoundRef) (xs : List BoundRef) → same_listing_entry x y ≡ false → lists (filter (is_other_entry y) xs) x ≡ lists xs x
@@ -138,33 +139,33 @@ same_listing_entry-sym x y h = same_listing_entry-from y x (sym (same_listing_en
 filter-one : (p : BoundRef → Bool) (x : BoundRef) (xs : List BoundRef) (b : Bool) → p x ≡ b → filter p (xs ++ x ∷ []) ≡ filter p xs ++ cond b (x ∷ []) []
 filter-one p x xs b h = filter-append p xs (x ∷ []) ∙ ap (λ d. filter p xs ++ cond d (x ∷ []) []) h
 
-pub first_occurrences-push : (xs : List BoundRef) (x : BoundRef) → first_occurrences (xs ++ x ∷ []) ≡ with_listing_entry (first_occurrences xs) x
-first_occurrences-push [] x = refl
-first_occurrences-push (y ∷ xs) x =
-    ap (λ ys. y ∷ filter (is_other_entry y) ys) (first_occurrences-push xs x)
+pub first_entries-push : (xs : List BoundRef) (x : BoundRef) → first_entries (xs ++ x ∷ []) ≡ with_listing_entry (first_entries xs) x
+first_entries-push [] x = refl
+first_entries-push (y ∷ xs) x =
+    ap (λ ys. y ∷ filter (is_other_entry y) ys) (first_entries-push xs x)
     ∙ elim (cases_Bool (same_listing_entry x y)) [
       | inl t ↦
-          ap (λ ys. y ∷ ys) (elim (lists (first_occurrences xs) x) as (λ b. filter (is_other_entry y) (cond b (first_occurrences xs) (first_occurrences xs ++ x ∷ [])) ≡ filter (is_other_entry y) (first_occurrences xs)) [
+          ap (λ ys. y ∷ ys) (elim (lists (first_entries xs) x) as (λ b. filter (is_other_entry y) (cond b (first_entries xs) (first_entries xs ++ x ∷ [])) ≡ filter (is_other_entry y) (first_entries xs)) [
             | true ↦ refl
-            | false ↦ filter-one (is_other_entry y) x (first_occurrences xs) false (not_from_true _ (same_listing_entry-sym x y t)) ∙ append-nil (filter (is_other_entry y) (first_occurrences xs))
+            | false ↦ filter-one (is_other_entry y) x (first_entries xs) false (not_from_true _ (same_listing_entry-sym x y t)) ∙ append-nil (filter (is_other_entry y) (first_entries xs))
           ])
-          ∙ sym (cond-true (lists (y ∷ filter (is_other_entry y) (first_occurrences xs)) x) _ _ (or_left (same_listing_entry x y) (lists (filter (is_other_entry y) (first_occurrences xs)) x) t))
+          ∙ sym (cond-true (lists (y ∷ filter (is_other_entry y) (first_entries xs)) x) _ _ (or_left (same_listing_entry x y) (lists (filter (is_other_entry y) (first_entries xs)) x) t))
       | inr f ↦
           let apart : is_other_entry y x ≡ true = not_from_false _ (false_from_ne_true (same_listing_entry y x) (λ h. both_ways (same_listing_entry x y) f (same_listing_entry-sym y x h))) in
-          let here : lists (y ∷ filter (is_other_entry y) (first_occurrences xs)) x ≡ lists (first_occurrences xs) x = ap (λ b. b || lists (filter (is_other_entry y) (first_occurrences xs)) x) f ∙ lists-others x y (first_occurrences xs) f in
-          (elim (lists (first_occurrences xs) x) as (λ b. y ∷ filter (is_other_entry y) (cond b (first_occurrences xs) (first_occurrences xs ++ x ∷ []))
-          ≡ cond b (y ∷ filter (is_other_entry y) (first_occurrences xs)) (y ∷ filter (is_other_entry y) (first_occurrences xs) ++ x ∷ [])) [
+          let here : lists (y ∷ filter (is_other_entry y) (first_entries xs)) x ≡ lists (first_entries xs) x = ap (λ b. b || lists (filter (is_other_entry y) (first_entries xs)) x) f ∙ lists-others x y (first_entries xs) f in
+          (elim (lists (first_entries xs) x) as (λ b. y ∷ filter (is_other_entry y) (cond b (first_entries xs) (first_entries xs ++ x ∷ []))
+          ≡ cond b (y ∷ filter (is_other_entry y) (first_entries xs)) (y ∷ filter (is_other_entry y) (first_entries xs) ++ x ∷ [])) [
             | true ↦ refl
-            | false ↦ ap (λ ys. y ∷ ys) (filter-one (is_other_entry y) x (first_occurrences xs) true apart)
+            | false ↦ ap (λ ys. y ∷ ys) (filter-one (is_other_entry y) x (first_entries xs) true apart)
           ])
-          ∙ ap (λ b. cond b (y ∷ filter (is_other_entry y) (first_occurrences xs)) ((y ∷ filter (is_other_entry y) (first_occurrences xs)) ++ x ∷ [])) (sym here)
+          ∙ ap (λ b. cond b (y ∷ filter (is_other_entry y) (first_entries xs)) ((y ∷ filter (is_other_entry y) (first_entries xs)) ++ x ∷ [])) (sym here)
     ]
 
-pub with_entries-first : (xs ys : List BoundRef) → with_entries (first_occurrences xs) ys ≡ first_occurrences (xs ++ ys)
-with_entries-first xs [] = ap first_occurrences (sym (append-nil xs))
+pub with_entries-first : (xs ys : List BoundRef) → with_entries (first_entries xs) ys ≡ first_entries (xs ++ ys)
+with_entries-first xs [] = ap first_entries (sym (append-nil xs))
 with_entries-first xs (y ∷ ys) =
-    ap (λ zs. with_entries zs ys) (sym (first_occurrences-push xs y)) ∙ with_entries-first (xs ++ y ∷ []) ys
-    ∙ ap first_occurrences (append_assoc xs (y ∷ []) ys)
+    ap (λ zs. with_entries zs ys) (sym (first_entries-push xs y)) ∙ with_entries-first (xs ++ y ∷ []) ys
+    ∙ ap first_entries (append_assoc xs (y ∷ []) ys)
 
 pub with_entries-push : (entries xs : List BoundRef) (x : BoundRef) → with_entries entries (xs ++ x ∷ []) ≡ with_listing_entry (with_entries entries xs) x
 with_entries-push entries [] x = refl
@@ -177,6 +178,6 @@ with_entries-listed entries (x ∷ xs) h =
     let p = and_parts (lists entries x) (list_all (lists entries) xs) h in
     ap (λ zs. with_entries zs xs) (cond-true (lists entries x) entries (entries ++ x ∷ []) p.0) ∙ with_entries-listed entries xs p.1
 
-pub first_occurrences-again : (xs ys : List BoundRef) → list_all (lists (first_occurrences xs)) ys ≡ true → first_occurrences (first_occurrences xs ++ ys) ≡ first_occurrences xs
-first_occurrences-again xs ys h =
-    sym (with_entries-first (first_occurrences xs) ys) ∙ ap (λ zs. with_entries zs ys) (first_occurrences-twice xs) ∙ with_entries-listed (first_occurrences xs) ys h
+pub first_entries-again : (xs ys : List BoundRef) → list_all (lists (first_entries xs)) ys ≡ true → first_entries (first_entries xs ++ ys) ≡ first_entries xs
+first_entries-again xs ys h =
+    sym (with_entries-first (first_entries xs) ys) ∙ ap (λ zs. with_entries zs ys) (first_entries-twice xs) ∙ with_entries-listed (first_entries xs) ys h

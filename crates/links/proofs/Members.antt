@@ -8,7 +8,8 @@ use Rattle.std.proofs.lemmas.List.Folds.{list_any_at}
 use Rattle.std.proofs.lemmas.Map.Keys.{IsDistinct-head, IsDistinct-tail}
 use Rattle.std.proofs.lemmas.Slice.Eq.{bytes_eq-Decides}
 use Rattle.elem.specs.ElementValue.{ElementValue}
-use Rattle.links.specs.Names.{id_of, HaveDistinctIds}
+use Rattle.elem.specs.Order.{HaveDistinctIds}
+use Rattle.links.specs.Names.{id_of}
 
 pub same_bools : (a b : Bool) → (a ≡ true → b ≡ true) → (b ≡ true → a ≡ true) → a ≡ b
 same_bools true b to back = sym (to refl)

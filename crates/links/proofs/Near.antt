@@ -10,9 +10,9 @@ use Rattle.elem.specs.declared.kind.Role.TheVariants.{Arrow, Text}
 use Rattle.elem.specs.declared.parts.BoundRef.{BoundRef}
 use Rattle.elem.specs.declared.parts.Binding.{Binding}
 use Rattle.elem.specs.ElementValue.{ElementValue}
-use Rattle.elem.specs.Order.{has_id}
-use Rattle.links.specs.Names.{id_of, is_text, is_arrow, is_id, can_hold_text, names_container, target_of, end_names, has_end_at, is_target, HaveDistinctIds}
-use Rattle.links.specs.Entries.{arrow_entry, first_occurrences}
+use Rattle.elem.specs.Order.{has_id, HaveDistinctIds}
+use Rattle.links.specs.Names.{id_of, is_text, is_arrow, is_id, can_hold_text, names_container, target_of, end_names, has_end_at, is_target}
+use Rattle.links.specs.Entries.{arrow_entry, first_entries}
 use Rattle.links.specs.Texts.{is_for_text, is_text_entry, first_text, text_of, is_text_of, keeps_container, with_settled_container, settled_texts}
 use Rattle.links.specs.Arrows.{names_target, settled_end, is_bound_to, is_true_as, arrow_entries, text_entries, listing, with_settled_links}
 use Rattle.links.specs.Settled.{settled_links}
@@ -129,7 +129,7 @@ module _ (list : List ElementValue) (among : ElementValue → Bool) where
     listing-among : listing (settled_texts (filter among list)) (with_settled_container list e) ≡ listing (settled_texts list) (with_settled_container list e)
     unfolding listing
     listing-among = λ i.
-        first_occurrences (filter (λ (x : BoundRef). true-among x.role x.id i) e.bound ++ (arrows-among i ++ text_entries (text-among i)))
+        first_entries (filter (λ (x : BoundRef). true-among x.role x.id i) e.bound ++ (arrows-among i ++ text_entries (text-among i)))
 
     start-among : settled_end (settled_texts (filter among list)) e.start_binding ≡ settled_end (settled_texts list) e.start_binding
     start-among =

@@ -2,8 +2,8 @@
 use Rattle.std.proofs.Common.{◌≡◌, ℕ, Bool, true, false, ◌&&◌, ◌||◌, List, [], ◌∷◌, ◌++◌, map, Option, Some, None, bytes_eq, refl, ap, ap₂, ◌∙◌}
 use Rattle.std.specs.List.{list_any, AllByRecursion, IsDistinct}
 use Rattle.std.proofs.lemmas.List.Folds.{list_any-append}
-use Rattle.first_texts.specs.FirstOccurrences.{first_occurrences}
-use Rattle.first_texts.proofs.FirstLaws.{Contains-first_occurrences, IsDistinct-first_occurrences}
+use Rattle.first_texts.specs.FirstOccurrences.{first_texts}
+use Rattle.first_texts.proofs.FirstLaws.{Contains-first_texts, IsDistinct-first_texts}
 use Rattle.elem.specs.ElementValue.{ElementValue}
 use Rattle.links.specs.declared.rows.LinkRow.{LinkRow}
 use Rattle.links.specs.Names.{is_id, target_of}
@@ -12,11 +12,11 @@ use Rattle.links.specs.Steps.{names_id}
 use Rattle.links.proofs.Members.{same_bools, list_any-from, list_any-found}
 use Rattle.links.proofs.Tabled.{list_any-map}
 
-any-first : (p : List ℕ → Bool) (ids : List (List ℕ)) → list_any p (first_occurrences ids) ≡ list_any p ids
+any-first : (p : List ℕ → Bool) (ids : List (List ℕ)) → list_any p (first_texts ids) ≡ list_any p ids
 any-first p ids =
-    same_bools (list_any p (first_occurrences ids)) (list_any p ids)
-    (λ h. let found = list_any-found p (first_occurrences ids) h in list_any-from p ids found.0 ((Contains-first_occurrences ids found.0).0 found.1) found.2)
-    (λ h. let found = list_any-found p ids h in list_any-from p (first_occurrences ids) found.0 ((Contains-first_occurrences ids found.0).1 found.1) found.2)
+    same_bools (list_any p (first_texts ids)) (list_any p ids)
+    (λ h. let found = list_any-found p (first_texts ids) h in list_any-from p ids found.0 ((Contains-first_texts ids found.0).0 found.1) found.2)
+    (λ h. let found = list_any-found p ids h in list_any-from p (first_texts ids) found.0 ((Contains-first_texts ids found.0).1 found.1) found.2)
 
 any-there : (id : List ℕ) (o : Option (List ℕ)) → list_any (bytes_eq id) (id_there o) ≡ is_id id o
 any-there id None = refl
@@ -36,7 +36,7 @@ rows_of-named e id =
     let frame = id_there e.frame in
     let start = id_there (target_of e.start_binding) in
     let end' = id_there (target_of e.end_binding) in
-    list_any-map (λ (named : List ℕ). record { named = named; namer = e.id }) (is_for id) (first_occurrences (container ++ (frame ++ (start ++ end'))))
+    list_any-map (λ (named : List ℕ). record { named = named; namer = e.id }) (is_for id) (first_texts (container ++ (frame ++ (start ++ end'))))
     ∙ any-first p (container ++ (frame ++ (start ++ end')))
     ∙ list_any-append p container (frame ++ (start ++ end'))
     ∙ ap (λ b. list_any p container || b) (list_any-append p frame (start ++ end') ∙ ap (λ b. list_any p frame || b) (list_any-append p start end'))
@@ -56,4 +56,4 @@ distinct-rows namer [] h = tt
 distinct-rows namer (id ∷ ids) h = (apart-rows id namer ids h.0, distinct-rows namer ids h.1)
 
 pub rows_of-distinct : (e : ElementValue) → IsDistinct same_row (rows_of e)
-rows_of-distinct e = distinct-rows e.id (named_ids e) (IsDistinct-first_occurrences _)
+rows_of-distinct e = distinct-rows e.id (named_ids e) (IsDistinct-first_texts _)

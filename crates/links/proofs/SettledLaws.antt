@@ -3,7 +3,8 @@ use Rattle.std.proofs.Common.{◌≡◌, List, map, bytes_eq, sym, ap, subst, �
 use Rattle.std.specs.List.{IsDistinct}
 use Rattle.elem.specs.ElementValue.{ElementValue}
 use Rattle.links.specs.Arrows.{with_settled_links, settled_arrows}
-use Rattle.links.specs.Names.{id_of, HaveDistinctIds}
+use Rattle.elem.specs.Order.{HaveDistinctIds}
+use Rattle.links.specs.Names.{id_of}
 use Rattle.links.specs.Settled.{unlinked, settled_links}
 use Rattle.links.specs.Texts.{with_settled_container, settled_texts}
 use Rattle.links.proofs.ArrowLaws.{settled_arrows-again, settled_texts-linked}

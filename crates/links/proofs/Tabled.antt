@@ -15,11 +15,11 @@ use Rattle.elem.specs.ElementValue.{ElementValue}
 use Rattle.elem.specs.Order.{has_id}
 use Rattle.links.specs.declared.table.Row.{Row}
 use Rattle.links.specs.Arrows.{is_bound_to, is_true_as, is_true_entry, arrow_entries, text_entries, listing}
-use Rattle.links.specs.Entries.{arrow_entry, first_occurrences}
+use Rattle.links.specs.Entries.{arrow_entry, first_entries}
 use Rattle.links.specs.Names.{id_of, is_arrow, is_id, can_hold_text, names_container, target_of, end_names, has_end_at, is_target}
 use Rattle.links.specs.Tables.{is_under, row_element, elements_under, Adds, IsTable, with_listing_entry, with_entries}
 use Rattle.links.specs.Texts.{is_for_text, is_text_entry, listed_text, first_text, text_of, is_text_of, keeps_container}
-use Rattle.links.proofs.EntryLaws.{first_occurrences-push, with_entries-first, with_entries-push}
+use Rattle.links.proofs.EntryLaws.{first_entries-push, with_entries-first, with_entries-push}
 use Rattle.links.proofs.Sorting.{bytes_eq-cmp}
 
 pub elements_under-append : (key : List ℕ) (rows others : List Row) → elements_under key (rows ++ others) ≡ elements_under key rows ++ elements_under key others
@@ -196,27 +196,27 @@ with_entries-row start rows i row id entries new l is same so_far added =
     ∙ map-append (λ (e : ElementValue). arrow_entry e.id) (map row_element (take i rows)) (row_element row ∷ [])))
 
 module _ (p : BoundRef → Bool) (xs : List BoundRef) (i : ℕ) (x : BoundRef) (entries new : List BoundRef) (l : i < length xs) (is : x ≡ get_or xs i x)
-    (so_far : entries ≡ first_occurrences (filter p (take i xs))) where
+    (so_far : entries ≡ first_entries (filter p (take i xs))) where
   kept_more : filter p (take (i + 1) xs) ≡ filter p (take i xs) ++ cond (p x) (x ∷ []) []
   kept_more = filter_more p xs i x l ∙ ap (λ (y : BoundRef). filter p (take i xs) ++ cond (p y) (y ∷ []) []) (sym is)
 
-  pub first_occurrences-kept : p x ≡ true → new ≡ with_listing_entry entries x → new ≡ first_occurrences (filter p (take (i + 1) xs))
-  first_occurrences-kept h added =
-      added ∙ ap (λ ys. with_listing_entry ys x) so_far ∙ sym (first_occurrences-push (filter p (take i xs)) x)
-      ∙ ap first_occurrences (sym (kept_more ∙ ap (λ b. filter p (take i xs) ++ cond b (x ∷ []) []) h))
+  pub first_entries-kept : p x ≡ true → new ≡ with_listing_entry entries x → new ≡ first_entries (filter p (take (i + 1) xs))
+  first_entries-kept h added =
+      added ∙ ap (λ ys. with_listing_entry ys x) so_far ∙ sym (first_entries-push (filter p (take i xs)) x)
+      ∙ ap first_entries (sym (kept_more ∙ ap (λ b. filter p (take i xs) ++ cond b (x ∷ []) []) h))
 
-  pub first_occurrences-left : p x ≡ false → entries ≡ first_occurrences (filter p (take (i + 1) xs))
-  first_occurrences-left h =
-      so_far ∙ ap first_occurrences (sym (kept_more ∙ ap (λ b. filter p (take i xs) ++ cond b (x ∷ []) []) h ∙ append-nil (filter p (take i xs))))
+  pub first_entries-left : p x ≡ false → entries ≡ first_entries (filter p (take (i + 1) xs))
+  first_entries-left h =
+      so_far ∙ ap first_entries (sym (kept_more ∙ ap (λ b. filter p (take i xs) ++ cond b (x ∷ []) []) h ∙ append-nil (filter p (take i xs))))
 
-pub listing-made : (list : List ElementValue) (e : ElementValue) (own entries : List BoundRef) → own ≡ first_occurrences (filter (is_true_entry list e) e.bound)
+pub listing-made : (list : List ElementValue) (e : ElementValue) (own entries : List BoundRef) → own ≡ first_entries (filter (is_true_entry list e) e.bound)
     → entries ≡ with_entries own (arrow_entries list e) → with_entries entries (text_entries (text_of list e)) ≡ listing list e
 unfolding listing
 listing-made list e own entries is made =
     let true' = filter (is_true_entry list e) e.bound in
     ap (λ es. with_entries es (text_entries (text_of list e))) (made ∙ ap (λ es. with_entries es (arrow_entries list e)) is ∙ with_entries-first true' (arrow_entries list e))
     ∙ with_entries-first (true' ++ arrow_entries list e) (text_entries (text_of list e))
-    ∙ ap first_occurrences (append_assoc true' (arrow_entries list e) (text_entries (text_of list e)))
+    ∙ ap first_entries (append_assoc true' (arrow_entries list e) (text_entries (text_of list e)))
 
 -- ---- each element with what was found of it
 pub zip-map : {X Y Z : Type 0} (f : X → Y) (g : X → Y → Z) (xs : List X) → map (λ (p : X × Y). g p.0 p.1) (zip xs (map f xs)) ≡ map (λ x. g x (f x)) xs

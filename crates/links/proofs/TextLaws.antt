@@ -6,8 +6,8 @@ use Rattle.std.proofs.lemmas.Bool.{and_parts, and_from, cases_Bool, cond-true}
 use Rattle.std.proofs.lemmas.Slice.Eq.{bytes_eq-Decides}
 use Rattle.elem.specs.declared.parts.BoundRef.{BoundRef}
 use Rattle.elem.specs.ElementValue.{ElementValue}
-use Rattle.elem.specs.Order.{has_id}
-use Rattle.links.specs.Names.{id_of, is_text, is_id, can_hold_text, names_container, HaveDistinctIds}
+use Rattle.elem.specs.Order.{has_id, HaveDistinctIds}
+use Rattle.links.specs.Names.{id_of, is_text, is_id, can_hold_text, names_container}
 use Rattle.links.specs.Texts.{is_for_text, is_text_entry, listed_text, first_text, text_of, is_text_of, keeps_container, with_settled_container, settled_texts}
 use Rattle.links.proofs.Members.{same_bools, bytes_eq-refl, map-same, map-map, find-map, list_any-from, list_any-found, list_any-same, list_any-and, find-Some, find-narrow, one_of_id}
 use Rattle.links.proofs.Tabled.{list_any-map, held, not_held}

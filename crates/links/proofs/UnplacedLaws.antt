@@ -8,7 +8,7 @@ use Rattle.elem.specs.declared.parts.BoundRef.{BoundRef}
 use Rattle.elem.specs.ElementValue.{ElementValue}
 use Rattle.elem.specs.Order.{has_id}
 use Rattle.links.specs.Names.{id_of, is_id, can_hold_text, names_container, target_of, is_target}
-use Rattle.links.specs.Entries.{arrow_entry, first_occurrences}
+use Rattle.links.specs.Entries.{arrow_entry, first_entries}
 use Rattle.links.specs.Texts.{is_for_text, is_text_entry, listed_text, first_text, text_of, is_text_of, keeps_container, with_settled_container, settled_texts}
 use Rattle.links.specs.Arrows.{names_target, is_bound_to, is_true_as, arrow_entries, text_entries, listing, with_settled_links, settled_arrows}
 use Rattle.links.specs.Settled.{unplaced, settled_links}
@@ -63,7 +63,7 @@ module _ (list : List ElementValue) where
   listing-unplaced : (e : ElementValue) → listing (map unplaced list) (unplaced e) ≡ listing list e
   unfolding listing
   listing-unplaced e = λ i.
-      first_occurrences (filter (λ (x : BoundRef). true-unplaced e x.role x.id i) e.bound ++ (arrows-unplaced e i ++ text_entries (text_of-unplaced e i)))
+      first_entries (filter (λ (x : BoundRef). true-unplaced e x.role x.id i) e.bound ++ (arrows-unplaced e i ++ text_entries (text_of-unplaced e i)))
 
   arrows-all-unplaced : settled_arrows (map unplaced list) ≡ map unplaced (settled_arrows list)
   arrows-all-unplaced =

@@ -8,7 +8,7 @@ use Rattle.elem.specs.declared.parts.Binding.{Binding}
 use Rattle.elem.specs.ElementValue.{ElementValue}
 use Rattle.elem.specs.Order.{has_id}
 use Rattle.links.specs.Names.{is_id, target_of, is_target, has_end_at}
-use Rattle.links.specs.Entries.{arrow_entry, text_entry, first_occurrences}
+use Rattle.links.specs.Entries.{arrow_entry, text_entry, first_entries}
 use Rattle.links.specs.Texts.{text_of}
 
 -- whether what an end names is a bindable target of the list
@@ -44,7 +44,7 @@ text_entries (Some id) = text_entry id ∷ []
 -- order, then that of its text; of each the first occurrence.
 unfoldable pub listing : List ElementValue → ElementValue → List BoundRef
 listing list e =
-    first_occurrences (filter (is_true_entry list e) e.bound ++ (arrow_entries list e ++ text_entries (text_of list e)))
+    first_entries (filter (is_true_entry list e) e.bound ++ (arrow_entries list e ++ text_entries (text_of list e)))
 
 -- the settled element of arrows: with its ends settled, and its listing made anew
 abbrev pub with_settled_links : List ElementValue → ElementValue → ElementValue

@@ -1,19 +1,10 @@
 -- Entries of listings.
-use Rattle.std.specs.Prelude.{ℕ, List, [], ◌∷◌, Bool, true, false, not, ◌&&◌, filter, bytes_eq}
+use Rattle.std.specs.Prelude.{ℕ, List, Bool}
 use Rattle.std.specs.List.{list_any}
-use Rattle.elem.specs.declared.kind.Role.{Role}
+use Rattle.first_texts.specs.FirstOccurrences.{first_occurrences}
+use Rattle.elem.specs.Listings.{same_listing_entry}
 use Rattle.elem.specs.declared.kind.Role.TheVariants.{Arrow, Text}
 use Rattle.elem.specs.declared.parts.BoundRef.{BoundRef}
-
-abbrev pub same_role : Role → Role → Bool
-same_role Arrow Arrow = true
-same_role Arrow Text = false
-same_role Text Arrow = false
-same_role Text Text = true
-
--- whether two entries are the same
-abbrev pub same_listing_entry : BoundRef → BoundRef → Bool
-same_listing_entry entry other = same_role entry.role other.role && bytes_eq entry.id other.id
 
 -- the entry of an arrow, and that of a text
 abbrev pub arrow_entry : List ℕ → BoundRef
@@ -26,7 +17,6 @@ text_entry id = record { id = id; role = Text }
 abbrev pub lists : List BoundRef → BoundRef → Bool
 lists entries entry = list_any (same_listing_entry entry) entries
 
--- the first occurrences of entries, in their order: an entry, and those behind it that are other ones
-abbrev pub first_occurrences : List BoundRef → List BoundRef
-first_occurrences [] = []
-first_occurrences (entry ∷ entries) = entry ∷ filter (λ other. not (same_listing_entry entry other)) (first_occurrences entries)
+-- each entry once, in the order of the first occurrences
+abbrev pub first_entries : List BoundRef → List BoundRef
+first_entries entries = first_occurrences same_listing_entry entries

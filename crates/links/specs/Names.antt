@@ -1,7 +1,6 @@
 -- Which elements name one another: a text its container, an arrow what its ends are bound to.
 -- Source: Excalidraw's element types; which kinds may be named is this project's own.
-use Rattle.std.specs.Prelude.{ℕ, List, Bool, true, false, ◌&&◌, ◌||◌, Option, Some, None, is_none, map, bytes_eq}
-use Rattle.std.specs.List.{IsDistinct}
+use Rattle.std.specs.Prelude.{ℕ, List, Bool, true, false, ◌&&◌, ◌||◌, Option, Some, None, is_none, bytes_eq}
 use Rattle.elem.specs.declared.kind.Kind.{Kind}
 use Rattle.elem.specs.declared.kind.Kind.TheVariants.{Rectangle, Diamond, Ellipse, Arrow, Line, Freedraw, Text, Image, Frame, Magicframe, Iframe, Embeddable, Other}
 use Rattle.elem.specs.declared.parts.Binding.{Binding}
@@ -9,10 +8,6 @@ use Rattle.elem.specs.ElementValue.{ElementValue}
 
 abbrev pub id_of : ElementValue → List ℕ
 id_of e = e.id
-
--- no two elements have one id
-abbrev pub HaveDistinctIds : List ElementValue → Type 0
-HaveDistinctIds elements = IsDistinct bytes_eq (map id_of elements)
 
 abbrev pub is_text : Kind → Bool
 is_text Text = true

@@ -2,7 +2,7 @@
 use Rattle.std.specs.Prelude.{◌≡◌, ℕ, ◌-◌, ◌<◌, ◌≤◌, min, List, [], ◌∷◌, ◌++◌, Bool, true, ◌&&◌, ◌||◌, Option, Some, None, AllPairs, length, map, slice_get, slice_index_or, bytes_eq}
 use Rattle.std.specs.List.{list_any}
 use Rattle.frac_keys.specs.Keys.{bytes_less}
-use Rattle.first_texts.specs.FirstOccurrences.{first_occurrences}
+use Rattle.first_texts.specs.FirstOccurrences.{first_texts}
 use Rattle.elem.specs.ElementValue.{ElementValue}
 use Rattle.links.specs.declared.rows.LinkRow.{LinkRow}
 use Rattle.links.specs.Names.{target_of}
@@ -14,7 +14,7 @@ id_there (Some id) = id ∷ []
 
 -- the ids that an element names: its container's, its frame's and those that its ends are bound to, each once
 abbrev pub named_ids : ElementValue → List (List ℕ)
-named_ids e = first_occurrences (id_there e.container ++ (id_there e.frame ++ (id_there (target_of e.start_binding) ++ id_there (target_of e.end_binding))))
+named_ids e = first_texts (id_there e.container ++ (id_there e.frame ++ (id_there (target_of e.start_binding) ++ id_there (target_of e.end_binding))))
 
 -- the row of an id that an element names, and the rows of all of them
 abbrev pub row_of : ElementValue → List ℕ → LinkRow

@@ -3,7 +3,7 @@
 ghost use Rattle.std.specs.Prelude.{◌≡◌, [], filter, map, IfOk, OnOk};
 ghost use Rattle.std.specs.Option.{option_copied};
 ghost use Rattle.links.specs.Arrows as words;
-ghost use Rattle.links.specs.Entries.{first_occurrences};
+ghost use Rattle.links.specs.Entries.{first_entries};
 ghost use Rattle.links.specs.Tables.{links_of, with_entries, AreSeen};
 ghost use Rattle.links.specs.Texts.{text_of};
 ghost use Rattle.elem.specs.declared.kind.Role.TheVariants as roles;
@@ -82,7 +82,7 @@ impl<'a> Names<'a> {
         requires empty { listing.old.entries.items ≡ [] }
         requires text { option_copied text ≡ text_of self.now e.now }
         requires seen { AreSeen listing.old.entries.items listing.old.arrows listing.old.texts }
-        ensures entries { OnOk result (listing.new.entries.items ≡ first_occurrences (filter (words.is_true_entry self.now e.now) e.now.bound)) }
+        ensures entries { OnOk result (listing.new.entries.items ≡ first_entries (filter (words.is_true_entry self.now e.now) e.now.bound)) }
         ensures seen { OnOk result (AreSeen listing.new.entries.items listing.new.arrows listing.new.texts) }
     {
         for entry in bound_of(e).as_slice() {

@@ -2,9 +2,8 @@
 
 ghost use Rattle.std.specs.Prelude.{◌≡◌, ℕ, List, Bool, All, Contains, IsTrue, find, filter, map};
 ghost use Rattle.elem.specs.ElementValue.{ElementValue};
-ghost use Rattle.elem.specs.Order.{has_id};
+ghost use Rattle.elem.specs.Order.{has_id, HaveDistinctIds};
 ghost use Rattle.links.specs.Arrows.{settled_arrows};
-ghost use Rattle.links.specs.Names.{HaveDistinctIds};
 ghost use Rattle.links.specs.Settled.{unlinked, unplaced, settled_links, ArrowsAgree, TextsAgree, HaveOneText, NameTargets};
 ghost use Rattle.links.specs.Steps.{is_within, near};
 ghost use Rattle.links.specs.Texts.{settled_texts};

@@ -3,7 +3,7 @@
 ghost use Rattle.std.specs.Prelude.{◌≡◌, map, IfOk};
 ghost use Rattle.std.specs.List.{zip};
 ghost use Rattle.links.specs.Arrows.{settled_arrows};
-ghost use Rattle.links.specs.Names.{HaveDistinctIds};
+ghost use Rattle.elem.specs.Order.{HaveDistinctIds};
 ghost use Rattle.links.specs.Settled.{unlinked, ArrowsAgree, TextsAgree, HaveOneText, NameTargets};
 ghost use Rattle.links.specs.Tables as tables;
 ghost use Rattle.links.specs.Texts as texts;

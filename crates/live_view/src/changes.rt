@@ -62,8 +62,7 @@ fn stored<'a>(store: &'a Store, id: &Text) -> Option<&'a Element>
     ensures element { option_copied result ≡ element_of store.now.elements id.now }
     ensures ordered { are_rising (ids_of store.now.elements) ≡ true }
 {
-    // So that it is known that the ids rise.
-    let _first = store.at(0);
+    store.tell();
     store.get(id)
 }
 
@@ -83,8 +82,7 @@ fn store_after(alloc: Global, store: &Store, changed: &[Element]) -> Result<Stor
     ensures stored { IfOk result (λ after. AreStored (store.now.elements ++ changed.now) after.elements) }
     ensures ordered { are_rising (ids_of store.now.elements) ≡ true }
 {
-    // So that it is known that the ids rise.
-    let _first = store.at(0);
+    store.tell();
     let mut updates = stored_elements(alloc, store)?;
     push_copies(&mut updates, changed)?;
     Store::from_updates(alloc, List::from_vec(updates))

@@ -3,7 +3,8 @@
 ghost use Rattle.std.specs.Prelude.{◌≡◌, true, IfOk};
 ghost use Rattle.frac_keys.specs.Rising.{are_rising};
 ghost use Rattle.elem_store.specs.Updates.{ids_of};
-ghost use Rattle.view.specs.Shown.{is_live, live_elements, placed, shown, HaveDistinctIds, HaveKeysOrNone};
+ghost use Rattle.elem.specs.Order.{HaveDistinctIds};
+ghost use Rattle.view.specs.Shown.{is_live, live_elements, placed, shown, HaveKeysOrNone};
 
 use crate::live::LiveView;
 use crate::order;
@@ -32,6 +33,7 @@ fn live_of(alloc: Global, store: &Store) -> Result<Vec<Element>, AllocError>
     ensures exact { IfOk result (λ live. live.items ≡ live_elements store.now.elements) }
     ensures ordered { IfOk result (λ _. are_rising (ids_of store.now.elements) ≡ true) }
 {
+    store.tell();
     let mut live = Vec::new(alloc);
     for i in 0..store.len() {
         if let Some(e) = store.at(i) {

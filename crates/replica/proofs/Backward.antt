@@ -4,9 +4,10 @@ use Rattle.std.proofs.lemmas.Bool.{cases_Bool, false≢true}
 use Rattle.scene_json.proofs.Collapsed.{bytes_eq-true, bytes_eq-same}
 use Rattle.elem.specs.ElementValue.{ElementValue}
 use Rattle.elem.specs.Order.{unstamped}
-use Rattle.delta.specs.Entries.{same_listing_entry-exact, same_listing_entry-same}
+use Rattle.elem.specs.Listings.{same_listing_entry-exact, same_listing_entry-same, same_listing_entry}
 use Rattle.delta.specs.Headers.{scalar_of}
-use Rattle.delta.specs.Joined.{are_same, joined, stays, is_gained, first_occurrences, same_listing_entry}
+use Rattle.first_texts.specs.FirstOccurrences.{first_occurrences}
+use Rattle.delta.specs.Joined.{are_same, joined, stays, is_gained}
 use Rattle.delta.specs.Pairs.{Pair, IsChanged}
 use Rattle.delta.specs.Parts.{scalars_same}
 use Rattle.delta.specs.Undone.{undone_scalar, undone_list}

@@ -15,8 +15,8 @@ use Rattle.scene_json.proofs.CompactLaws.{quote-compact, literal-compact, object
 use Rattle.scene_json.proofs.Lookups.{rising_distinct}
 use Rattle.index_repair.specs.Repair.{repaired}
 use Rattle.frac_keys.specs.Keys.{bytes_less}
-use Rattle.first_texts.specs.FirstOccurrences.{first_occurrences}
-use Rattle.first_texts.proofs.FirstLaws.{IsDistinct-first_occurrences}
+use Rattle.first_texts.specs.FirstOccurrences.{first_texts}
+use Rattle.first_texts.proofs.FirstLaws.{IsDistinct-first_texts}
 use Rattle.elem.specs.ElementValue.{ElementValue}
 use Rattle.elem.specs.Forms.{find_in}
 use Rattle.elem.specs.Texts.{element_members, element_text, text_or_null}
@@ -192,8 +192,8 @@ referred-fit files (id ∷ ids) all = by (value_at id files) (λ entry e. found-
 
 scene-text-compact : (head : Heading) (elements : List ElementValue) → IsFit head → HaveRisingNames (pairs head.app_state) → AreKept elements → IsCompact 128 (scene_text head elements)
 scene-text-compact head elements fit rise kept =
-    let ids = first_occurrences (references elements) in
-    let files = members-fit (found head.files ids) (IsDistinct-found head.files ids (IsDistinct-first_occurrences (references elements))) (referred-fit head.files ids fit.files) in
+    let ids = first_texts (references elements) in
+    let files = members-fit (found head.files ids) (IsDistinct-found head.files ids (IsDistinct-first_texts (references elements))) (referred-fit head.files ids fit.files) in
     let settings = members-fit (pairs head.app_state) (rising_distinct (pairs head.app_state) rise) fit.settings in
     subst (IsCompact 128) (scene-told head elements (referred_files head.files elements) refl)
     (scene-compact head elements (referred_files head.files elements) (source-compact head.source fit.source)
@@ -249,7 +249,7 @@ module _ (scenes : List Scene) (head : Heading) (stored : List ElementValue) (re
   shown-compact = scene-text-compact head (shown (live_elements stored)) fits joined.app_state.ordered (shown-kept (live_elements stored) live-are-kept)
 
   pub shown-files : AllByRecursion (λ (file : Pair). IsCompact 126 file.1) (referred_files head.files (shown (live_elements stored)))
-  shown-files = nest (referred_files head.files (shown (live_elements stored))) (referred-fit head.files (first_occurrences (references (shown (live_elements stored)))) fits.files)
+  shown-files = nest (referred_files head.files (shown (live_elements stored))) (referred-fit head.files (first_texts (references (shown (live_elements stored)))) fits.files)
     where
       nest : (files : List Pair) → AllFit files → AllByRecursion (λ (file : Pair). IsCompact 126 file.1) files
       nest [] all = tt

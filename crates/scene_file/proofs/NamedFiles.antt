@@ -11,8 +11,8 @@ use Rattle.scene_json.specs.Parts.{AreMembers}
 use Rattle.scene_json.specs.Value.{IsCompact}
 use Rattle.scene_json.proofs.Collapsed.{bytes_eq-true, bytes_eq-same}
 use Rattle.scene_json.proofs.Lookups.{IsBelow, rising_parts, rising_from, rising_none}
-use Rattle.first_texts.specs.FirstOccurrences.{first_occurrences}
-use Rattle.first_texts.proofs.FirstLaws.{IsDistinct-first_occurrences, Contains-first_occurrences}
+use Rattle.first_texts.specs.FirstOccurrences.{first_texts}
+use Rattle.first_texts.proofs.FirstLaws.{IsDistinct-first_texts, Contains-first_texts}
 use Rattle.elem.specs.ElementValue.{ElementValue}
 use Rattle.elem.specs.Forms.{find_in}
 use Rattle.elem_read.proofs.Keeping.{AllFound, found-has}
@@ -96,20 +96,20 @@ module _ (files : List Pair) (elements : List ElementValue) where
 
   pub referred-are : (limit : ℕ) → AreMembers limit files → AreMembers limit (referred_files files elements)
   referred-are limit are =
-      let ids = first_occurrences (references elements) in
+      let ids = first_texts (references elements) in
       record {
         named = found-each (λ name value. IsUtf8 name) files ids (found-has (λ name value. IsUtf8 name) files are.named);
         valued = found-each (λ name value. IsCompact limit value) files ids (found-has (λ name value. IsCompact limit value) files are.valued);
-        distinct = IsDistinct-found files ids (IsDistinct-first_occurrences (references elements));
+        distinct = IsDistinct-found files ids (IsDistinct-first_texts (references elements));
       }
 
   -- they are those that elements name of them
   pub named-again : referred_files (filter (λ (file : Pair). list_any (bytes_eq file.0) (references elements)) files) elements ≡ referred_files files elements
   named-again =
-      let ids = first_occurrences (references elements) in
+      let ids = first_texts (references elements) in
       let test = λ (id : List ℕ). list_any (bytes_eq id) (references elements) in
       found-same (passed test files) files ids
       (recursion_from_All (λ (id : List ℕ). value_at id (passed test files) ≡ value_at id files) ids
       (All-weaker (Contains ids) (λ (id : List ℕ). value_at id (passed test files) ≡ value_at id files)
-      (λ id c. passed-at test files id ∙ cond-true (test id) (value_at id files) None (contained-any id (references elements) ((Contains-first_occurrences (references elements) id).0 c)))
+      (λ id c. passed-at test files id ∙ cond-true (test id) (value_at id files) None (contained-any id (references elements) ((Contains-first_texts (references elements) id).0 c)))
       ids (All-contains_itself ids)))

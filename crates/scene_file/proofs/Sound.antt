@@ -19,7 +19,8 @@ use Rattle.elem_store.proofs.BestUpdates.{IsBestOf-stored}
 use Rattle.elem_store.proofs.StoreLaws.{AreStored-stored}
 use Rattle.links.specs.Arrows.{names_target, is_true_entry, arrow_entries, text_entries, listing, with_settled_links, settled_arrows}
 use Rattle.links.specs.Arrows as arrows
-use Rattle.links.specs.Entries.{same_listing_entry, arrow_entry, text_entry, first_occurrences}
+use Rattle.elem.specs.Listings.{same_listing_entry}
+use Rattle.links.specs.Entries.{arrow_entry, text_entry, first_entries}
 use Rattle.links.specs.Names.{id_of, names_container, target_of, can_hold_text}
 use Rattle.links.specs.Settled.{settled_links}
 use Rattle.links.specs.Texts.{is_text_entry, listed_text, first_text, text_of, keeps_container, with_settled_container, settled_texts}
@@ -169,10 +170,10 @@ or-holds P (Some x) p first second = first
 abbrev AreListed : List BoundRef → Type 0
 AreListed entries = All IsListed entries
 
-first-listed : (entries : List BoundRef) → AreListed entries → AreListed (first_occurrences entries)
+first-listed : (entries : List BoundRef) → AreListed entries → AreListed (first_entries entries)
 first-listed [] all = all
 first-listed (entry ∷ entries) all =
-    let rest = first_occurrences entries in
+    let rest = first_entries entries in
     All-cons IsListed entry (filter (λ other. not (same_listing_entry entry other)) rest) (All-head IsListed entry entries all)
     (All-filter (λ other. not (same_listing_entry entry other)) IsListed rest (first-listed entries (All-tail IsListed entry entries all)))
 
@@ -196,7 +197,7 @@ listing-written list e sounds sound =
     let own = filter (is_true_entry list e) e.bound in
     let entries = arrow_entries list e in
     let texts = text_entries (text_of list e) in
-    recursion_from_All IsListed (first_occurrences (own ++ (entries ++ texts)))
+    recursion_from_All IsListed (first_entries (own ++ (entries ++ texts)))
     (first-listed (own ++ (entries ++ texts))
     (All-append IsListed own (entries ++ texts) (All-filter (is_true_entry list e) IsListed e.bound (All-from_recursion IsListed e.bound sound.written.bound))
     (All-append IsListed entries texts
@@ -230,19 +231,19 @@ frames-sound list sounds = map-all IsSound IsSound (framed (has_frame list)) lis
         cond_both (keeps_frame (has_frame list) e) e (without_frame e) IsSound (λ _. sound)
         (λ _. sound-with e e.index e.groups None e.bound e.container e.start_binding e.end_binding sound sound.written.index sound.written.groups tt sound.written.bound (inl refl) (inl refl) (inl refl))
 
-first-texts : (groups : List (List ℕ)) → All IsUtf8 groups → All IsUtf8 (texts.first_occurrences groups)
+first-texts : (groups : List (List ℕ)) → All IsUtf8 groups → All IsUtf8 (texts.first_texts groups)
 first-texts [] all = all
 first-texts (text ∷ groups) all =
-    let rest = texts.first_occurrences groups in
-    All-cons IsUtf8 text (filter (texts.is_other_text text) rest) (All-head IsUtf8 text groups all)
-    (All-filter (texts.is_other_text text) IsUtf8 rest (first-texts groups (All-tail IsUtf8 text groups all)))
+    let rest = texts.first_texts groups in
+    All-cons IsUtf8 text (filter (texts.is_other bytes_eq text) rest) (All-head IsUtf8 text groups all)
+    (All-filter (texts.is_other bytes_eq text) IsUtf8 rest (first-texts groups (All-tail IsUtf8 text groups all)))
 
 groups-sound : (list : List ElementValue) → AreSound list → AreSound (groups_settled list)
 groups-sound list sounds = map-all IsSound IsSound grouped list each sounds
   where
     each : (e : ElementValue) → IsSound e → IsSound (grouped e)
     each e sound =
-        let groups = texts.first_occurrences e.groups in
+        let groups = texts.first_texts e.groups in
         sound-with e e.index groups e.frame e.bound e.container e.start_binding e.end_binding sound sound.written.index
         (recursion_from_All IsUtf8 groups (first-texts e.groups (All-from_recursion IsUtf8 e.groups sound.written.groups))) sound.written.frame sound.written.bound
         (inl refl) (inl refl) (inl refl)

@@ -13,12 +13,13 @@ use Rattle.elem.specs.Said.{HasValidTexts, AreElements}
 use Rattle.elem_store.specs.Updates.{Taking, element_of, ids_of, is_taken, takings}
 use Rattle.elem_store.proofs.Rising.{same_elements}
 use Rattle.delta.specs.Headers.{scalar_of}
-use Rattle.delta.specs.Joined.{are_same, joined, stays, is_gained, first_occurrences, same_listing_entry}
+use Rattle.first_texts.specs.FirstOccurrences.{first_occurrences}
+use Rattle.delta.specs.Joined.{are_same, joined, stays, is_gained}
 use Rattle.delta.specs.Pairs.{Pair}
 use Rattle.delta.specs.Parts.{scalars_same}
 use Rattle.delta.specs.Undone.{undone_scalar, undone_list}
 use Rattle.delta.proofs.JoinLaws.{are_same-exact, are_same-same}
-use Rattle.delta.specs.Entries.{same_listing_entry-exact, same_listing_entry-same}
+use Rattle.elem.specs.Listings.{same_listing_entry-exact, same_listing_entry-same, same_listing_entry}
 use Rattle.delta.proofs.PartLaws.{same-unstamped}
 use Rattle.undoing.specs.Carrying.{with_put, taken, taken_all, followed, carried_over, carried, carried_all}
 use Rattle.undoing.specs.Differing.{same_kind}

@@ -14,7 +14,7 @@ use Rattle.scene_json.proofs.Decided.{array-or-not, object-or-not, nests-or-not}
 use Rattle.scene_json.proofs.Decimals.{digit_of_decimal}
 use Rattle.scene_json.proofs.Forms.{StartsWith, quote-starts, array-starts, object-starts}
 use Rattle.scene_json.proofs.Strings.{heads-differ}
-use Rattle.first_texts.specs.FirstOccurrences.{first_occurrences}
+use Rattle.first_texts.specs.FirstOccurrences.{first_texts}
 use Rattle.elem.specs.Facts.{greatest_whole}
 use Rattle.elem.specs.Forms.{find_in, IsText, IsWholeNumber, IsObject, AreTexts, AreOthers}
 use Rattle.elem.proofs.FormsOnce.{text-once, whole-once, texts-once, members-once, others-once}
@@ -95,12 +95,12 @@ shallow-once found a b one two = same-some (sym one.0 ∙ two.0)
 -- ---- texts and words
 pub ids-decided : (found : Option (List ℕ)) → Fits found → Decided (AreIds found)
 ids-decided found fits = elim (texts-or-not found fits) [
-  | inl (texts, are) ↦ inl (first_occurrences texts, (texts, are, refl))
+  | inl (texts, are) ↦ inl (first_texts texts, (texts, are, refl))
   | inr none ↦ inr (λ ids is. none is.0 is.1)
 ]
 
 pub ids-once : (found : Option (List ℕ)) (a b : List (List ℕ)) → AreIds found a → AreIds found b → a ≡ b
-ids-once found a b one two = one.2 ∙ (ap first_occurrences (texts-once found one.0 two.0 one.1 two.1) ∙ sym two.2)
+ids-once found a b one two = one.2 ∙ (ap first_texts (texts-once found one.0 two.0 one.1 two.1) ∙ sym two.2)
 
 pub told-decided : {A : Type 0} (word : A → List ℕ) (xs : List A) → AreTold word xs → (found : Option (List ℕ)) → Decided (λ (x : A). found ≡ Some (word x))
 told-decided word xs told None = inr (λ x e. cc)

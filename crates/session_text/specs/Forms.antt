@@ -7,7 +7,7 @@ use Rattle.scene_json.specs.Compact.{Member as Pair, array_text}
 use Rattle.scene_json.specs.Named.{value_at}
 use Rattle.scene_json.specs.Value.{IsCompact}
 use Rattle.scene_json.specs.declared.text.Member.{Member}
-use Rattle.first_texts.specs.FirstOccurrences.{first_occurrences}
+use Rattle.first_texts.specs.FirstOccurrences.{first_texts}
 use Rattle.elem.specs.Forms.{find_in, IsText, IsWholeNumber, IsObject, AreTexts, AreOthers}
 use Rattle.effects.specs.declared.command.Side.{Side}
 use Rattle.effects.specs.declared.command.Side.TheVariants as sides
@@ -40,7 +40,7 @@ IsShallow found value = (found ≡ Some value) × IsCompact 100 value
 
 -- an array of texts, of which a repeated one counts once
 abbrev pub AreIds : Option (List ℕ) → List (List ℕ) → Type 0
-AreIds found ids = (texts : List (List ℕ)) × AreTexts found texts × (ids ≡ first_occurrences texts)
+AreIds found ids = (texts : List (List ℕ)) × AreTexts found texts × (ids ≡ first_texts texts)
 
 abbrev pub capture_text : Capture → List ℕ
 capture_text captures.Now = quote (codes "now")

@@ -1,5 +1,5 @@
 -- The pairs of the first stored elements.
-use Rattle.std.proofs.Common.{◌≡◌, ℕ, ◌+◌, ◌<◌, true, List, [], ◌∷◌, ◌++◌, length, take, map, get_or, Some, None, Contains, slice_get, refl, sym, ap, ◌∙◌, subst₂, length-take, arith}
+use Rattle.std.proofs.Common.{◌≡◌, ℕ, ◌+◌, ◌<◌, true, List, [], ◌∷◌, ◌++◌, length, take, map, get_or, Some, None, Contains, slice_get, sym, ap, ◌∙◌, subst₂, length-take, arith}
 use Rattle.std.proofs.lemmas.List.{map-append, take_more, get_or-take}
 use Rattle.std.proofs.lemmas.Option.{none-some, slice_get_within, get_or_from_slice_get}
 use Rattle.frac_keys.specs.Keys.{bytes_less}
@@ -39,8 +39,3 @@ module _ (snapshot store : List ElementValue) (i : ℕ) (e : ElementValue) (at :
 -- there is an element at each index below the number of elements
 pub stored-at : (store : List ElementValue) (i : ℕ) → i < length store → None ≡ slice_get store i → ⊥
 stored-at store i l none = absurd (let x = some_within store i l in none-some x.0 (none ∙ x.1))
-
--- the ids rise, if they do where there is an element
-pub rising : (store : List ElementValue) → (0 < length store → are_rising (ids_of store) ≡ true) → are_rising (ids_of store) ≡ true
-rising [] h = refl
-rising (e ∷ store) h = h (omega arith)

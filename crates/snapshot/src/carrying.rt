@@ -11,7 +11,6 @@ ghost use Rattle.snapshot.specs.Carried.{IsCarried, HasCarried, carried_to};
 
 use crate::boxed::Boxed;
 use crate::captured::{find, put, put_made};
-use crate::pending::know_order;
 use delta::{apply, are_one_kind, difference};
 use elem::{Element, beats};
 use elem_store::Store;
@@ -110,7 +109,7 @@ pub(crate) fn carrying(
         ≡ carried_all (takings store.now.elements list.now) captured.now.items) }
     ensures ordered { IfOk result (λ step. are_rising (ids_of step.items) ≡ true) }
 {
-    know_order(store);
+    store.tell();
     let mut newer = Vec::new(alloc);
     let mut step = Vec::new(alloc);
     for e in list {

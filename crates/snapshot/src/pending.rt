@@ -28,6 +28,7 @@ pub(crate) fn parts_since(
     requires { are_rising (updates.ids_of elements.now.items) ≡ true }
     ensures { IfOk result (λ parts. EntryStandsFor parts.items (pairs_since elements.now.items store.now.elements)) }
 {
+    store.tell();
     let mut parts = Vec::new(alloc);
     for i in 0..store.len() {
         if let Some(e) = store.at(i) {
@@ -101,6 +102,7 @@ pub(crate) fn copies_of(alloc: Global, store: &Store) -> Result<Vec<Boxed>, Allo
     ensures exact { IfOk result (λ copies. copies.items ≡ store.now.elements) }
     ensures ordered { IfOk result (λ copies. are_rising (updates.ids_of copies.items) ≡ true) }
 {
+    store.tell();
     let mut copies = Vec::new(alloc);
     for i in 0..store.len() {
         if let Some(e) = store.at(i) {
@@ -108,13 +110,6 @@ pub(crate) fn copies_of(alloc: Global, store: &Store) -> Result<Vec<Boxed>, Allo
         }
     }
     Ok(copies)
-}
-
-/// Whoever reads an element of a store knows the order of all.
-pub(crate) fn know_order(store: &Store)
-    ensures { are_rising (updates.ids_of store.now.elements) ≡ true }
-{
-    let _ = store.at(0);
 }
 
 /// Copies of the stored elements of these ids that aren't the same among the elements.
@@ -131,7 +126,7 @@ pub(crate) fn differing(
     ensures ordered { IfOk result (λ copies. are_rising (updates.ids_of copies.items) ≡ true) }
     ensures stored { are_rising (updates.ids_of store.now.elements) ≡ true }
 {
-    know_order(store);
+    store.tell();
     let mut copies = Vec::new(alloc);
     for id in touched.iter() {
         put_differing(alloc, &mut copies, find(elements, id), store.get(id))?;

@@ -23,7 +23,9 @@ use Rattle.elem.proofs.Sorting.{IsRising, AllByRecursion-map}
 use Rattle.delta.specs.Applied.{IsApplied, KeepsStamp}
 use Rattle.delta.specs.Delta.{Delta}
 use Rattle.delta.specs.Headers.{own_header, header_named, value_named, scalar_at, scalar_of}
-use Rattle.delta.specs.Joined.{are_same, joined, stays, is_gained, first_occurrences, same_listing_entry}
+use Rattle.elem.specs.Listings.{same_listing_entry}
+use Rattle.first_texts.specs.FirstOccurrences.{first_occurrences}
+use Rattle.delta.specs.Joined.{are_same, joined, stays, is_gained}
 use Rattle.delta.specs.Pairs.{Pair}
 use Rattle.delta.specs.Parts.{PartStandsFor, scalars_same, inverse}
 use Rattle.delta.specs.Rest.{made, with_value}

@@ -6,7 +6,7 @@ use Rattle.elem.specs.ElementValue.{ElementValue}
 use Rattle.elem.specs.Facts.{names}
 use Rattle.elem.specs.Texts.{truth_text, text_or_null, binding_text}
 use Rattle.delta.specs.Headers.{value_named}
-use Rattle.delta.specs.Joined.{same_listing_entry}
+use Rattle.elem.specs.Listings.{same_listing_entry}
 use Rattle.delta.specs.Pairs.{Pair}
 use Rattle.delta.specs.Parts.{scalars_same}
 use Rattle.delta.specs.Rest.{with_value}

@@ -17,7 +17,8 @@ use Rattle.std.proofs.lemmas.Map.Keys.{IsDistinct-IsPermutation, sorted_head, so
 use Rattle.elem.specs.ElementValue.{ElementValue}
 use Rattle.elem_store.specs.Updates.{ids_of}
 use Rattle.elem_store.proofs.Lists.{Contains-head, Contains-cons, Contains-cases}
-use Rattle.view.specs.Shown.{with_element, in_order, HaveDistinctIds}
+use Rattle.elem.specs.Order.{HaveDistinctIds}
+use Rattle.view.specs.Shown.{with_element, in_order}
 
 -- ---- there is one strictly sorted list of some elements
 module _ {X : Type 0} {R : X → X → Ordering} (o : IsTotalOrder R) where

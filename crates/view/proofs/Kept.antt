@@ -16,7 +16,8 @@ use Rattle.elem.specs.ElementValue.{ElementValue}
 use Rattle.elem.specs.Facts.{IsElement}
 use Rattle.elem.specs.Said.{IsBindingText, HasValidTexts}
 use Rattle.links.specs.Arrows.{names_target, is_bound_to, is_true_entry, arrow_entries, text_entries, listing, with_settled_links}
-use Rattle.links.specs.Entries.{same_listing_entry, arrow_entry, first_occurrences}
+use Rattle.elem.specs.Listings.{same_listing_entry}
+use Rattle.links.specs.Entries.{arrow_entry, first_entries}
 use Rattle.links.specs.Names.{can_hold_text, id_of, names_container, target_of}
 use Rattle.links.specs.Settled.{settled_links}
 use Rattle.links.specs.Texts.{is_text_entry, listed_text, first_text, text_of, keeps_container, with_settled_container, settled_texts}
@@ -153,9 +154,9 @@ container-kept list e kept =
 abbrev HasText : BoundRef → Type 0
 HasText entry = IsUtf8 entry.id
 
-first-all : (entries : List BoundRef) → AllByRecursion HasText entries → AllByRecursion HasText (first_occurrences entries)
+first-all : (entries : List BoundRef) → AllByRecursion HasText entries → AllByRecursion HasText (first_entries entries)
 first-all [] all = tt
-first-all (entry ∷ entries) all = (all.0, all_kept_by (λ other. not (same_listing_entry entry other)) HasText (first_occurrences entries) (first-all entries all.1))
+first-all (entry ∷ entries) all = (all.0, all_kept_by (λ other. not (same_listing_entry entry other)) HasText (first_entries entries) (first-all entries all.1))
 
 text_of-written : (list : List ElementValue) (e : ElementValue) → AreKept list → IsKept e → IfSome (text_of list e) IsUtf8
 unfolding text_of
@@ -251,9 +252,9 @@ frame-kept names_frame e kept =
       }
     ]
 
-groups-written : (groups : List (List ℕ)) → AllByRecursion IsUtf8 groups → AllByRecursion IsUtf8 (texts.first_occurrences groups)
+groups-written : (groups : List (List ℕ)) → AllByRecursion IsUtf8 groups → AllByRecursion IsUtf8 (texts.first_texts groups)
 groups-written [] all = tt
-groups-written (group ∷ groups) all = (all.0, all_kept_by (texts.is_other_text group) IsUtf8 (texts.first_occurrences groups) (groups-written groups all.1))
+groups-written (group ∷ groups) all = (all.0, all_kept_by (texts.is_other bytes_eq group) IsUtf8 (texts.first_texts groups) (groups-written groups all.1))
 
 group-kept : (e : ElementValue) → IsKept e → IsKept (grouped e)
 group-kept e kept =

@@ -2,7 +2,8 @@
 use Rattle.std.proofs.Common.{List}
 use Rattle.std.specs.List.Sorted.{IsPermutation}
 use Rattle.elem.specs.ElementValue.{ElementValue}
-use Rattle.view.specs.Shown.{comes_before, in_scene_order, IsSceneOrder, HaveDistinctIds}
+use Rattle.elem.specs.Order.{HaveDistinctIds}
+use Rattle.view.specs.Shown.{comes_before, in_scene_order, IsSceneOrder}
 use Rattle.view.proofs.InOrder.{IsElementOrder, IsPermutation-in_order, AllPairs-in_order, in_order-only}
 use Rattle.view.proofs.OrderLaws.{place_cmp, place_cmp-total, comes_before-cmp, tied-ids}
 

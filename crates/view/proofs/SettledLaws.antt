@@ -6,7 +6,8 @@ use Rattle.frames_groups.specs.Frames.{without_frame, frames_settled, NameFrames
 use Rattle.frames_groups.specs.Groups.{without_groups, groups_settled, HaveDistinctGroups}
 use Rattle.frames_groups.proofs.FrameLaws.{frames_settled-settled, frames_settled-others, NameFrames-settled}
 use Rattle.frames_groups.proofs.GroupLaws.{groups_settled-settled, groups_settled-others, settled-either, NameFrames-grouped, HaveDistinctGroups-settled}
-use Rattle.links.specs.Names.{id_of, HaveDistinctIds}
+use Rattle.elem.specs.Order.{HaveDistinctIds}
+use Rattle.links.specs.Names.{id_of}
 use Rattle.links.specs.Settled.{settled_links, unlinked, unplaced, ArrowsAgree, TextsAgree, HaveOneText, NameTargets}
 use Rattle.links.specs.Texts.{settled_texts}
 use Rattle.links.proofs.ArrowLaws.{ArrowsAgree-settled, TextsAgree-settled, HaveOneText-settled, NameTargets-settled}

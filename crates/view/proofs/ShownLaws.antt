@@ -21,7 +21,8 @@ use Rattle.index_repair.proofs.RepairLaws.{repaired-law, repaired-rising}
 use Rattle.elem.specs.ElementValue.{ElementValue}
 use Rattle.elem_store.specs.Updates.{ids_of}
 use Rattle.elem_store.proofs.Rising.{less-other}
-use Rattle.view.specs.Shown.{is_live, live_elements, place_less, comes_before, in_scene_order, AreInSceneOrder, IsSceneOrder, HaveDistinctIds, index_of, keyed, placed, shown, bare, HaveKeysOrNone, HaveRisingKeys, without_index, IsView}
+use Rattle.elem.specs.Order.{HaveDistinctIds}
+use Rattle.view.specs.Shown.{is_live, live_elements, place_less, comes_before, in_scene_order, AreInSceneOrder, IsSceneOrder, index_of, keyed, placed, shown, bare, HaveKeysOrNone, HaveRisingKeys, without_index, IsView}
 use Rattle.links.proofs.Members.{map-map}
 use Rattle.view.specs.Settled.{settled, unsettled, AreSettled}
 use Rattle.view.proofs.SettledLaws.{map-less, unsettled-settled, settled-are, settled-again}

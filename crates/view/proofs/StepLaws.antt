@@ -5,13 +5,13 @@ use Rattle.std.specs.Option.{option_map}
 use Rattle.std.proofs.lemmas.Bool.{or_left, or_right}
 use Rattle.std.proofs.lemmas.List.Elements.{filter_passes}
 use Rattle.elem.specs.ElementValue.{ElementValue}
-use Rattle.elem.specs.Order.{has_id}
+use Rattle.elem.specs.Order.{has_id, HaveDistinctIds}
 use Rattle.elem_store.specs.Updates.{element_of}
 use Rattle.frames_groups.specs.Frames.{is_frame, is_frame_of, has_frame, keeps_frame, without_frame, framed, frames_settled}
 use Rattle.frames_groups.specs.Groups.{grouped, groups_settled}
 use Rattle.frames_groups.proofs.FrameLaws.{framed-among}
 use Rattle.links.specs.Arrows.{with_settled_links}
-use Rattle.links.specs.Names.{is_id, HaveDistinctIds}
+use Rattle.links.specs.Names.{is_id}
 use Rattle.links.specs.Settled.{settled_links, unlinked, unplaced}
 use Rattle.links.specs.Steps.{names_id, is_within}
 use Rattle.links.specs.Texts.{with_settled_container, settled_texts}

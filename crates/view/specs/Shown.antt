@@ -1,6 +1,6 @@
 -- What a board shows of its stored elements. The order of ids and the repair are this project's own.
 use Rattle.std.specs.Prelude.{◌≡◌, ℕ, List, [], ◌∷◌, Bool, true, false, not, ◌&&◌, ◌||◌, Option, Some, None, filter, map, bytes_eq, if◌then◌else◌, AllPairs, IsPermutation}
-use Rattle.std.specs.List.{list_all, IsDistinct}
+use Rattle.std.specs.List.{list_all}
 use Rattle.std.specs.Option.{unwrap_or}
 use Rattle.frac_keys.specs.Keys.{bytes_less}
 use Rattle.frac_keys.specs.Rising.{are_rising, is_key_or_none}
@@ -54,10 +54,6 @@ pub record IsSceneOrder (elements ordered : List ElementValue) : Type 0 where
   pub moved : IsPermutation elements ordered
   pub in_order : AreInSceneOrder ordered
   pub only : (others : List ElementValue) → IsPermutation elements others → AreInSceneOrder others → others ≡ ordered
-
--- no two elements have one id
-abbrev pub HaveDistinctIds : List ElementValue → Type 0
-HaveDistinctIds elements = IsDistinct bytes_eq (ids_of elements)
 
 -- the index of an element, and the element with a key as its index
 abbrev pub index_of : ElementValue → Option (List ℕ)

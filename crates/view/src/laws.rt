@@ -5,12 +5,12 @@ ghost use Rattle.std.specs.List.{list_all};
 ghost use Rattle.frac_keys.specs.Rising.{are_rising};
 ghost use Rattle.elem.specs.ElementValue.{ElementValue};
 ghost use Rattle.elem.specs.Facts.{IsElement};
-ghost use Rattle.elem.specs.Order.{unstamped};
+ghost use Rattle.elem.specs.Order.{unstamped, HaveDistinctIds};
 ghost use Rattle.elem.specs.Said.{HasValidTexts};
 ghost use Rattle.index_repair.specs.Repair.{repaired};
 ghost use Rattle.elem_store.specs.Updates.{ids_of};
 ghost use Rattle.view.specs.Settled.{AreSettled};
-ghost use Rattle.view.specs.Shown.{is_live, live_elements, in_scene_order, IsSceneOrder, HaveDistinctIds, HaveKeysOrNone, HaveRisingKeys, index_of, keyed, shown};
+ghost use Rattle.view.specs.Shown.{is_live, live_elements, in_scene_order, IsSceneOrder, HaveKeysOrNone, HaveRisingKeys, index_of, keyed, shown};
 
 /// The scene order is the one permutation in which each element comes before those behind it.
 pub fn scene_order_is_unique()

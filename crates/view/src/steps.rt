@@ -3,7 +3,8 @@
 ghost use Rattle.std.specs.Prelude.{◌≡◌, ℕ, List, Bool, filter, map};
 ghost use Rattle.elem.specs.ElementValue.{ElementValue};
 ghost use Rattle.view.specs.Settled.{settled};
-ghost use Rattle.view.specs.Shown.{without_index, HaveDistinctIds};
+ghost use Rattle.elem.specs.Order.{HaveDistinctIds};
+ghost use Rattle.view.specs.Shown.{without_index};
 ghost use Rattle.view.specs.Steps.{settled_of, settled_but_for_key, AreAlikeNear, HasAllNear};
 
 /// What texts, arrows, frames and groups make of an element depends on the elements at most three steps of naming from it

@@ -5,7 +5,8 @@ ghost use Rattle.frac_keys.specs.Rising.{are_rising};
 ghost use Rattle.elem.specs.ElementValue.{ElementValue};
 ghost use Rattle.elem_store.specs.Updates.{element_of, ids_of};
 ghost use Rattle.view.specs.Settled.{AreSettled};
-ghost use Rattle.view.specs.Shown.{as_stored, is_live, live_elements, placed, shown, HaveDistinctIds, HaveKeysOrNone, HaveRisingKeys, IsSceneOrder, bare};
+ghost use Rattle.elem.specs.Order.{HaveDistinctIds};
+ghost use Rattle.view.specs.Shown.{as_stored, is_live, live_elements, placed, shown, HaveKeysOrNone, HaveRisingKeys, IsSceneOrder, bare};
 
 use crate::keys::with_repaired_keys;
 use crate::order;
@@ -74,6 +75,7 @@ fn live_of(alloc: Global, store: &Store) -> Result<List<Element>, AllocError>
     ensures exact { IfOk result (λ live. live ≡ live_elements store.now.elements) }
     ensures ordered { IfOk result (λ _. are_rising (ids_of store.now.elements) ≡ true) }
 {
+    store.tell();
     let mut live = Vec::new(alloc);
     for i in 0..store.len() {
         if let Some(e) = store.at(i) {

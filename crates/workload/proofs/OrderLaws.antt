@@ -7,7 +7,7 @@ use Rattle.scene_json.specs.Compact.{Member as Pair, array_text, object_text}
 use Rattle.scene_json.specs.Parts.{AreMembers}
 use Rattle.scene_json.specs.Value.{IsCompact}
 use Rattle.scene_json.proofs.CompactLaws.{Value-deeper, array-compact, decimal_nests, object-compact}
-use Rattle.first_texts.specs.FirstOccurrences.{first_occurrences}
+use Rattle.first_texts.specs.FirstOccurrences.{first_texts}
 use Rattle.elem.specs.Forms.{IsText}
 use Rattle.elem.proofs.Saying.{literal, AreMembers-deeper}
 use Rattle.effects.specs.declared.command.Side.{Side}
@@ -49,7 +49,7 @@ one-id : (element : ℕ) → element < 200 → AreIds (Some (array_text (id_text
 unfolding id_text
 one-id element small = (numbered_id element ∷ [], ((id-utf8 element (fits element small), tt), refl), refl)
 
-two-ids : (element other : ℕ) → element < 200 → other < 200 → AreIds (Some (array_text (id_text element ∷ id_text other ∷ []))) (first_occurrences (numbered_id element ∷ numbered_id other ∷ []))
+two-ids : (element other : ℕ) → element < 200 → other < 200 → AreIds (Some (array_text (id_text element ∷ id_text other ∷ []))) (first_texts (numbered_id element ∷ numbered_id other ∷ []))
 unfolding id_text
 two-ids element other one two =
     (numbered_id element ∷ numbered_id other ∷ [], ((id-utf8 element (fits element one), (id-utf8 other (fits other two), tt)), refl), refl)
@@ -181,7 +181,7 @@ order-says (Label element other) small =
 order-says (Frame element other) small =
     frame-said (order_members (Frame element other)) (numbered_id element ∷ []) (numbered_id other) refl (one-id element small.0) (id-is other small.1)
 order-says (Group element other) small =
-    group-said (order_members (Group element other)) (first_occurrences (numbered_id element ∷ numbered_id other ∷ [])) (codes "g") refl (two-ids element other small.0 small.1)
+    group-said (order_members (Group element other)) (first_texts (numbered_id element ∷ numbered_id other ∷ [])) (codes "g") refl (two-ids element other small.0 small.1)
     (literal (codes "g") refl, refl)
 order-says (Delete element) small = delete-said (order_members (Delete element)) (numbered_id element ∷ []) refl (one-id element small)
 

@@ -1,6 +1,6 @@
 -- The session that a drill is. This project's own.
 use Rattle.std.specs.Prelude.{ℕ, List, [], ◌∷◌, ◌++◌, None, map, codes, decimal}
-use Rattle.first_texts.specs.FirstOccurrences.{first_occurrences}
+use Rattle.first_texts.specs.FirstOccurrences.{first_texts}
 use Rattle.effects.specs.declared.command.Command.{Command}
 use Rattle.effects.specs.declared.command.Command.TheVariants as commands
 use Rattle.effects.specs.declared.command.Spot.TheVariants as spots
@@ -25,7 +25,7 @@ command_of (Place element other) = commands.Place (numbered_id element) (spots.A
 command_of (Bind side element other) = commands.Bind (numbered_id element) side (numbered_id other) []
 command_of (Label element other) = commands.Label (numbered_id element) (numbered_id other)
 command_of (Frame element other) = commands.Frame (numbered_id element ∷ []) (numbered_id other)
-command_of (Group element other) = commands.Group (first_occurrences (numbered_id element ∷ numbered_id other ∷ [])) (codes "g")
+command_of (Group element other) = commands.Group (first_texts (numbered_id element ∷ numbered_id other ∷ [])) (codes "g")
 command_of (Delete element) = commands.Delete (numbered_id element ∷ [])
 
 -- whole messages are delivered

@@ -1,8 +1,8 @@
 use Rattle.std.proofs.Common.{◌≡◌, ◌+◌, ◌<◌, [], ◌∷◌, ◌++◌, length, take, bytes_eq, sym, ap, ◌∙◌, arith}
 use Rattle.std.proofs.lemmas.List.{take_more}
 use Rattle.indexmap.specs.IndexSet.{insert_key}
-use Rattle.first_texts.specs.FirstOccurrences.{first_occurrences}
-use Rattle.first_texts.proofs.FirstLaws.{first_occurrences-inserted}
+use Rattle.first_texts.specs.FirstOccurrences.{first_texts}
+use Rattle.first_texts.proofs.FirstLaws.{first_texts-inserted}
 use Rattle.first_texts.proofs.first_occurrences.Goals as goal
 
 pub loop-text-preserved : goal.loop-text-preserved
@@ -16,5 +16,5 @@ loop-text-preserved c =
     take_more c.args.texts.now i c.text-item.result within ∙ ap (λ x. texts ++ x ∷ []) (sym c.text-item.is ∙ sym own) in
     c.in_ok-insert.ensures.keys
     ∙ ap (λ ks. insert_key bytes_eq ks text) c.loop-text.invariant
-    ∙ first_occurrences-inserted texts text
-    ∙ sym (ap first_occurrences more)
+    ∙ first_texts-inserted texts text
+    ∙ sym (ap first_texts more)

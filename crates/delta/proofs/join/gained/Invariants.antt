@@ -1,6 +1,7 @@
 -- The items gained so far are those of the first ones, each once.
 use Rattle.std.proofs.Common.{◌≡◌, filter, take}
-use Rattle.delta.specs.Joined.{is_gained, first_occurrences}
+use Rattle.first_texts.specs.FirstOccurrences.{first_occurrences}
+use Rattle.delta.specs.Joined.{is_gained}
 use Rattle.delta.proofs.join.gained.Given as goal
 
 abbrev pub invariant-loop-item : goal.invariant-loop-item

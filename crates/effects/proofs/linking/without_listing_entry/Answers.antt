@@ -1,6 +1,6 @@
 use Rattle.std.proofs.Common.{not, filter, rules, ap, ◌∙◌}
 use Rattle.std.proofs.lemmas.Fn.{filter_same}
-use Rattle.links.specs.Entries.{same_listing_entry}
+use Rattle.elem.specs.Listings.{same_listing_entry}
 use Rattle.effects.proofs.linking.without_listing_entry.Goals as goal
 
 pub returns : goal.returns

@@ -1,11 +1,6 @@
--- The first elements are copied, and the ids rise if there is one.
-use Rattle.std.proofs.Common.{◌≡◌, ◌<◌, true, take}
-use Rattle.frac_keys.specs.Rising.{are_rising}
-use Rattle.elem_store.specs.Updates.{ids_of}
+-- The first elements are copied.
+use Rattle.std.proofs.Common.{◌≡◌, take}
 use Rattle.snapshot.proofs.pending.copies_of.Given as goal
 
 abbrev pub invariant-loop-i : goal.invariant-loop-i
-invariant-loop-i l = record {
-  made : l.copies.items ≡ take l.i l.store.elements;
-  ordered : 0 < l.i → are_rising (ids_of l.store.elements) ≡ true;
-}
+invariant-loop-i l = l.copies.items ≡ take l.i l.store.elements

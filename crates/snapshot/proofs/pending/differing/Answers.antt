@@ -33,4 +33,4 @@ returns-clause-over c =
     let stored = c.args.store.now.elements in
     let captured = c.args.elements.now.items in
     sym (ap (λ ids. all_found stored ids (with_all_put c.loop-id.copies.items captured)) c.in-None.ensures.steps.0) ∙ c.loop-id.invariant.over
-    ∙ found-all stored captured c.requires.rise c.args.touched.now.keys c.know_order.ensures c.requires.untouched
+    ∙ found-all stored captured c.requires.rise c.args.touched.now.keys c.tell.ensures.ordered c.requires.untouched

@@ -28,7 +28,7 @@ loop-i-preserved c =
           let old : option_copied w.find.result ≡ element_of elements e.id = w.find.ensures ∙ ap (element_of elements) (ap (λ (e : ElementValue). e.id) w.e.view_is) in
           rw w.parts-is
           (subst (EntryStandsFor w.note.new.parts.items) (ap (λ o. pairs_since elements (take i store) ++ pair_with o e ∷ []) old ∙ pairs-more elements store i e at)
-          (w.in_ok-note.ensures _ c.loop-i.invariant (pairs-less elements store i e at c.at.ensures.ordered)))
+          (w.in_ok-note.ensures _ c.loop-i.invariant (pairs-less elements store i e at c.tell.ensures.ordered)))
       | in_default w ↦ absurd (stored-at store i (omega (arith, c.len-i-end.ensures)) w.in_default.ensures.element)
     ]
 

@@ -1,13 +1,11 @@
 -- The element at the place that was read, if there is one.
 use Rattle.std.proofs.Common.{slice_get, sym, ap, ◌∙◌, arith}
 use Rattle.elem_store.proofs.Placed.{place-found, get-read, none-read}
-use Rattle.frac_keys.specs.Rising.{are_rising}
 use Rattle.elem_store.specs.Stock.{Stock}
-use Rattle.elem_store.specs.Updates.{ids_of}
 use Rattle.elem_store.proofs.store.Store.at.Goals as goal
 
-pub returns-in_err-place-clause-element : goal.returns-in_err-place-clause-element
-returns-in_err-place-clause-element c =
+pub returns-in_err-place : goal.returns-in_err-place
+returns-in_err-place c =
     let s = c.self.inside in
     let none = none-read s.elements.items s.places.places c.args.i c.self.invariant.in_order.within (sym c.in_err-place.ensures) in
     rw c.from_residual.ensures (sym none ∙ ap (λ (s : Stock). slice_get s.elements c.args.i) c.self.view_is)
@@ -17,14 +15,8 @@ index-requires c =
     let s = c.self.inside in
     omega (arith, place-found s.elements.items s.places.places c.args.i c.in_ok-place.place c.self.invariant.in_order.within (sym c.in_ok-place.ensures), s.elements.ok.0)
 
-pub returns-clause-element : goal.returns-clause-element
-returns-clause-element c =
+pub returns : goal.returns
+returns c =
     let s = c.self.inside in
     get-read s.elements.items s.places.places c.args.i c.in_ok-place.place c.index.result.now c.self.invariant.in_order.within (sym c.in_ok-place.ensures) c.index.ensures
     ∙ ap (λ (s : Stock). slice_get s.elements c.args.i) c.self.view_is
-
-pub returns-in_err-place-clause-ordered : goal.returns-in_err-place-clause-ordered
-returns-in_err-place-clause-ordered c = ap (λ (s : Stock). are_rising (ids_of s.elements)) (sym c.self.view_is) ∙ c.self.invariant.in_order.ordered
-
-pub returns-clause-ordered : goal.returns-clause-ordered
-returns-clause-ordered c = ap (λ (s : Stock). are_rising (ids_of s.elements)) (sym c.self.view_is) ∙ c.self.invariant.in_order.ordered

@@ -2,7 +2,7 @@ use Rattle.std.proofs.Common.{bytes_eq, sym, ap, ◌∙◌, subst}
 use Rattle.std.specs.List.{IsDistinct}
 use Rattle.scene_json.specs.Members.{pairs}
 use Rattle.scene_json.specs.Parts.{names_of}
-use Rattle.first_texts.specs.FirstOccurrences.{first_occurrences}
+use Rattle.first_texts.specs.FirstOccurrences.{first_texts}
 use Rattle.elem.specs.Texts.{sorted_members}
 use Rattle.file_table.specs.References.{referred_files}
 use Rattle.file_table.specs.Table.{EntriesNest}
@@ -14,7 +14,7 @@ returns-clause-exact c =
     let files = c.self.inside.entries.entries in
     ap pairs c.from_vec.ensures ∙ c.in_ok-found.ensures
     ∙ found-by_id files c.in_ok-ids.ids.items
-    ∙ ap (found (sorted_members files)) (c.in_ok-ids.ensures.exact ∙ ap first_occurrences (c.as_slice.ensures.value ∙ c.in_ok-named.ensures))
+    ∙ ap (found (sorted_members files)) (c.in_ok-ids.ensures.exact ∙ ap first_texts (c.as_slice.ensures.value ∙ c.in_ok-named.ensures))
     ∙ ap (λ files. referred_files files c.args.list.now) c.self.view_is
 
 pub returns-clause-distinct : goal.returns-clause-distinct
