@@ -1,6 +1,7 @@
 //! Calls below the top one, each asked for by a member of its name.
 
 use crate::elements::{push_applied, push_clashes, push_compared, push_element_of, push_message};
+use crate::follow::push_followed;
 use crate::keys::{
     push_between, push_is_key, push_n_between, push_repaired, push_rising, push_walk,
 };
@@ -58,6 +59,8 @@ fn push_value_call(
         push_default(alloc, line, value)
     } else if let Some(value) = value_named(case, "first") {
         push_first(alloc, line, value)
+    } else if let Some(value) = value_named(case, "follow") {
+        push_followed(alloc, line, value)
     } else {
         Err(Stop::Fault(Text::fixed("member words")))
     }

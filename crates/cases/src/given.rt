@@ -7,6 +7,9 @@ use scene_json::{
 };
 use std::alloc::{AllocError, Global};
 
+/// How many keys, steps or changes a case may ask for.
+const MOST: u64 = 100000;
+
 /// What was found, or this fault of the case.
 pub fn given<T>(found: Option<T>, fault: &'static str) -> Result<T, Stop<Text>> {
     match found {
@@ -34,6 +37,14 @@ pub fn number_or(case: &List<Member>, name: &str, default: u64) -> Option<u64> {
     match value_named(case, name) {
         Some(value) => whole_of(value),
         None => Some(default),
+    }
+}
+
+/// The number that a member is, if it is not too great, and 0 where the case has no such member.
+pub fn count_of(case: &List<Member>, name: &str) -> Option<usize> {
+    match number_or(case, name, 0) {
+        Some(n) if n <= MOST => Some(n as usize),
+        _ => None,
     }
 }
 

@@ -4,16 +4,13 @@ ghost use Rattle.std.specs.Prelude.{◌≡◌, option_copied};
 ghost use Rattle.frac_keys.specs.Keys.{bytes_less};
 ghost use Rattle.frac_keys.specs.Rising.{ends_rise};
 
-use crate::given::{given, listed, number_or};
+use crate::given::{count_of, given, listed};
 use crate::told::{push_member_of, push_truth};
 use board_io::{List, Stop};
 use frac_keys::{Key, between, n_between};
 use index_repair::{repair, rising};
 use scene_json::{Member, Raw, Text, has_value, is_null, push_comma, push_quoted, shaped, text_of};
 use std::alloc::{AllocError, Global};
-
-/// How many keys may be asked for, and how many steps may be gone.
-const MOST: u64 = 100000;
 
 /// Two ends, each a key or absent.
 type Ends = (Option<Key>, Option<Key>);
@@ -149,14 +146,6 @@ fn is_less(key: &Key, other: &Key) -> bool
 {
     let bytes = other.as_bytes();
     key.as_bytes() < bytes
-}
-
-/// The number that a member is, if it is not too great.
-fn count_of(case: &List<Member>, name: &str) -> Option<usize> {
-    match number_or(case, name, 0) {
-        Some(n) if n <= MOST => Some(n as usize),
-        _ => None,
-    }
 }
 
 /// The two ends that a list tells.

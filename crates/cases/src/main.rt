@@ -5,6 +5,7 @@
 mod calls;
 mod elements;
 mod events;
+mod follow;
 mod given;
 mod keys;
 mod line;

@@ -1,0 +1,191 @@
+//! A replica whose view follows changes that are drawn, beside a view made anew after each.
+
+use crate::given::{count_of, given, number_or};
+use crate::told::push_truth;
+use board_io::{List, Stop};
+use elem::{Element, same};
+use elem_read::read_element;
+use rand_core::SeedableRng;
+use rand_core::utils::NextWord;
+use rand_pcg::Pcg32;
+use replica::Replica;
+use scene_json::{Raw, Text, members, scan, shaped};
+use std::alloc::{AllocError, Global};
+use view::view_of;
+
+/// What is drawn for an element: its version, and how many ids there are.
+#[derive(Clone, Copy)]
+struct Drawing {
+    version: u64,
+    ids: u64,
+}
+
+/// Appends whether the view of a replica is the view of its store made anew, after each of so many deliveries that are
+/// drawn from a seed, of elements with so many ids.
+pub fn push_followed(alloc: Global, line: &mut Vec<u8>, value: &Raw) -> Result<(), Stop<Text>> {
+    let told = given(shaped(members(alloc, value))?, "member follow")?;
+    let seed = given(number_or(&told, "seed", 0), "member seed")?;
+    let changes = given(count_of(&told, "changes"), "member changes")?;
+    let ids = given(number_or(&told, "ids", 1), "member ids")?.max(1);
+    let equal = given(follow(alloc, seed, changes, ids)?, "member follow")?;
+    push_truth(line, "equal", equal)?;
+    Ok(())
+}
+
+/// Whether the view is the one made anew after each delivery, or nothing where a drawn text is no element.
+fn follow(alloc: Global, seed: u64, changes: usize, ids: u64) -> Result<Option<bool>, AllocError> {
+    let mut generator = Pcg32::seed_from_u64(seed);
+    let mut replica = Replica::new(alloc);
+    for i in 0..changes {
+        let version = i as u64 + 1;
+        let Some(elements) = draw_elements(alloc, &mut generator, Drawing { version, ids })? else {
+            return Ok(None);
+        };
+        replica.deliver(elements.as_slice())?;
+        if !is_shown(alloc, &replica)? {
+            return Ok(Some(false));
+        }
+    }
+    Ok(Some(true))
+}
+
+/// Whether a replica shows the view of its store made anew.
+fn is_shown(alloc: Global, replica: &Replica) -> Result<bool, AllocError> {
+    let view = view_of(alloc, replica.store())?;
+    Ok(are_same(view.elements(), replica.view().elements()))
+}
+
+/// Whether two lists have the same elements.
+fn are_same(elements: &[Element], others: &[Element]) -> bool {
+    if elements.len() != others.len() {
+        return false;
+    }
+    for (e, other) in elements.iter().zip(others) {
+        if !same(e, other) {
+            return false;
+        }
+    }
+    true
+}
+
+/// Draws what is delivered at once: mostly one element, now and then five or forty.
+fn draw_elements(
+    alloc: Global,
+    generator: &mut Pcg32,
+    drawing: Drawing,
+) -> Result<Option<List<Element>>, AllocError> {
+    let count = match draw(generator, 32) {
+        0 => 40,
+        1 | 2 | 3 => 5,
+        _ => 1,
+    };
+    let mut elements = Vec::new(alloc);
+    for _ in 0..count {
+        match draw_element(alloc, generator, drawing)? {
+            Some(e) => elements.push(e)?,
+            None => return Ok(None),
+        }
+    }
+    Ok(Some(List::from_vec(elements)))
+}
+
+/// Draws an element, whose kind its number tells: one in six is deleted, and one in eight comes late. Of a few keys one is
+/// its index, or none; what it names may be there or not, and be of any kind.
+fn draw_element(
+    alloc: Global,
+    generator: &mut Pcg32,
+    Drawing { version, ids }: Drawing,
+) -> Result<Option<Element>, AllocError> {
+    let number = draw(generator, ids);
+    let version = if draw(generator, 8) == 0 {
+        version / 2
+    } else {
+        version
+    };
+    let deleted = draw(generator, 6) == 0;
+    let index = draw_index(alloc, generator)?;
+    let frame = draw_id(alloc, generator, ids)?;
+    let listed = draw_listed(alloc, generator, ids)?;
+    let named = draw_named(alloc, generator, number, ids)?;
+    let kind = kind_of(number);
+    let text = format!(in alloc;
+        "{{\"id\":\"e{number}\",\"type\":\"{kind}\",\"version\":{version},\"isDeleted\":{deleted},\"index\":{index},\"frameId\":{frame},\"groupIds\":[\"g\",\"e{number}\",\"g\"],\"boundElements\":{listed}{named}}}"
+    )?;
+    element_of(alloc, text.as_str())
+}
+
+/// The kind of the elements of a number.
+fn kind_of(number: u64) -> &'static str {
+    match number % 8 {
+        0 | 1 => "rectangle",
+        2 => "ellipse",
+        3 | 4 => "text",
+        5 | 6 => "arrow",
+        _ => "frame",
+    }
+}
+
+/// Draws an index, or none.
+fn draw_index(alloc: Global, generator: &mut Pcg32) -> Result<String, AllocError> {
+    match draw(generator, 10) {
+        0 => format!(in alloc; "null"),
+        digit => format!(in alloc; "\"a{digit}\""),
+    }
+}
+
+/// Draws an id, or none.
+fn draw_id(alloc: Global, generator: &mut Pcg32, ids: u64) -> Result<String, AllocError> {
+    let number = draw(generator, ids);
+    match draw(generator, 3) {
+        0 => format!(in alloc; "null"),
+        _ => format!(in alloc; "\"e{number}\""),
+    }
+}
+
+/// Draws a listing of an arrow and a text.
+fn draw_listed(alloc: Global, generator: &mut Pcg32, ids: u64) -> Result<String, AllocError> {
+    let arrow = draw(generator, ids);
+    let text = draw(generator, ids);
+    format!(in alloc;
+        "[{{\"id\":\"e{arrow}\",\"type\":\"arrow\"}},{{\"id\":\"e{text}\",\"type\":\"text\"}}]"
+    )
+}
+
+/// Draws the container of a text or the ends of an arrow, as further members.
+fn draw_named(
+    alloc: Global,
+    generator: &mut Pcg32,
+    number: u64,
+    ids: u64,
+) -> Result<String, AllocError> {
+    let id = draw_id(alloc, generator, ids)?;
+    let target = draw(generator, ids);
+    match kind_of(number) {
+        "text" => format!(in alloc; ",\"containerId\":{id}"),
+        "arrow" => {
+            format!(in alloc;
+                ",\"startBinding\":{{\"elementId\":{id}}},\"endBinding\":{{\"elementId\":\"e{target}\"}}"
+            )
+        }
+        _ => format!(in alloc; ""),
+    }
+}
+
+/// Draws a number below the limit.
+fn draw(generator: &mut Pcg32, limit: u64) -> u64 {
+    u64::from(generator.next_word()) % limit.max(1)
+}
+
+/// The element that a text is read as.
+fn element_of(alloc: Global, text: &str) -> Result<Option<Element>, AllocError> {
+    let value = match scan(alloc, text.as_bytes(), 0) {
+        Ok((value, _after)) => value,
+        Err(Stop::Fault(_)) => return Ok(None),
+        Err(Stop::Memory) => return Err(AllocError),
+    };
+    match read_element(alloc, &value) {
+        Ok(found) => Ok(found),
+        Err(Stop::Fault(_)) => Ok(None),
+        Err(Stop::Memory) => Err(AllocError),
+    }
+}
