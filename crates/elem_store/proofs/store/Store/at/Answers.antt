@@ -8,7 +8,7 @@ pub returns-in_err-place : goal.returns-in_err-place
 returns-in_err-place c =
     let s = c.self.inside in
     let none = none-read s.elements.items s.places.places c.args.i c.self.invariant.in_order.within (sym c.in_err-place.ensures) in
-    rw c.from_residual.ensures (sym none ∙ ap (λ (s : Stock). slice_get s.elements c.args.i) c.self.view_is)
+    record { element = rw c.from_residual.ensures (sym none ∙ ap (λ (s : Stock). slice_get s.elements c.args.i) c.self.view_is) }
 
 pub index-requires : goal.index-requires
 index-requires c =
@@ -18,5 +18,8 @@ index-requires c =
 pub returns : goal.returns
 returns c =
     let s = c.self.inside in
-    get-read s.elements.items s.places.places c.args.i c.in_ok-place.place c.index.result.now c.self.invariant.in_order.within (sym c.in_ok-place.ensures) c.index.ensures
-    ∙ ap (λ (s : Stock). slice_get s.elements c.args.i) c.self.view_is
+    record {
+      element =
+          get-read s.elements.items s.places.places c.args.i c.in_ok-place.place c.index.result.now c.self.invariant.in_order.within (sym c.in_ok-place.ensures) c.index.ensures
+          ∙ ap (λ (s : Stock). slice_get s.elements c.args.i) c.self.view_is;
+    }
