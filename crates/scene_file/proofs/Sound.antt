@@ -1,5 +1,5 @@
 -- Elements that are read stay whole: with the keys that they are loaded with, as they are stored, and as they are shown.
-use Rattle.std.proofs.Common.{◌≡◌, ◌⊎◌, ℕ, List, [], ◌∷◌, ◌++◌, Bool, true, false, cond, not, Option, Some, None, IfSome, is_some, All, Contains, find, filter, map, refl, sym, ap, subst, inl, inr, IsUtf8}
+use Rattle.std.proofs.Common.{◌≡◌, ◌⊎◌, ℕ, List, [], ◌∷◌, ◌++◌, Bool, true, false, cond, not, Option, Some, None, IfSome, is_some, All, Contains, find, bytes_eq, filter, map, refl, sym, ap, subst, inl, inr, IsUtf8}
 use Rattle.std.specs.List.{AllByRecursion, list_all}
 use Rattle.std.specs.Option.{option_or, option_map}
 use Rattle.std.proofs.lemmas.Bool.{cond_both, and_parts, and_from}

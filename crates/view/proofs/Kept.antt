@@ -1,5 +1,5 @@
 -- What is shown, and what keys are repaired of, keeps what holds of every element.
-use Rattle.std.proofs.Common.{◌≡◌, ℕ, Bool, true, false, not, List, [], ◌∷◌, ◌++◌, map, filter, Option, Some, None, IfSome, find, if◌then◌else◌, refl, IsUtf8}
+use Rattle.std.proofs.Common.{◌≡◌, ℕ, Bool, true, false, not, List, [], ◌∷◌, ◌++◌, bytes_eq, map, filter, Option, Some, None, IfSome, find, if◌then◌else◌, refl, IsUtf8}
 use Rattle.std.specs.List.{All, AllByRecursion, list_all}
 use Rattle.std.specs.Option.{option_map, option_or}
 use Rattle.std.proofs.ByRecursion.{All-append, All-map, All-weaker, all_kept_by}
