@@ -19,6 +19,3 @@ loop-i-preserved c =
 pub returns-clause-exact : goal.returns-clause-exact
 returns-clause-exact c =
     c.loop-i.invariant ∙ ap live_elements (take_all c.loop-i.i c.args.store.now.elements (omega (arith, c.len-i-end.ensures)))
-
-pub returns-clause-ordered : goal.returns-clause-ordered
-returns-clause-ordered c = c.tell.ensures.ordered
