@@ -30,6 +30,7 @@ use std::alloc::{AllocError, Global};
 #[derive(Drop)]
 struct Coming {
     own: Element,
+    held: Element,
     puts: Vec<Put>,
 }
 
@@ -58,16 +59,16 @@ impl Kept {
         let Some(rekeying) = keys_with(alloc, &self.live, &self.shown, place, &e.index)? else {
             return Ok(false);
         };
-        let Some(coming) = draw_coming(alloc, &self.live, &self.shown, &self.table, e)? else {
-            return Ok(false);
-        };
         let rows = rows_of(alloc, e)?;
-        let held = e.try_clone()?;
         self.live.reserve(1)?;
         self.shown.reserve(1)?;
         self.table.reserve(rows.as_slice().len())?;
-        put_all(&mut self.shown, coming.puts);
-        insert(&mut self.shown, place, coming.own);
+        let Some(coming) = draw_coming(alloc, &self.live, &self.shown, &self.table, e)? else {
+            return Ok(false);
+        };
+        let Coming { own, held, puts } = coming;
+        put_all(&mut self.shown, puts);
+        insert(&mut self.shown, place, own);
         set_keys(&mut self.shown, rekeying);
         insert(&mut self.live, at, held);
         self.table.replace(&List::new(alloc), rows);
@@ -147,7 +148,7 @@ fn draw_coming(
 ) -> Result<Option<Coming>, AllocError>
     requires ordered { are_rising (ids_of live.now.items) ≡ true }
     requires table { HaveRowsOf live.now.items table.now.rows }
-    ensures { IfOk result (λ found. IfSome found (λ c. IsComing live.now.items shown.now.items e.now c.own c.puts.items)) }
+    ensures { IfOk result (λ found. IfSome found (λ c. (c.held ≡ e.now) × IsComing live.now.items shown.now.items e.now c.own c.puts.items)) }
 {
     let around = find_around(alloc, live, table, e)?;
     let news = alone(alloc, e)?;
@@ -156,7 +157,11 @@ fn draw_coming(
         return Ok(None);
     };
     match puts_beside(alloc, live, shown, part, &around.near, &e.id)? {
-        Some(puts) => Ok(Some(Coming { own, puts })),
+        Some(puts) => Ok(Some(Coming {
+            own,
+            held: e.try_clone()?,
+            puts,
+        })),
         None => Ok(None),
     }
 }
