@@ -1,6 +1,6 @@
 //! A view that follows the changes of a store.
 
-ghost use Rattle.std.specs.Prelude.{◌≡◌, ◌++◌, true, option_copied, IfOk, OnErr, OnOk};
+ghost use Rattle.std.specs.Prelude.{◌≡◌, ◌++◌, true, false, Ok, option_copied, IfOk, IfSome, OnErr, OnOk};
 ghost use Rattle.frac_keys.specs.Rising.{are_rising};
 ghost use Rattle.elem_store.specs.Updates as updates;
 ghost use Rattle.elem_store.specs.Updates.{element_of, ids_of, AreStored};
@@ -8,13 +8,13 @@ ghost use Rattle.live_view.specs.Changes.{AreSameButAt};
 ghost use Rattle.undoing.specs.Carrying.{taken_all};
 ghost use Rattle.view.specs.Shown.{live_elements};
 
-use crate::drawing::view_of;
+use crate::drawing::kept_of;
+use crate::following::{picked, store_after, stored, taken_of};
 use crate::live::LiveView;
-use board_io::List;
 use elem::{Element, beats};
 use elem_store::Store;
 use scene_json::Text;
-use std::alloc::{AllocError, Global};
+use std::alloc::AllocError;
 
 impl LiveView {
     /// Makes this the view of the store, whose live elements are those that it was made of but for elements of these ids.
@@ -24,15 +24,10 @@ impl LiveView {
         ensures view { OnOk result (self.new ≡ live_elements store.now.elements) }
         ensures err { OnErr result (self.new ≡ self.old) }
     {
-        if let [id] = ids {
-            if let Some(new) = stored(store, id) {
-                if self.redraw_as(new)? {
-                    return Ok(());
-                }
-            }
+        if self.update_one(store, ids)? || self.update_near(store, ids)? {
+            return Ok(());
         }
-        *self = view_of(*self.shown.allocator(), store)?;
-        Ok(())
+        self.renew(store)
     }
 
     /// Makes this, which is the view of the store, the view of the store after it takes the changed elements in their
@@ -42,29 +37,96 @@ impl LiveView {
         ensures view { OnOk result (self.new ≡ live_elements (taken_all changed.now store.now.elements)) }
         ensures err { OnErr result (self.new ≡ self.old) }
     {
-        if let [new] = changed {
-            if !is_taken(store, new) {
-                return Ok(());
-            }
-            if self.redraw_as(new)? {
-                return Ok(());
-            }
+        if self.take_one(store, changed)? || self.take_near(store, changed)? {
+            return Ok(());
         }
-        let alloc = *self.shown.allocator();
+        let alloc = self.kept.allocator();
         let store = store_after(alloc, store, changed)?;
-        *self = view_of(alloc, &store)?;
+        self.renew(&store)
+    }
+
+    /// Redraws the one element of these ids, if that is all that changes.
+    fn update_one(&mut self, store: &Store, ids: &[Text]) -> Result<bool, AllocError>
+        requires { AreSameButAt ids.now self.old (live_elements store.now.elements) }
+        ensures new { result ≡ Ok true → self.new ≡ live_elements store.now.elements }
+        ensures old { OnErr result (self.new ≡ self.old) }
+        ensures other { result ≡ Ok false → self.new ≡ self.old }
+    {
+        let [id] = ids else {
+            return Ok(false);
+        };
+        match stored(store, id) {
+            Some(new) => self.redraw(new),
+            None => Ok(false),
+        }
+    }
+
+    /// Follows what is stored of these ids, if each is stored and all are found near their places.
+    fn update_near(&mut self, store: &Store, ids: &[Text]) -> Result<bool, AllocError>
+        requires { AreSameButAt ids.now self.old (live_elements store.now.elements) }
+        ensures new { result ≡ Ok true → self.new ≡ live_elements store.now.elements }
+        ensures old { OnErr result (self.new ≡ self.old) }
+        ensures other { result ≡ Ok false → self.new ≡ self.old }
+    {
+        if !self.is_small(ids.len()) {
+            return Ok(false);
+        }
+        let alloc = self.kept.allocator();
+        match picked(alloc, store, ids)? {
+            Some(news) => self.follow(&news),
+            None => Ok(false),
+        }
+    }
+
+    /// Redraws the one changed element, if that is all that changes.
+    fn take_one(&mut self, store: &Store, changed: &[Element]) -> Result<bool, AllocError>
+        requires { self.old ≡ live_elements store.now.elements }
+        ensures new { result ≡ Ok true → self.new ≡ live_elements (taken_all changed.now store.now.elements) }
+        ensures old { OnErr result (self.new ≡ self.old) }
+        ensures other { result ≡ Ok false → self.new ≡ self.old }
+    {
+        let [new] = changed else {
+            return Ok(false);
+        };
+        if !is_taken(store, new) {
+            return Ok(true);
+        }
+        self.redraw(new)
+    }
+
+    /// Follows what is stored of the changed ones' ids once these are taken, if all are found near their places.
+    fn take_near(&mut self, store: &Store, changed: &[Element]) -> Result<bool, AllocError>
+        requires { self.old ≡ live_elements store.now.elements }
+        ensures new { result ≡ Ok true → self.new ≡ live_elements (taken_all changed.now store.now.elements) }
+        ensures old { OnErr result (self.new ≡ self.old) }
+        ensures other { result ≡ Ok false → self.new ≡ self.old }
+    {
+        if !self.is_small(changed.len()) {
+            return Ok(false);
+        }
+        let alloc = self.kept.allocator();
+        let news = taken_of(alloc, store, changed)?;
+        self.follow(&news)
+    }
+
+    /// Whether a change of so many elements is followed near them: where more of the board changes, a view made anew costs
+    /// less.
+    fn is_small(&self, changed: usize) -> bool {
+        changed <= 4 + self.kept.len() / 8
+    }
+
+    /// Makes this the view of the store anew, twice, so that no change near its elements copies all of it. For want of
+    /// memory it is unchanged.
+    fn renew(&mut self, store: &Store) -> Result<(), AllocError>
+        ensures view { OnOk result (self.new ≡ live_elements store.now.elements) }
+        ensures err { OnErr result (self.new ≡ self.old) }
+    {
+        let alloc = self.kept.allocator();
+        let kept = kept_of(alloc, store)?;
+        let twin = kept.copied().ok();
+        *self = LiveView { kept, twin };
         Ok(())
     }
-}
-
-/// The stored element of this id.
-fn stored<'a>(store: &'a Store, id: &Text) -> Option<&'a Element>
-    ensures element { option_copied result ≡ element_of store.now.elements id.now }
-    ensures ordered { are_rising (ids_of store.now.elements) ≡ true }
-{
-    // So that it is known that the ids rise.
-    let _first = store.at(0);
-    store.get(id)
 }
 
 /// Whether a store takes the element: its id is new, or it beats the stored one.
@@ -76,39 +138,4 @@ fn is_taken(store: &Store, e: &Element) -> bool
         Some(old) => beats(e, old),
         None => true,
     }
-}
-
-/// A store of what is stored after the changed elements are taken.
-fn store_after(alloc: Global, store: &Store, changed: &[Element]) -> Result<Store, AllocError>
-    ensures stored { IfOk result (λ after. AreStored (store.now.elements ++ changed.now) after.elements) }
-    ensures ordered { are_rising (ids_of store.now.elements) ≡ true }
-{
-    // So that it is known that the ids rise.
-    let _first = store.at(0);
-    let mut updates = stored_elements(alloc, store)?;
-    push_copies(&mut updates, changed)?;
-    Store::from_updates(alloc, List::from_vec(updates))
-}
-
-/// Copies of the stored elements.
-fn stored_elements(alloc: Global, store: &Store) -> Result<Vec<Element>, AllocError>
-    ensures { IfOk result (λ copies. copies.items ≡ store.now.elements) }
-{
-    let mut copies = Vec::with_capacity(alloc, store.len())?;
-    for i in 0..store.len() {
-        if let Some(e) = store.at(i) {
-            copies.push(e.try_clone()?)?;
-        }
-    }
-    Ok(copies)
-}
-
-/// Appends copies of the elements.
-fn push_copies(list: &mut Vec<Element>, elements: &[Element]) -> Result<(), AllocError>
-    ensures { OnOk result (list.new.items ≡ list.old.items ++ elements.now) }
-{
-    for e in elements {
-        list.push(e.try_clone()?)?;
-    }
-    Ok(())
 }

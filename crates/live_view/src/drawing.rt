@@ -1,30 +1,66 @@
 //! A view made anew.
 
 ghost use Rattle.std.specs.Prelude.{◌≡◌, true, IfOk};
+ghost use Rattle.std.specs.List.{list_all};
 ghost use Rattle.frac_keys.specs.Rising.{are_rising};
 ghost use Rattle.elem_store.specs.Updates.{ids_of};
+ghost use Rattle.links.specs.Rows.{has_row};
+ghost use Rattle.live_view.specs.Reached.{HaveRowsOf};
+ghost use Rattle.view.specs.Settled.{settled};
 ghost use Rattle.view.specs.Shown.{is_live, live_elements, placed, shown, HaveDistinctIds, HaveKeysOrNone};
 
-use crate::live::LiveView;
+use crate::kept::Kept;
 use crate::order;
+use crate::replacing::rows_of_all;
 use board_io::List;
 use elem::Element;
 use elem_store::Store;
 use frames_groups::{settle_frames, settle_groups};
-use links::{settle_arrows, settle_texts};
+use links::{LinkRow, LinkTable, settle_arrows, settle_texts};
 use std::alloc::{AllocError, Global};
+use std::cmp::Ordering;
 use view::with_repaired_keys;
 
-/// The view of a store. Fails only for want of memory.
-pub(crate) fn view_of(alloc: Global, store: &Store) -> Result<LiveView, AllocError>
-    ensures { IfOk result (λ view. view ≡ live_elements store.now.elements) }
+/// What is kept of a store. Fails only for want of memory.
+pub(crate) fn kept_of(alloc: Global, store: &Store) -> Result<Kept, AllocError>
+    ensures { IfOk result (λ kept. kept ≡ live_elements store.now.elements) }
 {
     let live = live_of(alloc, store)?;
-    let shown = shown_of(alloc, copied(alloc, &live)?)?;
-    Ok(LiveView {
+    let shown = shown_of(alloc, List::from_vec(elements_copied(alloc, &live)?))?;
+    let table = table_of(alloc, &live)?;
+    Ok(Kept {
         live,
         shown: shown.into_vec(),
+        table,
     })
+}
+
+/// The table of who names whom.
+pub(crate) fn table_of(alloc: Global, live: &Vec<Element>) -> Result<LinkTable, AllocError>
+    requires { HaveDistinctIds live.now.items }
+    ensures { IfOk result (λ table. HaveRowsOf live.now.items table.rows) }
+{
+    let rows = in_order(rows_of_all(alloc, live)?)?;
+    let mut table = LinkTable::new(alloc);
+    table.reserve(rows.as_slice().len())?;
+    table.replace(&List::new(alloc), rows);
+    Ok(table)
+}
+
+/// The rows in the order of a table, in which each of them is then put behind all others.
+fn in_order(rows: List<LinkRow>) -> Result<List<LinkRow>, AllocError>
+    ensures { IfOk result (λ ordered. (row : LinkRow) → has_row ordered row ≡ has_row rows row) }
+{
+    let mut rows = rows.into_vec();
+    rows.sort_by(row_order)?;
+    Ok(List::from_vec(rows))
+}
+
+/// The order of rows: by the named id, and then by the namer.
+fn row_order(row: &LinkRow, other: &LinkRow) -> Ordering {
+    row.named
+        .cmp(&other.named)
+        .then(row.namer.cmp(&other.namer))
 }
 
 /// The live elements of a store, in the order of their ids.
@@ -43,6 +79,13 @@ fn live_of(alloc: Global, store: &Store) -> Result<Vec<Element>, AllocError>
     Ok(live)
 }
 
+/// Whether none of the elements is deleted.
+pub(crate) fn are_live(elements: &Vec<Element>) -> bool
+    ensures { result ≡ list_all is_live elements.now.items }
+{
+    elements.iter().all(is_live)
+}
+
 /// Whether an element isn't deleted.
 fn is_live(e: &Element) -> bool
     ensures { result ≡ is_live e.now }
@@ -51,24 +94,38 @@ fn is_live(e: &Element) -> bool
 }
 
 /// Copies of the elements.
-fn copied(alloc: Global, elements: &Vec<Element>) -> Result<List<Element>, AllocError>
-    ensures { IfOk result (λ copies. copies ≡ elements.now.items) }
+pub(crate) fn elements_copied(
+    alloc: Global,
+    elements: &Vec<Element>,
+) -> Result<Vec<Element>, AllocError>
+    ensures { IfOk result (λ copies. copies.items ≡ elements.now.items) }
 {
     let mut copies = Vec::with_capacity(alloc, elements.len())?;
     for e in elements {
         copies.push(e.try_clone()?)?;
     }
-    Ok(List::from_vec(copies))
+    Ok(copies)
 }
 
-/// What is shown of the live elements: they are placed, and then texts, arrows, frames and groups are settled.
-#[tactic(auto, unfolding(view::specs::Shown::shown, view::specs::Settled::settled))]
+/// What is shown of the live elements: they are placed, and then settled.
+#[tactic(auto, unfolding(view::specs::Shown::shown))]
 fn shown_of(alloc: Global, live: List<Element>) -> Result<List<Element>, AllocError>
     requires { HaveDistinctIds live }
     ensures exact { IfOk result (λ new. new ≡ shown live) }
     ensures keys { IfOk result (λ _. HaveKeysOrNone live) }
 {
-    let elements = placed_of(alloc, live)?;
+    settled_of(alloc, placed_of(alloc, live)?)
+}
+
+/// The elements, which are in scene order, with their texts, arrows, frames and groups settled.
+#[tactic(auto, unfolding(view::specs::Settled::settled))]
+pub(crate) fn settled_of(
+    alloc: Global,
+    elements: List<Element>,
+) -> Result<List<Element>, AllocError>
+    requires { HaveDistinctIds elements }
+    ensures { IfOk result (λ new. new ≡ settled elements) }
+{
     let elements = settle_texts(alloc, elements)?;
     let elements = settle_arrows(alloc, elements)?;
     let elements = settle_frames(alloc, elements)?;

@@ -2,9 +2,18 @@
 #![tactic(auto)]
 
 mod changes;
+mod coming;
 mod drawing;
+mod following;
+mod ids;
+mod kept;
 mod live;
 mod order;
+mod places;
+mod reach;
 mod redrawing;
+mod replacing;
+mod runs;
+mod sequence;
 
 pub use live::LiveView;

@@ -1,36 +1,43 @@
 //! A view that is kept.
 
-ghost use Rattle.std.specs.Prelude.{◌≡◌, List as Items, [], map, IsPermutation};
+ghost use Rattle.std.specs.Prelude.{◌≡◌, List as Items, [], Ok, true, false, map, OnErr, IfOk, IfSome, IsSome, IsPermutation};
+ghost use Rattle.frac_keys.specs.Rising.{are_rising};
 ghost use Rattle.elem.specs.ElementValue.{ElementValue};
 ghost use Rattle.elem_store.specs.Updates.{ids_of};
 ghost use Rattle.view.specs.Settled.{AreSettled};
 ghost use Rattle.view.specs.Shown.{live_elements, shown, bare, HaveRisingKeys, IsSceneOrder};
+ghost use Rattle.live_view.specs.Changes.{HasRedrawn};
+ghost use Rattle.live_view.specs.Following.{HaveFollowed};
 
+use crate::kept::Kept;
 use elem::Element;
-use std::alloc::Global;
+use std::alloc::{AllocError, Global};
 use std::marker::Model;
+use std::mem;
+
+/// The most elements that are followed one after the other: each that comes or goes moves the tail of the arrays.
+const MOST_MOVED: usize = 32;
 
 /// What a board shows, kept under changes. Contracts see the live elements that it is of, as stored, in the order of their
 /// ids.
+///
+/// It is kept twice, once a change had many steps: they are made to the second one, and then both change places, so that a
+/// change that ends half-way changes nothing.
 #[derive(Drop)]
 pub struct LiveView {
-    /// The live elements, as stored, in the order of their ids.
-    pub(crate) live: Vec<Element>,
-
-    /// What is shown of them.
-    pub(crate) shown: Vec<Element>,
+    pub(crate) kept: Kept,
+    pub(crate) twin: Option<Kept>,
 }
 
 impl Model for LiveView {
-    ghost use Rattle.std.specs.Prelude.{List as Items};
+    ghost use Rattle.std.specs.Prelude.{◌≡◌, List as Items, IfSome};
     ghost use Rattle.elem.specs.ElementValue.{ElementValue};
-    ghost use Rattle.view.specs.Shown.{IsView};
 
     ghost Value = { Items ElementValue };
 
-    ghost view = { λ v. v.live.items };
+    ghost view = { λ v. v.kept };
 
-    ghost invariant = { λ v. IsView v.live.items v.shown.items };
+    ghost invariant = { λ v. IfSome v.twin (λ twin. twin ≡ v.kept) };
 }
 
 impl LiveView {
@@ -39,8 +46,8 @@ impl LiveView {
         ensures { result ≡ [] }
     {
         LiveView {
-            live: Vec::new(alloc),
-            shown: Vec::new(alloc),
+            kept: Kept::new(alloc),
+            twin: None,
         }
     }
 
@@ -57,6 +64,109 @@ impl LiveView {
         // The view of these elements, in any order, is this view.
         ensures again { (stored : Items ElementValue) → IsPermutation result.now stored → shown (live_elements stored) ≡ result.now }
     {
-        self.shown.as_slice()
+        self.kept.elements()
+    }
+
+    /// Lets an element take the place of that of its id, if they have one outline, and tells whether they do. For want of
+    /// memory nothing changes.
+    pub(crate) fn redraw(&mut self, new: &Element) -> Result<bool, AllocError>
+        ensures new { result ≡ Ok true → HasRedrawn self.old new.now self.new }
+        ensures old { OnErr result (self.new ≡ self.old) }
+        ensures other { result ≡ Ok false → self.new ≡ self.old }
+    {
+        let twin = self.twin.take();
+        if !self.kept.redraw_as(new)? {
+            self.twin = twin;
+            return Ok(false);
+        }
+        self.twin = redrawn_twin(twin, new);
+        Ok(true)
+    }
+
+    /// Follows what is stored of the ids of these elements, and tells whether it is found near their places: those that keep
+    /// their places at once, others one after the other, if they are few. For want of memory nothing changes.
+    pub(crate) fn follow(&mut self, news: &Vec<Element>) -> Result<bool, AllocError>
+        requires { are_rising (ids_of news.now.items) ≡ true }
+        ensures new { result ≡ Ok true → HaveFollowed self.old news.now.items self.new }
+        ensures old { OnErr result (self.new ≡ self.old) }
+        ensures other { result ≡ Ok false → self.new ≡ self.old }
+    {
+        if self.replace(news)? {
+            return Ok(true);
+        }
+        if news.len() > MOST_MOVED {
+            return Ok(false);
+        }
+        self.follow_each(news)
+    }
+
+    /// Lets elements take the places of those of their ids, if none is deleted and each is held with the same index, and
+    /// tells whether they do. For want of memory nothing changes.
+    fn replace(&mut self, news: &Vec<Element>) -> Result<bool, AllocError>
+        requires { are_rising (ids_of news.now.items) ≡ true }
+        ensures new { result ≡ Ok true → HaveFollowed self.old news.now.items self.new }
+        ensures old { OnErr result (self.new ≡ self.old) }
+        ensures other { result ≡ Ok false → self.new ≡ self.old }
+    {
+        let twin = self.twin.take();
+        if !self.kept.replace_live(news)? {
+            self.twin = twin;
+            return Ok(false);
+        }
+        self.twin = followed_twin(twin, news);
+        Ok(true)
+    }
+
+    /// Follows elements one after the other in the twin, which then changes places with what is kept. For want of memory
+    /// nothing changes.
+    fn follow_each(&mut self, news: &Vec<Element>) -> Result<bool, AllocError>
+        requires { are_rising (ids_of news.now.items) ≡ true }
+        ensures new { result ≡ Ok true → HaveFollowed self.old news.now.items self.new }
+        ensures old { OnErr result (self.new ≡ self.old) }
+        ensures other { result ≡ Ok false → self.new ≡ self.old }
+    {
+        let mut kept = self.twin_or_copy()?;
+        if !kept.follow_each(news)? {
+            return Ok(false);
+        }
+        mem::swap(&mut self.kept, &mut kept);
+        self.twin = followed_twin(Some(kept), news);
+        Ok(true)
+    }
+
+    /// Takes the twin, or makes one.
+    fn twin_or_copy(&mut self) -> Result<Kept, AllocError>
+        ensures twin { IfOk result (λ twin. twin ≡ self.old) }
+        ensures same { self.new ≡ self.old }
+    {
+        match self.twin.take() {
+            Some(twin) => Ok(twin),
+            None => self.kept.copied(),
+        }
+    }
+}
+
+/// The twin after an element was redrawn, unless it is lost for want of memory.
+fn redrawn_twin(twin: Option<Kept>, new: &Element) -> Option<Kept>
+    ensures drawn { IfSome result (λ after. IfSome twin (λ before. HasRedrawn before new.now after)) }
+    ensures there { IsSome result → IsSome twin }
+{
+    let mut twin = twin?;
+    match twin.redraw_as(new) {
+        Ok(true) => Some(twin),
+        _ => None,
+    }
+}
+
+/// The twin after it followed these elements, unless it is lost for want of memory.
+fn followed_twin(twin: Option<Kept>, news: &Vec<Element>) -> Option<Kept>
+    requires { are_rising (ids_of news.now.items) ≡ true }
+    ensures followed { IfSome result (λ after. IfSome twin (λ before. HaveFollowed before news.now.items after)) }
+    ensures there { IsSome result → IsSome twin }
+{
+    let mut twin = twin?;
+    match twin.follow(news) {
+        Ok(true) => Some(twin),
+        _ => None,
     }
 }

@@ -4,13 +4,11 @@
 ghost use Rattle.std.specs.Prelude.{◌≡◌, ◌<◌, Some, Ok, true, false, map, OnErr, length, slice_get, slice_set, IfOk, IfSome, IsTrue, IsSomeAnd, bytes_eq, vec_len};
 ghost use Rattle.live_view.specs.Changes.{outline, redrawn_as, HasRedrawn, IsRedrawn};
 
-use crate::live::LiveView;
-use crate::order::scene_order;
+use crate::kept::Kept;
+use crate::places::{place_of, place_shown, replace};
 use board_io::List;
 use elem::{Element, same};
-use scene_json::Text;
 use std::alloc::{AllocError, Global};
-use std::cmp::Ordering;
 
 /// The new element and what is shown of it, with the places in a view at which those of its id are held and shown.
 #[derive(Drop)]
@@ -21,7 +19,7 @@ struct Redrawing {
     shown: Element,
 }
 
-impl LiveView {
+impl Kept {
     /// Lets the element take the place of that of its id, if they have one outline, and tells whether they do. For want of
     /// memory nothing changes.
     pub(crate) fn redraw_as(&mut self, new: &Element) -> Result<bool, AllocError>
@@ -42,7 +40,7 @@ impl LiveView {
             (r.held ≡ new.now) × IsRedrawn self.now new.now r.held_at r.shown_at r.shown)) }
     {
         let alloc = *self.live.allocator();
-        let Some(held_at) = place_of_id(&self.live, &new.id) else {
+        let Ok(held_at) = place_of(&self.live, &new.id) else {
             return Ok(None);
         };
         let old = &self.live[held_at];
@@ -74,55 +72,6 @@ impl LiveView {
         } = redrawing;
         replace(&mut self.live, held_at, held);
         replace(&mut self.shown, shown_at, shown);
-    }
-}
-
-/// Puts the element at this place.
-fn replace(elements: &mut Vec<Element>, place: usize, e: Element)
-    requires { place < length elements.old.items }
-    ensures { elements.new.items ≡ slice_set elements.old.items place e }
-{
-    elements[place] = e;
-}
-
-/// The place of the element of this id among elements in the order of their ids, if it is found.
-fn place_of_id(elements: &Vec<Element>, id: &Text) -> Option<usize>
-    ensures { IfSome result (λ i. IsSomeAnd (slice_get elements.now.items i) (λ e. e.id ≡ id.now)) }
-{
-    let i = elements.binary_search_by(|e| e.id.cmp(id)).ok()?;
-    is_at(elements, i, id).then_some(i)
-}
-
-/// The place of what is shown of this element among the shown elements, if it is found: they stand in scene order.
-fn place_shown(live: &Vec<Element>, shown: &Vec<Element>, e: &Element) -> Option<usize>
-    ensures { IfSome result (λ i. IsSomeAnd (slice_get shown.now.items i) (λ s. s.id ≡ e.now.id)) }
-{
-    let i = shown.binary_search_by(|s| order_of(live, s, e)).ok()?;
-    is_at(shown, i, &e.id).then_some(i)
-}
-
-/// Whether the element at this place is of this id.
-fn is_at(elements: &Vec<Element>, i: usize, id: &Text) -> bool
-    ensures { IsTrue result → IsSomeAnd (slice_get elements.now.items i) (λ e. e.id ≡ id.now) }
-{
-    match elements.get(i) {
-        Some(e) => has_id(e, id),
-        None => false,
-    }
-}
-
-/// Whether an element is of this id.
-fn has_id(e: &Element, id: &Text) -> bool
-    ensures { IsTrue result → e.now.id ≡ id.now }
-{
-    e.id == *id
-}
-
-/// How the stored element of a shown one compares with another stored one in scene order.
-fn order_of(live: &Vec<Element>, shown: &Element, e: &Element) -> Ordering {
-    match place_of_id(live, &shown.id) {
-        Some(i) => scene_order(&live[i], e),
-        None => Ordering::Less,
     }
 }
 

@@ -1,0 +1,77 @@
+//! Live elements, and what is shown of them.
+
+ghost use Rattle.std.specs.Prelude.{◌≡◌, List as Items, [], IfOk, map, IsPermutation};
+ghost use Rattle.elem.specs.ElementValue.{ElementValue};
+ghost use Rattle.elem_store.specs.Updates.{ids_of};
+ghost use Rattle.view.specs.Settled.{AreSettled};
+ghost use Rattle.view.specs.Shown.{live_elements, shown, bare, HaveRisingKeys, IsSceneOrder};
+
+use crate::drawing::{elements_copied, table_of};
+use elem::Element;
+use links::LinkTable;
+use std::alloc::{AllocError, Global};
+use std::marker::Model;
+
+/// Live elements, what is shown of them, and who of them names whom. Contracts see the live elements, as stored, in the
+/// order of their ids.
+#[derive(Drop)]
+pub(crate) struct Kept {
+    /// The live elements, as stored, in the order of their ids.
+    pub(crate) live: Vec<Element>,
+
+    /// What is shown of them.
+    pub(crate) shown: Vec<Element>,
+
+    /// Who of them names whom.
+    pub(crate) table: LinkTable,
+}
+
+impl Model for Kept {
+    ghost use Rattle.std.specs.Prelude.{List as Items};
+    ghost use Rattle.elem.specs.ElementValue.{ElementValue};
+    ghost use Rattle.live_view.specs.Replacing.{IsLiveView};
+
+    ghost Value = { Items ElementValue };
+
+    ghost view = { λ v. v.live.items };
+
+    ghost invariant = { λ v. IsLiveView v.live.items v.shown.items v.table.rows };
+}
+
+impl Kept {
+    /// Of no elements. It takes no memory.
+    pub(crate) fn new(alloc: Global) -> Kept
+        ensures { result ≡ [] }
+    {
+        Kept {
+            live: Vec::new(alloc),
+            shown: Vec::new(alloc),
+            table: LinkTable::new(alloc),
+        }
+    }
+
+    /// What is shown.
+    pub(crate) fn elements(&self) -> &[Element]
+        ensures exact { result.now ≡ shown self.now }
+        ensures keys { HaveRisingKeys result.now }
+        ensures order { (ordered : Items ElementValue) × IsSceneOrder self.now ordered × (ids_of result.now ≡ ids_of ordered) }
+        ensures ids { IsPermutation (ids_of self.now) (ids_of result.now) }
+        ensures others { IsPermutation (map bare self.now) (map bare result.now) }
+        ensures settled { AreSettled result.now }
+        ensures again { (stored : Items ElementValue) → IsPermutation result.now stored → shown (live_elements stored) ≡ result.now }
+    {
+        self.shown.as_slice()
+    }
+
+    /// The same, copied.
+    pub(crate) fn copied(&self) -> Result<Kept, AllocError>
+        ensures { IfOk result (λ copy. copy ≡ self.now) }
+    {
+        let alloc = *self.live.allocator();
+        Ok(Kept {
+            live: elements_copied(alloc, &self.live)?,
+            shown: elements_copied(alloc, &self.shown)?,
+            table: table_of(alloc, &self.live)?,
+        })
+    }
+}

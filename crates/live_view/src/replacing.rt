@@ -1,0 +1,235 @@
+//! Elements that take the places of those of their ids, with the same indices: what is near them is shown anew, and nothing
+//! else that is shown changes.
+
+ghost use Rattle.std.specs.Prelude.{◌≡◌, ℕ, List as Items, Some, Ok, true, false, map, filter, filter_map, length, All, OnErr, IfOk, IfSome, IsTrue, bytes_eq, option_copied};
+ghost use Rattle.std.specs.List.{list_all, IsDistinct};
+ghost use Rattle.frac_keys.specs.Rising.{are_rising};
+ghost use Rattle.elem.specs.ElementValue.{ElementValue};
+ghost use Rattle.elem_store.specs.Updates as updates;
+ghost use Rattle.elem_store.specs.Updates.{ids_of};
+ghost use Rattle.view.specs.Settled.{settled};
+ghost use Rattle.view.specs.Shown.{in_scene_order, is_live, without_index, HaveDistinctIds};
+ghost use Rattle.live_view.specs.Putting.{puts_of, IsInPlace};
+ghost use Rattle.live_view.specs.Reached.{is_among, AreIds, HaveRowsOf};
+ghost use Rattle.live_view.specs.Replacing as replacing;
+ghost use Rattle.live_view.specs.Replacing.{AreRepairs, AreRowsOfAll, HaveReplaced};
+
+use crate::drawing::settled_of;
+use crate::ids::Ids;
+use crate::kept::Kept;
+use crate::order;
+use crate::places::{Put, element_of, place_of, place_shown, put_all};
+use crate::reach::{reached, started_by};
+use board_io::List;
+use elem::Element;
+use frac_keys::Key;
+use links::{LinkRow, LinkTable, rows_of};
+use scene_json::Text;
+use std::alloc::{AllocError, Global};
+
+impl Kept {
+    /// Lets elements take the places of those of their ids, if each is held with the same index, and tells whether they
+    /// do. For want of memory nothing changes.
+    pub(crate) fn replace_all(&mut self, news: &Vec<Element>) -> Result<bool, AllocError>
+        requires ordered { are_rising (ids_of news.now.items) ≡ true }
+        requires live { list_all is_live news.now.items ≡ true }
+        ensures new { result ≡ Ok true → HaveReplaced self.old news.now.items self.new }
+        ensures old { OnErr result (self.new ≡ self.old) }
+        ensures other { result ≡ Ok false → self.new ≡ self.old }
+    {
+        let alloc = *self.live.allocator();
+        let Some(held) = held_puts(alloc, &self.live, news)? else {
+            return Ok(false);
+        };
+        let Some(shown) = shown_puts(alloc, &self.live, &self.shown, &self.table, news)? else {
+            return Ok(false);
+        };
+        let old_rows = rows_of_all(alloc, &held_of(alloc, &self.live, news)?)?;
+        let rows = rows_of_all(alloc, news)?;
+        self.table.reserve(rows.as_slice().len())?;
+        put_all(&mut self.live, held);
+        put_all(&mut self.shown, shown);
+        self.table.replace(&old_rows, rows);
+        Ok(true)
+    }
+}
+
+/// The new elements at the places of those of their ids, if each is there and has the same index.
+fn held_puts(
+    alloc: Global,
+    live: &Vec<Element>,
+    news: &Vec<Element>,
+) -> Result<Option<Vec<Put>>, AllocError>
+    ensures { IfOk result (λ found. IfSome found (λ puts. (puts_of puts.items ≡ news.now.items) × All (IsInPlace live.now.items) puts.items)) }
+{
+    let mut puts = Vec::with_capacity(alloc, news.len())?;
+    for e in news {
+        let Ok(at) = place_of(live, &e.id) else {
+            return Ok(None);
+        };
+        if !have_one_index(&live[at], e) {
+            return Ok(None);
+        }
+        puts.push(Put {
+            at,
+            e: e.try_clone()?,
+        })?;
+    }
+    Ok(Some(puts))
+}
+
+/// Whether two elements have the same index.
+fn have_one_index(e: &Element, other: &Element) -> bool
+    ensures { IsTrue result → e.now.index ≡ other.now.index }
+{
+    e.index == other.index
+}
+
+/// The held elements of the new ones' ids, copied.
+fn held_of(
+    alloc: Global,
+    live: &Vec<Element>,
+    news: &Vec<Element>,
+) -> Result<Vec<Element>, AllocError>
+    requires { are_rising (ids_of live.now.items) ≡ true }
+    ensures { IfOk result (λ held. held.items ≡ filter_map (λ (e : ElementValue). updates.element_of live.now.items e.id) news.now.items) }
+{
+    let mut held = Vec::new(alloc);
+    for new in news {
+        if let Some(e) = element_of(live, &new.id) {
+            held.push(e.try_clone()?)?;
+        }
+    }
+    Ok(held)
+}
+
+/// The rows of what elements name.
+pub(crate) fn rows_of_all(
+    alloc: Global,
+    elements: &Vec<Element>,
+) -> Result<List<LinkRow>, AllocError>
+    ensures { IfOk result (AreRowsOfAll elements.now.items) }
+{
+    let mut rows = Vec::new(alloc);
+    for e in elements {
+        let mut more = rows_of(alloc, e)?.into_vec();
+        rows.append(&mut more)?;
+    }
+    Ok(List::from_vec(rows))
+}
+
+/// What is near the new elements, at the places where it is shown, if these are found.
+fn shown_puts(
+    alloc: Global,
+    live: &Vec<Element>,
+    shown: &Vec<Element>,
+    table: &LinkTable,
+    news: &Vec<Element>,
+) -> Result<Option<Vec<Put>>, AllocError>
+    requires live { are_rising (ids_of live.now.items) ≡ true }
+    requires news { are_rising (ids_of news.now.items) ≡ true }
+    requires table { HaveRowsOf live.now.items table.now.rows }
+    ensures { IfOk result (λ found. IfSome found (λ puts. AreRepairs live.now.items shown.now.items news.now.items puts.items)) }
+{
+    let near = reached(alloc, &started_by(alloc, news)?, live, table)?;
+    let wide = reached(alloc, &near, live, table)?;
+    let part = settled_after(alloc, live, news, &wide.list)?;
+    puts_near(alloc, live, shown, part, &near)
+}
+
+/// The elements of these ids after the new ones took their places, in scene order, settled.
+pub(crate) fn settled_after(
+    alloc: Global,
+    live: &Vec<Element>,
+    news: &Vec<Element>,
+    ids: &Vec<Text>,
+) -> Result<List<Element>, AllocError>
+    requires live { are_rising (ids_of live.now.items) ≡ true }
+    requires news { are_rising (ids_of news.now.items) ≡ true }
+    requires distinct { IsDistinct bytes_eq ids.now.items }
+    ensures { IfOk result (λ part. part ≡ settled (in_scene_order (filter_map (replacing.element_after live.now.items news.now.items) ids.now.items))) }
+{
+    let mut elements = elements_after(alloc, live, news, ids)?;
+    order::sort(&mut elements)?;
+    settled_of(alloc, List::from_vec(elements))
+}
+
+/// The elements of these ids after the new ones took their places, copied.
+fn elements_after(
+    alloc: Global,
+    live: &Vec<Element>,
+    news: &Vec<Element>,
+    ids: &Vec<Text>,
+) -> Result<Vec<Element>, AllocError>
+    requires live { are_rising (ids_of live.now.items) ≡ true }
+    requires news { are_rising (ids_of news.now.items) ≡ true }
+    ensures { IfOk result (λ found. found.items ≡ filter_map (replacing.element_after live.now.items news.now.items) ids.now.items) }
+{
+    let mut found = Vec::new(alloc);
+    for id in ids {
+        if let Some(e) = element_after(live, news, id) {
+            found.push(e.try_clone()?)?;
+        }
+    }
+    Ok(found)
+}
+
+/// The element of an id after the new ones took their places.
+fn element_after<'a>(
+    live: &'a Vec<Element>,
+    news: &'a Vec<Element>,
+    id: &Text,
+) -> Option<&'a Element>
+    requires live { are_rising (ids_of live.now.items) ≡ true }
+    requires news { are_rising (ids_of news.now.items) ≡ true }
+    ensures { option_copied result ≡ replacing.element_after live.now.items news.now.items id.now }
+{
+    match element_of(news, id) {
+        Some(e) => Some(e),
+        None => element_of(live, id),
+    }
+}
+
+/// Those of the elements that are of these ids, at the places where they are shown and with the keys of these, if they are
+/// found.
+pub(crate) fn puts_near(
+    alloc: Global,
+    live: &Vec<Element>,
+    shown: &Vec<Element>,
+    elements: List<Element>,
+    near: &Ids,
+) -> Result<Option<Vec<Put>>, AllocError>
+    requires { AreIds near.now.list.items near.now.seen }
+    ensures { IfOk result (λ found. IfSome found (λ puts. All (IsInPlace shown.now.items) puts.items
+        × (map without_index (puts_of puts.items) ≡ map without_index (filter (λ (e : ElementValue). is_among near.now.list.items e.id) elements)))) }
+{
+    let mut puts = Vec::new(alloc);
+    for e in elements.into_vec() {
+        if near.has(&e.id) {
+            let Some(at) = place_shown(live, shown, &e) else {
+                return Ok(None);
+            };
+            let index = index_of(&shown[at])?;
+            puts.push(Put {
+                at,
+                e: with_index(e, index),
+            })?;
+        }
+    }
+    Ok(Some(puts))
+}
+
+/// The index of an element, copied.
+fn index_of(e: &Element) -> Result<Option<Key>, AllocError>
+    ensures { IfOk result (λ index. index ≡ e.now.index) }
+{
+    e.index.as_ref().map(Key::try_clone).transpose()
+}
+
+/// The element with this index.
+fn with_index(mut e: Element, index: Option<Key>) -> Element
+    ensures { result ≡ record e { index = index } }
+{
+    e.index = index;
+    e
+}
