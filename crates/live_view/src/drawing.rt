@@ -7,7 +7,8 @@ ghost use Rattle.elem_store.specs.Updates.{ids_of};
 ghost use Rattle.links.specs.Rows.{has_row};
 ghost use Rattle.live_view.specs.Reached.{HaveRowsOf};
 ghost use Rattle.view.specs.Settled.{settled};
-ghost use Rattle.view.specs.Shown.{is_live, live_elements, placed, shown, HaveDistinctIds, HaveKeysOrNone};
+ghost use Rattle.elem.specs.Order.{HaveDistinctIds};
+ghost use Rattle.view.specs.Shown.{is_live, live_elements, placed, shown, HaveKeysOrNone};
 
 use crate::kept::Kept;
 use crate::order;
@@ -68,6 +69,8 @@ fn live_of(alloc: Global, store: &Store) -> Result<Vec<Element>, AllocError>
     ensures exact { IfOk result (λ live. live.items ≡ live_elements store.now.elements) }
     ensures ordered { IfOk result (λ _. are_rising (ids_of store.now.elements) ≡ true) }
 {
+    // So that it is known that the ids rise.
+    store.tell();
     let mut live = Vec::new(alloc);
     for i in 0..store.len() {
         if let Some(e) = store.at(i) {

@@ -18,7 +18,7 @@ pub(crate) fn stored<'a>(store: &'a Store, id: &Text) -> Option<&'a Element>
     ensures ordered { are_rising (ids_of store.now.elements) ≡ true }
 {
     // So that it is known that the ids rise.
-    let _first = store.at(0);
+    store.tell();
     store.get(id)
 }
 
@@ -32,7 +32,7 @@ pub(crate) fn picked(
     ensures ordered { are_rising (ids_of store.now.elements) ≡ true }
 {
     // So that it is known that the ids rise.
-    let _first = store.at(0);
+    store.tell();
     let mut news = Store::new(alloc);
     for id in ids {
         let Some(e) = store.get(id) else {
@@ -53,7 +53,7 @@ pub(crate) fn taken_of(
     ensures ordered { are_rising (ids_of store.now.elements) ≡ true }
 {
     // So that it is known that the ids rise.
-    let _first = store.at(0);
+    store.tell();
     let mut news = Store::new(alloc);
     for e in changed {
         begin_with(&mut news, store, &e.id)?;
@@ -104,7 +104,7 @@ pub(crate) fn store_after(
     ensures ordered { are_rising (ids_of store.now.elements) ≡ true }
 {
     // So that it is known that the ids rise.
-    let _first = store.at(0);
+    store.tell();
     let mut updates = stored_elements(alloc, store)?;
     push_copies(&mut updates, changed)?;
     Store::from_updates(alloc, List::from_vec(updates))
