@@ -1,12 +1,12 @@
-use Rattle.std.proofs.Common.{◌≡◌, Ok, ap, sym, ◌∙◌, subst₂}
+use Rattle.std.proofs.Common.{◌≡◌, Ok, Some, refl, ap, sym, ◌∙◌, subst₂}
 use Rattle.live_view.specs.Following.{HaveFollowed}
 use Rattle.live_view.proofs.FollowingLaws.{twin-followed}
-use Rattle.live_view.proofs.live.LiveView.follow.Goals as goal
+use Rattle.live_view.proofs.live.LiveView.follow_each.Goals as goal
 
 pub invariant_of-self : goal.invariant_of-self
 invariant_of-self c =
     let news = c.args.news.now.items in
     let before : c.in_ok-kept.kept ≡ c.swap.new.y = c.in_ok-kept.ensures.twin ∙ sym c.in_ok-kept.ensures.same ∙ sym c.self.view_is ∙ sym c.swap.ensures.y_after in
-    twin-followed c.swap.new.y c.swap.new.x news c.followed_twin.result
-    (subst₂ (λ a b. HaveFollowed a news b) before (sym c.swap.ensures.x_after) (c.in_ok-follow.ensures (ap Ok c.if-not-branch.false)))
-    c.followed_twin.ensures
+    twin-followed c.swap.new.y c.swap.new.x news (Some c.swap.new.y) c.followed_twin.result refl
+    (subst₂ (λ a b. HaveFollowed a news b) before (sym c.swap.ensures.x_after) (c.in_ok-follow_each.ensures (ap Ok c.if-not-branch.false)))
+    c.followed_twin.ensures.followed c.followed_twin.ensures.there
