@@ -6,7 +6,7 @@ use Rattle.live_view.proofs.drawing.kept_of.Goals as goal
 
 pub shown_of-requires : goal.shown_of-requires
 shown_of-requires c =
-    subst HaveDistinctIds (sym (c.in_ok-elements_copied.ensures ∙ c.in_ok-live.ensures.exact))
+    subst HaveDistinctIds (sym (c.from_vec.ensures ∙ (c.in_ok-elements_copied.ensures ∙ c.in_ok-live.ensures.exact)))
     (HaveDistinctIds-rising (live_elements c.args.store.now.elements) (live_elements-rise c.args.store.now.elements c.in_ok-live.ensures.ordered))
 
 pub table_of-requires : goal.table_of-requires
@@ -16,7 +16,7 @@ table_of-requires c =
 pub invariant_of-result : goal.invariant_of-result
 invariant_of-result c =
     let stored = c.args.store.now.elements in
-    let copy = c.in_ok-elements_copied.ensures in
+    let copy = c.from_vec.ensures ∙ c.in_ok-elements_copied.ensures in
     record {
       view = subst (λ live. IsView live c.into_vec.result.items) (sym c.in_ok-live.ensures.exact) (record {
         exact = c.into_vec.ensures ∙ (c.in_ok-shown.ensures.exact ∙ ap shown (copy ∙ c.in_ok-live.ensures.exact));

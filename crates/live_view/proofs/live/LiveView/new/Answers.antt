@@ -1,8 +1,0 @@
-use Rattle.std.proofs.Common.{refl}
-use Rattle.view.specs.Settled.{settled}
-use Rattle.view.specs.Shown.{placed, shown}
-use Rattle.live_view.proofs.live.LiveView.new.Goals as goal
-
-pub invariant_of-result : goal.invariant_of-result
-unfolding placed settled shown
-invariant_of-result c = rw (c.new.ensures.items, c.new-2.ensures.items) (record { exact = refl; ordered = refl; all_live = refl; keys = refl })
