@@ -1,6 +1,6 @@
 -- What is stored of some ids, and after changes, one more each time.
-use Rattle.std.proofs.Common.{◌≡◌, ℕ, zero, suc, ◌+◌, ◌<◌, Bool, true, false, cond, ◌&&◌, ◌||◌, List, [], ◌∷◌, ◌++◌, length, map, take, get_or, IfSome, IsSome, Option, Some, None, is_some, Contains, bytes_eq, refl, sym, ap, ap₂, ◌∙◌, subst, inl, inr}
-use Rattle.std.specs.List.{AllByRecursion, IsDistinct, list_any, list_all}
+use Rattle.std.proofs.Common.{◌≡◌, ℕ, zero, suc, ◌+◌, ◌<◌, Bool, true, false, cond, ◌&&◌, ◌||◌, List, [], ◌∷◌, ◌++◌, length, take, get_or, IfSome, IsSome, Option, Some, None, is_some, bytes_eq, refl, sym, ap, ap₂, ◌∙◌, subst, inl, inr}
+use Rattle.std.specs.List.{AllByRecursion, IsDistinct, list_all}
 use Rattle.std.specs.Option.{option_or}
 use Rattle.std.proofs.lemmas.Bool.{cases_Bool, or_cases, both_ways, false_from_ne_true}
 use Rattle.std.proofs.lemmas.List.{take_more}
@@ -19,17 +19,13 @@ use Rattle.undoing.specs.Carrying.{taken, taken_all}
 use Rattle.undoing.proofs.TakenLaws.{taken-has, taken_all-rising}
 use Rattle.view.specs.Shown.{is_live, live_elements}
 use Rattle.view.proofs.ShownLaws.{HaveDistinctIds-rising, live_elements-rise}
-use Rattle.live_view.specs.Changes.{redrawn_as, AreSameButAt, HasRedrawn}
-use Rattle.live_view.specs.Coming.{HasGone}
+use Rattle.live_view.specs.Changes.{AreSameButAt}
 use Rattle.live_view.specs.Following.{followed, ArePicked, AreTaken, HaveFollowed}
 use Rattle.live_view.specs.Reached.{is_among}
 use Rattle.live_view.specs.Replacing.{element_after, HaveReplaced}
 use Rattle.live_view.proofs.Followed.{if_live, live-is, element-live}
 
 -- ---- what is picked, one id more
-pub picked-none : (stored : List ElementValue) → ArePicked stored [] []
-picked-none stored = record { ordered = refl; each = λ id. refl; there = λ id h. cc }
-
 or-none : (a : Bool) → (a || false) ≡ a
 or-none true = refl
 or-none false = refl
@@ -130,44 +126,6 @@ begun stored news after id e none found has = (each, own) where
       twice None None = refl
       twice None (Some e) = refl
 
--- ---- a view of the store before is then one of the store after
-live-of : (news : List ElementValue) (id : List ℕ) (o : Option ElementValue) → list_all is_live news ≡ true → element_of news id ≡ o → (s : Option ElementValue) → option_or o (if_live s) ≡ if_live (option_or o s)
-live-of news id None live is s = refl
-live-of news id (Some e) live is s = sym (live-is e (all news live (find-Some (has_id id) news e is).0)) where
-  all : (es : List ElementValue) → list_all is_live es ≡ true → Contains es e → is_live e ≡ true
-  all es h c = All-contains (λ x. is_live x ≡ true) es e (AllPass-from_list_all is_live es h) c
-
-pub replaced-is : (live news after stored : List ElementValue) → are_rising (ids_of stored) ≡ true → HaveReplaced live news after
-    → ((id : List ℕ) → element_after live news id ≡ if_live (element_of stored id)) → after ≡ live_elements stored
-replaced-is live news after stored rising replaced each =
-    rows.same_elements after (live_elements stored) replaced.ordered (live_elements-rise stored rising)
-    (λ id. replaced.each id ∙ each id ∙ sym (element-live None stored id rising))
-
-pub updated-near : (stored live news after : List ElementValue) (ids : List (List ℕ)) → are_rising (ids_of stored) ≡ true → AreSameButAt ids live (live_elements stored)
-    → ArePicked stored ids news → list_all is_live news ≡ true → HaveReplaced live news after → after ≡ live_elements stored
-updated-near stored live news after ids rising same picked all replaced =
-    replaced-is live news after stored rising replaced (λ id. by id (is_among ids id) refl)
-  where
-    there : (id : List ℕ) (o : Option ElementValue) → element_of stored id ≡ o → is_some o ≡ true → element_of news id ≡ o → option_or (element_of news id) (element_of live id) ≡ if_live (element_of stored id)
-    there id None at' some is = cc
-    there id (Some e) at' some is =
-        let live_one : is_live e ≡ true = All-contains (λ x. is_live x ≡ true) news e (AllPass-from_list_all is_live news all) (find-Some (has_id id) news e is).0 in
-        ap (λ o. option_or o (element_of live id)) is ∙ sym (ap if_live at' ∙ live-is e live_one)
-
-    by : (id : List ℕ) (b : Bool) → is_among ids id ≡ b → option_or (element_of news id) (element_of live id) ≡ if_live (element_of stored id)
-    by id true is =
-        there id (element_of stored id) refl (picked.there id is) (picked.each id ∙ ap (λ b. cond b (element_of stored id) None) is)
-    by id false is =
-        ap (λ o. option_or o (element_of live id)) (picked.each id ∙ ap (λ b. cond b (element_of stored id) None) is)
-        ∙ same id is ∙ element-live None stored id rising
-
-pub taken-near : (stored changed live news after : List ElementValue) → are_rising (ids_of stored) ≡ true → live ≡ live_elements stored
-    → AreTaken stored changed news → list_all is_live news ≡ true → HaveReplaced live news after → after ≡ live_elements (taken_all changed stored)
-taken-near stored changed live news after rising is taken all replaced =
-    replaced-is live news after (taken_all changed stored) (taken_all-rising stored changed rising) replaced
-    (λ id. ap (λ es. option_or (element_of news id) (element_of es id)) is ∙ ap (option_or (element_of news id)) (element-live None stored id rising)
-    ∙ live-of news id (element_of news id) all refl (element_of stored id) ∙ ap if_live (sym (taken.each id)))
-
 -- ---- lists in which no id stands twice
 apart-taken : (id : List ℕ) (es : List ElementValue) (n : ℕ) → AllByRecursion (λ other. bytes_eq id other ≡ false) (ids_of es) → AllByRecursion (λ other. bytes_eq id other ≡ false) (ids_of (take n es))
 apart-taken id es zero all = tt
@@ -233,24 +191,6 @@ replaced-followed live news after all replaced = record { ordered = replaced.ord
   by id None is = refl
   by id (Some e) is = sym (live-is e (All-contains (λ x. is_live x ≡ true) news e (AllPass-from_list_all is_live news all) (find-Some (has_id id) news e is).0))
 
-pub gone-followed : (live after : List ElementValue) (e : ElementValue) → is_live e ≡ false → HasGone live e.id after → HaveFollowed live (e ∷ []) after
-gone-followed live after e not gone = record { ordered = gone.ordered; each = λ id. gone.each id ∙ by id (bytes_eq id e.id) } where
-  by : (id : List ℕ) (b : Bool) → cond b None (element_of live id) ≡ followed (cond b (Some e) None) (element_of live id)
-  by id true = sym (ap (λ b. cond b (Some e) None) not)
-  by id false = refl
-
--- one goes and comes anew
-pub moved-followed : (live mid after : List ElementValue) (e : ElementValue) → is_live e ≡ true → HasGone live e.id mid → HaveReplaced mid (e ∷ []) after → HaveFollowed live (e ∷ []) after
-moved-followed live mid after e is gone replaced =
-    record { ordered = replaced.ordered; each = λ id. replaced.each id ∙ ap (option_or (cond (bytes_eq id e.id) (Some e) None)) (gone.each id) ∙ by id (bytes_eq id e.id) } where
-  by : (id : List ℕ) (b : Bool) → option_or (cond b (Some e) None) (cond b None (element_of live id)) ≡ followed (cond b (Some e) None) (element_of live id)
-  by id true = sym (ap (λ b. cond b (Some e) None) is)
-  by id false = refl
-
--- nothing is followed, and one more each time
-pub none-followed : (live : List ElementValue) → are_rising (ids_of live) ≡ true → HaveFollowed live [] live
-none-followed live rising = record { ordered = rising; each = λ id. refl }
-
 -- what is followed is told by the elements alone
 pub same-followed : (live news after other : List ElementValue) → HaveFollowed live news after → HaveFollowed live news other → after ≡ other
 same-followed live news after other has also = rows.same_elements after other has.ordered also.ordered (λ id. has.each id ∙ sym (also.each id))
@@ -294,9 +234,3 @@ pub twin-followed : (old new news : List ElementValue) (twin after : Option (Lis
 twin-followed old new news twin None same has is there = tt
 twin-followed old new news None (Some a) same has is there = let never : false ≡ true = there refl in cc
 twin-followed old new news (Some b) (Some a) same has is there = same-followed old news a new (subst (λ es. HaveFollowed es news a) same is) has
-
-pub twin-redrawn : (old new : List ElementValue) (e : ElementValue) (twin after : Option (List ElementValue)) → IfSome twin (λ t. t ≡ old) → HasRedrawn old e new → IfSome after (λ a. IfSome twin (λ b. HasRedrawn b e a)) → (IsSome after → IsSome twin)
-    → IfSome after (λ t. t ≡ new)
-twin-redrawn old new e twin None same has is there = tt
-twin-redrawn old new e None (Some a) same has is there = let never : false ≡ true = there refl in cc
-twin-redrawn old new e (Some b) (Some a) same has is there = is.place ∙ ap (map (redrawn_as e)) same ∙ sym has.place
