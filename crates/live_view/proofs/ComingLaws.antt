@@ -16,7 +16,7 @@ use Rattle.frac_keys.specs.Rising.{are_rising, is_key_or_none}
 use Rattle.index_repair.specs.Repair.{repaired, NeverFall}
 use Rattle.elem.specs.ElementValue.{ElementValue}
 use Rattle.elem_store.specs.Places.{IsAt, IsGapFor}
-use Rattle.elem.specs.Order.{has_id}
+use Rattle.elem.specs.Order.{has_id, HaveDistinctIds}
 use Rattle.elem_store.specs.Updates.{element_of, ids_of, is_taken}
 use Rattle.elem_store.proofs.Edits.{HasTaken-insert, element-gap, is_taken-gap, element-at}
 use Rattle.elem_store.proofs.Ids.{same_id, of_same, of_itself}
@@ -25,7 +25,7 @@ use Rattle.elem_store.proofs.Rising.{member}
 use Rattle.links.proofs.Among.{distinct-among}
 use Rattle.links.proofs.Members.{map-map}
 use Rattle.view.specs.Settled.{settled, unsettled}
-use Rattle.view.specs.Shown.{is_live, as_stored, in_scene_order, index_of, without_index, placed, shown, HaveDistinctIds, HaveKeysOrNone, AreInSceneOrder, IsView}
+use Rattle.view.specs.Shown.{is_live, as_stored, in_scene_order, index_of, without_index, placed, shown, HaveKeysOrNone, AreInSceneOrder, IsView}
 use Rattle.view.specs.Steps.{settled_but_for_key}
 use Rattle.view.proofs.InOrder.{AllPairs-in_order, HaveDistinctIds-permuted}
 use Rattle.view.proofs.SceneOrder.{scene_order, IsPermutation-in_scene_order}

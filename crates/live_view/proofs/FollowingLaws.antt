@@ -10,14 +10,14 @@ use Rattle.std.proofs.lemmas.List.Sums.{AllPass-from_list_all}
 use Rattle.std.proofs.lemmas.Slice.Eq.{bytes_eq-Decides}
 use Rattle.frac_keys.specs.Rising.{are_rising}
 use Rattle.elem.specs.ElementValue.{ElementValue}
-use Rattle.elem.specs.Order.{has_id}
+use Rattle.elem.specs.Order.{has_id, HaveDistinctIds}
 use Rattle.elem_store.specs.Updates.{element_of, ids_of, is_newer, is_taken, HasTaken}
 use Rattle.elem_store.proofs.Ids.{same_id, of_same}
 use Rattle.elem_store.proofs.Lists.{find-Some}
 use Rattle.elem_store.proofs.Rising as rows
 use Rattle.undoing.specs.Carrying.{taken, taken_all}
 use Rattle.undoing.proofs.TakenLaws.{taken-has, taken_all-rising}
-use Rattle.view.specs.Shown.{is_live, live_elements, HaveDistinctIds}
+use Rattle.view.specs.Shown.{is_live, live_elements}
 use Rattle.view.proofs.ShownLaws.{HaveDistinctIds-rising, live_elements-rise}
 use Rattle.live_view.specs.Changes.{redrawn_as, AreSameButAt, HasRedrawn}
 use Rattle.live_view.specs.Coming.{HasGone}

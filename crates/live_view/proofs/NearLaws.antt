@@ -9,13 +9,13 @@ use Rattle.std.proofs.lemmas.List.Sorted.{IsPermutation-sym, Contains-permutatio
 use Rattle.frac_keys.specs.Rising.{are_rising}
 use Rattle.index_repair.specs.Repair.{repaired}
 use Rattle.elem.specs.ElementValue.{ElementValue}
-use Rattle.elem.specs.Order.{has_id}
+use Rattle.elem.specs.Order.{has_id, HaveDistinctIds}
 use Rattle.elem_store.specs.Updates.{element_of, ids_of}
 use Rattle.elem_store.proofs.Lists.{find-Some, filter-Contains, Contains-filter}
 use Rattle.elem_store.proofs.Rising.{member}
 use Rattle.links.proofs.Members.{map-map}
 use Rattle.view.specs.Settled.{settled, unsettled}
-use Rattle.view.specs.Shown.{is_live, comes_before, in_scene_order, index_of, without_index, with_index, keyed, placed, shown, HaveDistinctIds, HaveKeysOrNone, IsView}
+use Rattle.view.specs.Shown.{is_live, comes_before, in_scene_order, index_of, without_index, with_index, keyed, placed, shown, HaveKeysOrNone, IsView}
 use Rattle.view.specs.Steps.{settled_of, settled_but_for_key, HasAllNear}
 use Rattle.view.proofs.InOrder.{AllPairs-in_order, HaveDistinctIds-permuted}
 use Rattle.view.proofs.SceneOrder.{scene_order, IsPermutation-in_scene_order}

@@ -14,12 +14,12 @@ use Rattle.frac_keys.proofs.KeysLaws.{rise_between-ends}
 use Rattle.std.proofs.lemmas.List.Elements.{Contains-get_or, filter-append}
 use Rattle.std.proofs.lemmas.List.Sorted.{IsPermutation-refl, IsPermutation-sym, IsPermutation-trans, IsPermutation-middle, IsPermutation-cons, Contains-permutation}
 use Rattle.elem.specs.ElementValue.{ElementValue}
-use Rattle.elem.specs.Order.{has_id}
+use Rattle.elem.specs.Order.{has_id, HaveDistinctIds}
 use Rattle.elem_store.specs.Updates.{element_of, ids_of}
 use Rattle.elem_store.proofs.Ids.{same_id, of_itself}
 use Rattle.elem_store.proofs.Lists.{Contains-head, Contains-cons}
 use Rattle.elem_store.proofs.Rising.{member}
-use Rattle.view.specs.Shown.{as_stored, comes_before, with_element, in_scene_order, AreInSceneOrder, HaveDistinctIds, IsView}
+use Rattle.view.specs.Shown.{as_stored, comes_before, with_element, in_scene_order, AreInSceneOrder, IsView}
 use Rattle.view.proofs.InOrder.{in_order-permuted, HaveDistinctIds-permuted}
 use Rattle.view.proofs.OrderLaws.{place_cmp, place_cmp-total, comes_before-cmp}
 use Rattle.view.proofs.SceneOrder.{scene_order, IsPermutation-in_scene_order}

@@ -15,12 +15,12 @@ use Rattle.std.proofs.lemmas.Option.{same_Some}
 use Rattle.std.proofs.lemmas.Slice.Eq.{bytes_eq-Decides}
 use Rattle.frac_keys.specs.Rising.{are_rising}
 use Rattle.elem.specs.ElementValue.{ElementValue}
-use Rattle.elem.specs.Order.{has_id}
+use Rattle.elem.specs.Order.{has_id, HaveDistinctIds}
 use Rattle.elem_store.specs.Updates.{element_of, ids_of}
 use Rattle.elem_store.proofs.Ids.{same_id}
 use Rattle.elem_store.proofs.Lists.{Contains-head, Contains-cons, Contains-cases, Contains-filter, find-Some}
 use Rattle.elem_store.proofs.Rising.{member}
-use Rattle.view.specs.Shown.{comes_before, place_less, in_scene_order, index_of, AreInSceneOrder, HaveDistinctIds}
+use Rattle.view.specs.Shown.{comes_before, place_less, in_scene_order, index_of, AreInSceneOrder}
 use Rattle.view.proofs.InOrder.{AllPairs-in_order, HaveDistinctIds-permuted, same_sorted}
 use Rattle.view.proofs.OrderLaws.{place_cmp, place_cmp-total, comes_before-cmp}
 use Rattle.view.proofs.SceneOrder.{scene_order, IsPermutation-in_scene_order}

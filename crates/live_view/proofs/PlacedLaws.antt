@@ -12,7 +12,8 @@ use Rattle.index_repair.proofs.RepairLaws.{repaired-law}
 use Rattle.elem.specs.ElementValue.{ElementValue}
 use Rattle.elem_store.specs.Updates.{ids_of}
 use Rattle.view.specs.Settled.{unsettled, settled}
-use Rattle.view.specs.Shown.{in_scene_order, index_of, keyed, placed, shown, bare, without_index, HaveDistinctIds, HaveKeysOrNone}
+use Rattle.elem.specs.Order.{HaveDistinctIds}
+use Rattle.view.specs.Shown.{in_scene_order, index_of, keyed, placed, shown, bare, without_index, HaveKeysOrNone}
 use Rattle.view.proofs.SceneOrder.{IsPermutation-in_scene_order}
 use Rattle.view.proofs.SettledLaws.{map-less, unsettled-settled}
 use Rattle.view.proofs.ShownLaws.{shown-is}

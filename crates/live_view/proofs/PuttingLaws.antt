@@ -8,13 +8,13 @@ use Rattle.std.proofs.lemmas.Bool.{cases_Bool, cond-true, cond-false}
 use Rattle.std.proofs.lemmas.Option.{same_Some, get_or_from_slice_get}
 use Rattle.std.proofs.lemmas.Slice.Eq.{bytes_eq-Decides}
 use Rattle.elem.specs.ElementValue.{ElementValue}
-use Rattle.elem.specs.Order.{has_id}
+use Rattle.elem.specs.Order.{has_id, HaveDistinctIds}
 use Rattle.elem_store.specs.Updates.{element_of, ids_of}
 use Rattle.elem_store.proofs.Ids.{same_id}
 use Rattle.elem_store.proofs.Lists.{Contains-head}
 use Rattle.std.proofs.lemmas.List.{take_more}
 use Rattle.std.proofs.lemmas.List.Elements.{All-append, All-cons, All-contains, All-nil, Contains-append_right, filter-append}
-use Rattle.view.specs.Shown.{index_of, without_index, HaveDistinctIds}
+use Rattle.view.specs.Shown.{index_of, without_index}
 use Rattle.live_view.specs.declared.places.Put.{Put}
 use Rattle.live_view.proofs.ByIds.{none_apart}
 use Rattle.live_view.specs.Putting.{puts_of, IsWithin, IsInPlace, all_put}

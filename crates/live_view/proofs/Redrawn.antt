@@ -10,7 +10,7 @@ use Rattle.std.proofs.lemmas.List.Sorted.{Contains-permutation, IsPermutation-sy
 use Rattle.std.proofs.lemmas.Slice.Eq.{bytes_eq-Decides}
 use Rattle.frac_keys.specs.Rising.{are_rising, is_key_or_none}
 use Rattle.elem.specs.ElementValue.{ElementValue}
-use Rattle.elem.specs.Order.{has_id}
+use Rattle.elem.specs.Order.{has_id, HaveDistinctIds}
 use Rattle.elem_store.specs.Updates.{element_of, ids_of}
 use Rattle.elem_store.proofs.Ids.{same_id}
 use Rattle.elem_store.proofs.Lists.{find-Some}
@@ -18,7 +18,7 @@ use Rattle.elem_store.proofs.Rising as rows
 use Rattle.elem_store.proofs.Rising.{member}
 use Rattle.links.proofs.Members.{map-map}
 use Rattle.live_view.specs.Changes.{outline, redrawn_as, HasRedrawn, IsRedrawn}
-use Rattle.view.specs.Shown.{is_live, in_scene_order, index_of, shown, bare, HaveDistinctIds, HaveKeysOrNone, IsView}
+use Rattle.view.specs.Shown.{is_live, in_scene_order, index_of, shown, bare, HaveKeysOrNone, IsView}
 use Rattle.view.proofs.ShownLaws.{HaveDistinctIds-rising}
 use Rattle.live_view.proofs.PlacedLaws.{bare-shown, shown-distinct}
 use Rattle.view.proofs.SceneOrder.{IsPermutation-in_scene_order}

@@ -11,7 +11,7 @@ use Rattle.std.proofs.lemmas.Option.{same_Some}
 use Rattle.frac_keys.specs.Rising.{are_rising, is_key_or_none}
 use Rattle.index_repair.specs.Repair.{repaired}
 use Rattle.elem.specs.ElementValue.{ElementValue}
-use Rattle.elem.specs.Order.{has_id}
+use Rattle.elem.specs.Order.{has_id, HaveDistinctIds}
 use Rattle.elem_store.specs.Updates.{element_of, ids_of}
 use Rattle.elem_store.proofs.Ids.{same_id, of_itself}
 use Rattle.elem_store.proofs.Lists.{find-Some, Contains-head, Contains-cons, Contains-cases}
@@ -19,7 +19,7 @@ use Rattle.elem_store.proofs.Rising.{member}
 use Rattle.links.proofs.Among.{distinct-among}
 use Rattle.links.proofs.Members.{map-map}
 use Rattle.view.specs.Settled.{settled, unsettled}
-use Rattle.view.specs.Shown.{is_live, in_scene_order, index_of, without_index, with_index, keyed, placed, shown, as_stored, HaveDistinctIds, HaveKeysOrNone, IsView}
+use Rattle.view.specs.Shown.{is_live, in_scene_order, index_of, without_index, with_index, keyed, placed, shown, as_stored, HaveKeysOrNone, IsView}
 use Rattle.view.specs.Steps.{settled_of, settled_but_for_key, HasAllNear}
 use Rattle.view.proofs.InOrder.{AllPairs-in_order, HaveDistinctIds-permuted, in_order-only}
 use Rattle.view.proofs.SceneOrder.{scene_order, IsPermutation-in_scene_order}

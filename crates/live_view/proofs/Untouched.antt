@@ -4,10 +4,10 @@ use Rattle.std.specs.Option.{option_map}
 use Rattle.std.proofs.lemmas.Bool.{cases_Bool}
 use Rattle.std.proofs.lemmas.Option.{same_Some}
 use Rattle.elem.specs.ElementValue.{ElementValue}
-use Rattle.elem.specs.Order.{has_id}
+use Rattle.elem.specs.Order.{has_id, HaveDistinctIds}
 use Rattle.elem_store.specs.Updates.{element_of, ids_of}
 use Rattle.view.specs.Settled.{settled, unsettled}
-use Rattle.view.specs.Shown.{index_of, without_index, HaveDistinctIds}
+use Rattle.view.specs.Shown.{index_of, without_index}
 use Rattle.view.specs.Steps.{settled_but_for_key}
 use Rattle.view.proofs.SettledLaws.{unsettled-settled}
 use Rattle.live_view.proofs.ByIds.{same-by_ids}

@@ -7,7 +7,8 @@ ghost use Rattle.elem_store.specs.Updates.{ids_of};
 ghost use Rattle.links.specs.Rows.{has_row};
 ghost use Rattle.live_view.specs.Reached.{HaveRowsOf};
 ghost use Rattle.view.specs.Settled.{settled};
-ghost use Rattle.view.specs.Shown.{is_live, live_elements, placed, shown, HaveDistinctIds, HaveKeysOrNone};
+ghost use Rattle.elem.specs.Order.{HaveDistinctIds};
+ghost use Rattle.view.specs.Shown.{is_live, live_elements, placed, shown, HaveKeysOrNone};
 
 use crate::kept::Kept;
 use crate::order;

@@ -2,7 +2,8 @@
 
 ghost use Rattle.std.specs.Prelude.{◌≡◌, OnOk, IfOk};
 ghost use Rattle.std.specs.Ordering.{is_lt};
-ghost use Rattle.view.specs.Shown.{comes_before, in_scene_order, HaveDistinctIds};
+ghost use Rattle.elem.specs.Order.{HaveDistinctIds};
+ghost use Rattle.view.specs.Shown.{comes_before, in_scene_order};
 
 use elem::Element;
 use std::alloc::AllocError;

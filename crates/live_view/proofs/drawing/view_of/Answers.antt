@@ -1,5 +1,6 @@
 use Rattle.std.proofs.Common.{sym, ap, ◌∙◌, subst}
-use Rattle.view.specs.Shown.{live_elements, shown, HaveKeysOrNone, HaveDistinctIds, IsView}
+use Rattle.elem.specs.Order.{HaveDistinctIds}
+use Rattle.view.specs.Shown.{live_elements, shown, HaveKeysOrNone, IsView}
 use Rattle.view.proofs.ShownLaws.{HaveDistinctIds-rising, live_elements-live, live_elements-rise}
 use Rattle.live_view.proofs.drawing.view_of.Goals as goal
 
