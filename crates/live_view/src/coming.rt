@@ -84,17 +84,17 @@ impl Kept {
         let Ok(at) = place_of(&self.live, id) else {
             return Ok(true);
         };
-        let e = self.live[at].try_clone()?;
-        let Some(place) = place_shown(&self.live, &self.shown, &e) else {
+        let e = &self.live[at];
+        let Some(place) = place_shown(&self.live, &self.shown, e) else {
             return Ok(false);
         };
         let Some(rekeying) = keys_without(alloc, &self.live, &self.shown, place)? else {
             return Ok(false);
         };
-        let Some(puts) = draw_going(alloc, &self.live, &self.shown, &self.table, &e)? else {
+        let Some(puts) = draw_going(alloc, &self.live, &self.shown, &self.table, e)? else {
             return Ok(false);
         };
-        let rows = rows_of(alloc, &e)?;
+        let rows = rows_of(alloc, e)?;
         put_all(&mut self.shown, puts);
         self.shown.remove(place);
         set_keys(&mut self.shown, rekeying);

@@ -1,31 +1,52 @@
-use Rattle.std.proofs.Common.{◌≡◌, [], ◌∷◌, not, ◌&&◌, ◌||◌, remove, slice_get, Some, refl, sym, ap, ap₂, ◌∙◌, subst, subst₂}
+use Rattle.std.proofs.Common.{◌≡◌, [], ◌∷◌, not, ◌&&◌, ◌||◌, remove, slice_get, Some, refl, sym, ap, ap₂, ◌∙◌, subst, subst₂, ◌<◌, List, length, Option, None, IsSomeAnd, arith, ℕ}
+use Rattle.std.proofs.lemmas.Option.{slice_get_within}
 use Rattle.elem.specs.ElementValue.{ElementValue}
+use Rattle.elem_store.specs.Places.{IsAt}
 use Rattle.elem_store.proofs.Edits.{element-at}
 use Rattle.links.specs.Rows.{has_row}
 use Rattle.view.specs.Shown.{IsView}
 use Rattle.live_view.specs.Coming.{rekeyed, HasGone}
 use Rattle.live_view.specs.Putting.{all_put}
 use Rattle.live_view.specs.Reached.{HaveRowsOf}
-use Rattle.live_view.proofs.ComingLaws.{HasGone-without, IsView-without, fits-without', all-within}
+use Rattle.live_view.proofs.ComingLaws.{HasGone-without, IsView-without, fits-without', all-within, gone-already}
 use Rattle.live_view.proofs.Redrawn.{at_place}
 use Rattle.live_view.proofs.RowLaws.{rows-without}
 use Rattle.live_view.proofs.kept.Kept.go.Goals as goal
 use Rattle.live_view.proofs.kept.Kept.go.Goals.{After-rows_of}
 
-held : (c : After-rows_of) → (slice_get c.self.inside.live.items c.in-Ok.at ≡ Some c.in_ok-e.e) × (c.in_ok-e.e.id ≡ c.args.id.now)
-held c =
-    let found = at_place (λ (d : ElementValue). d.id ≡ c.args.id.now) c.self.inside.live.items c.in-Ok.at c.index.result.now c.in-Ok.ensures.found c.index.ensures in
-    subst (λ (d : ElementValue). (slice_get c.self.inside.live.items c.in-Ok.at ≡ Some d) × (d.id ≡ c.args.id.now)) (sym c.in_ok-e.ensures) found
+-- the place of an element is one of the list's
+within : (es : List ElementValue) (id : List ℕ) (i : ℕ) → IsAt es id i → i < length es
+within es id i is = by (slice_get es i) refl is where
+  by : (o : Option ElementValue) → slice_get es i ≡ o → IsSomeAnd o (λ (e : ElementValue). e.id ≡ id) → i < length es
+  by None h never = absurd never
+  by (Some e) h same = slice_get_within es i e h
+
+pub returns-in_default-clause-new : goal.returns-in_default-clause-new
+returns-in_default-clause-new c ok =
+    subst (λ ls. HasGone ls c.args.id.now ls) c.self.view_is
+    (gone-already c.self.inside.live.items c.args.id.now c.in_default.field-0 c.self.invariant.view.ordered (c.in_default.ensures.absent c.self.invariant.view.ordered))
+
+pub index-e-requires : goal.index-e-requires
+index-e-requires c = omega (arith, within c.self.inside.live.items c.args.id.now c.in-Ok.at c.in-Ok.ensures.found, c.self.inside.live.ok.0)
+
+pub keys_without-requires-clause-within : goal.keys_without-requires-clause-within
+keys_without-requires-clause-within c = within c.self.inside.shown.items c.index-e.result.now.id c.in-Some.place c.in-Some.ensures
+
+pub remove-requires-2 : goal.remove-requires-2
+remove-requires-2 c = omega (arith, within c.self.inside.live.items c.args.id.now c.in-Ok.at c.in-Ok.ensures.found, c.self.inside.live.ok.0)
+
+held : (c : After-rows_of) → (slice_get c.self.inside.live.items c.in-Ok.at ≡ Some c.index-e.result.now) × (c.index-e.result.now.id ≡ c.args.id.now)
+held c = at_place (λ (d : ElementValue). d.id ≡ c.args.id.now) c.self.inside.live.items c.in-Ok.at c.index-e.result.now c.in-Ok.ensures.found c.index-e.ensures
 
 view : (c : After-rows_of) → IsView (remove c.self.inside.live.items c.in-Ok.at)
     (rekeyed c.in-Some-2.rekeying.start c.in-Some-2.rekeying.keys (remove (all_put c.in-Some-3.puts.items c.self.inside.shown.items) c.in-Some.place))
 view c =
-    IsView-without c.self.inside.live.items c.self.inside.shown.items c.self.invariant.view c.in_ok-e.e c.in-Ok.at c.in-Some.place c.in-Some-2.rekeying.start c.in-Some-3.puts.items c.in-Some-2.rekeying.keys
+    IsView-without c.self.inside.live.items c.self.inside.shown.items c.self.invariant.view c.index-e.result.now c.in-Ok.at c.in-Some.place c.in-Some-2.rekeying.start c.in-Some-3.puts.items c.in-Some-2.rekeying.keys
     (held c).0 c.in-Some.ensures (rw c.in-Some-2.is at c.in_ok-rekeying.ensures) (rw c.in-Some-3.is at c.in_ok-puts.ensures)
 
-gone : (c : After-rows_of) → HasGone c.self.inside.live.items c.in_ok-e.e.id (remove c.self.inside.live.items c.in-Ok.at)
+gone : (c : After-rows_of) → HasGone c.self.inside.live.items c.index-e.result.now.id (remove c.self.inside.live.items c.in-Ok.at)
 gone c =
-    HasGone-without c.self.inside.live.items c.self.inside.shown.items c.self.invariant.view c.in_ok-e.e c.in-Ok.at c.in-Some.place c.in-Some-2.rekeying.start c.in-Some-3.puts.items c.in-Some-2.rekeying.keys
+    HasGone-without c.self.inside.live.items c.self.inside.shown.items c.self.invariant.view c.index-e.result.now c.in-Ok.at c.in-Some.place c.in-Some-2.rekeying.start c.in-Some-3.puts.items c.in-Some-2.rekeying.keys
     (held c).0 c.in-Some.ensures (rw c.in-Some-2.is at c.in_ok-rekeying.ensures) (rw c.in-Some-3.is at c.in_ok-puts.ensures)
 
 pub put_all-requires : goal.put_all-requires
@@ -36,7 +57,7 @@ set_keys-requires c =
     let d = (goal.at.set_keys-requires c).After-rows_of in
     let shown_is = c.remove.ensures.items ∙ ap (λ es. remove es c.in-Some.place) c.put_all.ensures.items in
     rw shown_is
-    (fits-without' c.self.inside.live.items c.self.inside.shown.items c.self.invariant.view c.in_ok-e.e c.in-Ok.at c.in-Some.place c.in-Some-2.rekeying.start c.in-Some-3.puts.items c.in-Some-2.rekeying.keys
+    (fits-without' c.self.inside.live.items c.self.inside.shown.items c.self.invariant.view c.index-e.result.now c.in-Ok.at c.in-Some.place c.in-Some-2.rekeying.start c.in-Some-3.puts.items c.in-Some-2.rekeying.keys
     (held d).0 c.in-Some.ensures (rw c.in-Some-2.is at c.in_ok-rekeying.ensures) (rw c.in-Some-3.is at c.in_ok-puts.ensures))
 
 pub invariant_of-self : goal.invariant_of-self
@@ -45,12 +66,12 @@ invariant_of-self c =
     let live = c.self.inside.live.items in
     let live_is = c.remove-2.ensures.items in
     let shown_is = c.set_keys.ensures ∙ ap (rekeyed c.in-Some-2.rekeying.start c.in-Some-2.rekeying.keys) (c.remove.ensures.items ∙ ap (λ es. remove es c.in-Some.place) c.put_all.ensures.items) in
-    let known = element-at live c.self.invariant.view.ordered c.in_ok-e.e.id c.in-Ok.at c.in_ok-e.e (held d).0 refl in
+    let known = element-at live c.self.invariant.view.ordered c.index-e.result.now.id c.in-Ok.at c.index-e.result.now (held d).0 refl in
     let old_rows = c.in_ok-rows.rows in
     record {
       view = subst₂ IsView (sym live_is) (sym shown_is) (view d);
       table = subst (λ ls. HaveRowsOf ls c.replace.new.self.rows) (sym live_is)
-          (rows-without live (remove live c.in-Ok.at) c.in_ok-e.e c.self.inside.table.rows old_rows c.replace.new.self.rows c.self.invariant.table known c.in_ok-rows.ensures.exact
+          (rows-without live (remove live c.in-Ok.at) c.index-e.result.now c.self.inside.table.rows old_rows c.replace.new.self.rows c.self.invariant.table known c.in_ok-rows.ensures.exact
           (λ row. c.replace.ensures.rows row ∙ ap (λ ns. has_row ns row || (has_row c.self.inside.table.rows row && not (has_row old_rows row))) c.new.ensures)
           (gone d));
     }
