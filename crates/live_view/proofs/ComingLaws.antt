@@ -75,7 +75,7 @@ module _ (drawn part : List ElementValue) (near : List (List ℕ)) (id : List �
   distinct-puts =
       let es = filter beside_it part in
       let ids : ids_of (puts_of puts) ≡ ids_of es =
-          sym (map-map (λ (e : ElementValue). e.id) without_index (puts_of puts)) ∙ ap (map (λ (e : ElementValue). e.id)) beside.drawn_others ∙ map-map (λ (e : ElementValue). e.id) without_index es in
+      sym (map-map (λ (e : ElementValue). e.id) without_index (puts_of puts)) ∙ ap (map (λ (e : ElementValue). e.id)) beside.drawn_others ∙ map-map (λ (e : ElementValue). e.id) without_index es in
       subst (IsDistinct bytes_eq) (sym ids) (distinct-among beside_it part apart_part)
 
   each-put : (other : List ℕ) → element_of (all_put puts drawn) other ≡ option_or (element_of (puts_of puts) other) (element_of drawn other)
@@ -87,7 +87,7 @@ module _ (drawn part : List ElementValue) (near : List (List ℕ)) (id : List �
   put-near other x h off there =
       let among : is_among beside.others other ≡ true = beside.are.each other ∙ ap₂ (λ a b. not a && b) off h in
       let same : option_map without_index (element_of (puts_of puts) other) ≡ option_map without_index (element_of part other) =
-          put-others other ∙ ap (λ b. option_map without_index (cond b (element_of part other) None)) among in
+      put-others other ∙ ap (λ b. option_map without_index (cond b (element_of part other) None)) among in
       ap (option_map without_index) (each-put other) ∙ by (element_of (puts_of puts) other) (element_of drawn other) (same ∙ there) ∙ same
     where
       by : (o s : Option ElementValue) → option_map without_index o ≡ Some x → option_map without_index (option_or o s) ≡ option_map without_index o
@@ -399,11 +399,13 @@ module _ (live drawn : List ElementValue) (view : IsView live drawn) where
       by (Some d) h is =
           let l : place < length drawn = slice_get_within drawn place d h in
           let there : get_or drawn place d ≡ d = get_or_from_slice_get drawn place d d h in
-          let m : place < length (in_scene_order live) = omega (arith, l, count-drawn, length-map (in_scene_order live) index_of) in
-          (get_or_default (in_scene_order live) place e (as_stored live d) m
-          ∙ ap (λ es. get_or es place (as_stored live d)) (sym (stored-order live drawn view))
-          ∙ get_or-map (as_stored live) drawn place d ∙ ap (as_stored live) there
-          ∙ ap (λ o. unwrap_or o d) (ap (element_of live) is ∙ known), m)
+          let m : place < length (in_scene_order live) = omega (arith, l, count-drawn, length-map (in_scene_order live) index_of) in (
+            get_or_default (in_scene_order live) place e (as_stored live d) m
+                ∙ ap (λ es. get_or es place (as_stored live d)) (sym (stored-order live drawn view))
+                ∙ get_or-map (as_stored live) drawn place d ∙ ap (as_stored live) there
+                ∙ ap (λ o. unwrap_or o d) (ap (element_of live) is ∙ known),
+            m,
+          )
 
     apart-order : HaveDistinctIds (in_scene_order live)
     apart-order = HaveDistinctIds-permuted live _ (IsPermutation-in_scene_order live) apart
@@ -470,9 +472,9 @@ module _ (live drawn : List ElementValue) (view : IsView live drawn) where
         let m : place < length after_puts' = omega (arith, at-order.1, count-puts', length-map (in_scene_order live) index_of) in
         let n : place < length (ids_of after_puts') = omega (arith, m, length-map after_puts' (λ (x : ElementValue). x.id)) in
         let id : d.id ≡ e.id =
-            ap (λ (x : ElementValue). x.id) (sym got') ∙ sym (get_or-map (λ (x : ElementValue). x.id) after_puts' place d)
-            ∙ get_or_default (ids_of after_puts') place d.id e.id n ∙ ap (λ xs. get_or xs place e.id) (ids-puts' ∙ ids-drawn)
-            ∙ get_or-map (λ (x : ElementValue). x.id) (in_scene_order live) place e ∙ ap (λ (x : ElementValue). x.id) at-order.0 in
+        ap (λ (x : ElementValue). x.id) (sym got') ∙ sym (get_or-map (λ (x : ElementValue). x.id) after_puts' place d)
+        ∙ get_or_default (ids_of after_puts') place d.id e.id n ∙ ap (λ xs. get_or xs place e.id) (ids-puts' ∙ ids-drawn)
+        ∙ get_or-map (λ (x : ElementValue). x.id) (in_scene_order live) place e ∙ ap (λ (x : ElementValue). x.id) at-order.0 in
         of_same e.id d (sym id)
 
     removed-is : remove after_puts' place ≡ others_than e.id after_puts'

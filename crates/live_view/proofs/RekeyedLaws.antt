@@ -240,28 +240,29 @@ module _ (keys : List (Option (List ℕ))) (place start : ℕ) (new : List (List
       let behind : first_of (W ++ Q) ≡ first_of (drop start keys) = ap first_of (drop-parts keys start e up) in
       let same : 0 < start → first_of (ins ++ Q) ≡ first_of (W ++ Q) = λ more. let inner = (are.begins.rises (omega (arith, more))).0 in first-insert W Q j key (omega (arith, inner)) j_in in
       let to : insert keys place key ≡ P ++ (ins ++ Q) =
-          ap (λ ks. insert ks place key) whole ∙ ap (λ n. insert (P ++ (W ++ Q)) n key) (let p : place ≡ length P + j = omega (arith, length_P, before) in p)
-          ∙ insert-left P (W ++ Q) j key ∙ ap (λ ks. P ++ ks) (insert-right W Q j key j_in) in
+      ap (λ ks. insert ks place key) whole ∙ ap (λ n. insert (P ++ (W ++ Q)) n key) (let p : place ≡ length P + j = omega (arith, length_P, before) in p)
+      ∙ insert-left P (W ++ Q) j key ∙ ap (λ ks. P ++ ks) (insert-right W Q j key j_in) in
       let next : is_cut W Q ≡ true = subst (λ ks. is_cut ks Q ≡ true) (take-append-drop j W) (cut-without (take j W) key (drop j W) Q are.repaired.cut) in
       let keys_all : list_all is_key_or_none (P ++ (W ++ Q)) ≡ true = subst (λ ks. list_all is_key_or_none ks ≡ true) whole all in
       let exchanged =
-          part-exchanged P W ins Q keys_all
-          (cut-start keys place start never are.begins (W ++ Q) (λ more. behind))
-          (cut-start keys place start never are.begins (ins ++ Q) (λ more. same more ∙ behind))
-          next are.repaired.cut
-          (same-before keys place start never are.begins (first_of (ins ++ Q)) (first_of (W ++ Q)) same) in
+      part-exchanged P W ins Q keys_all
+      (cut-start keys place start never are.begins (W ++ Q) (λ more. behind))
+      (cut-start keys place start never are.begins (ins ++ Q) (λ more. same more ∙ behind))
+      next are.repaired.cut
+      (same-before keys place start never are.begins (first_of (ins ++ Q)) (first_of (W ++ Q)) same) in
       let end_is : length P + length W ≡ e = omega (arith, length_P, length_W) in
-      let R = repaired keys in
-      (record {
-        within = are.within;
-        exact =
-            ap repaired to ∙ exchanged
-            ∙ ap (λ ks. take (length P) (repaired ks) ++ (repaired_below (first_of Q) ins ++ drop (length P + length W) (repaired ks))) (sym whole)
-            ∙ ap₂ (λ m n. take m R ++ (repaired_below (first_of Q) ins ++ drop n R)) length_P end_is
-            ∙ ap (λ ks. take start R ++ (ks ++ drop e R)) (sym are.repaired.exact);
-      },
-      let count = ap length are.repaired.exact ∙ cut-count ins Q are.repaired.cut (list_all-append is_key_or_none ins Q ∙ and_from (list_all is_key_or_none ins) (list_all is_key_or_none Q) are.repaired.are_keys (all-from e)) in
-      omega (arith, count, length-insert W j key, length_W))
+      let R = repaired keys in (
+        record {
+          within = are.within;
+          exact =
+              ap repaired to ∙ exchanged
+              ∙ ap (λ ks. take (length P) (repaired ks) ++ (repaired_below (first_of Q) ins ++ drop (length P + length W) (repaired ks))) (sym whole)
+              ∙ ap₂ (λ m n. take m R ++ (repaired_below (first_of Q) ins ++ drop n R)) length_P end_is
+              ∙ ap (λ ks. take start R ++ (ks ++ drop e R)) (sym are.repaired.exact);
+        },
+        let count = ap length are.repaired.exact ∙ cut-count ins Q are.repaired.cut (list_all-append is_key_or_none ins Q ∙ and_from (list_all is_key_or_none ins) (list_all is_key_or_none Q) are.repaired.are_keys (all-from e)) in
+            omega (arith, count, length-insert W j key, length_W),
+      )
 
   pub exchanged-without : place < length keys → (are : AreKeysWithout keys place start new)
       → AreExchanged keys (remove keys place) start new are.end' × (start + length new + 1 ≡ are.end')
@@ -283,30 +284,31 @@ module _ (keys : List (Option (List ℕ))) (place start : ℕ) (new : List (List
       let behind : first_of (W ++ Q) ≡ first_of (drop start keys) = ap first_of (drop-parts keys start e up) in
       let same : 0 < start → first_of (left ++ Q) ≡ first_of (W ++ Q) = λ more. let inner = (are.begins.rises (omega (arith, more))).0 in first-remove W Q j (omega (arith, inner)) j_in in
       let to : remove keys place ≡ P ++ (left ++ Q) =
-          ap (λ ks. remove ks place) whole ∙ ap (λ n. remove (P ++ (W ++ Q)) n) (let p : place ≡ length P + j = omega (arith, length_P, before) in p)
-          ∙ remove-left P (W ++ Q) j ∙ ap (λ ks. P ++ ks) (remove-right W Q j j_in) in
+      ap (λ ks. remove ks place) whole ∙ ap (λ n. remove (P ++ (W ++ Q)) n) (let p : place ≡ length P + j = omega (arith, length_P, before) in p)
+      ∙ remove-left P (W ++ Q) j ∙ ap (λ ks. P ++ ks) (remove-right W Q j j_in) in
       let next : is_cut left Q ≡ true = cut-without (take j W) key (drop (suc j) W) Q (subst (λ ks. is_cut ks Q ≡ true) split are.cut) in
       let keys_all : list_all is_key_or_none (P ++ (W ++ Q)) ≡ true = subst (λ ks. list_all is_key_or_none ks ≡ true) whole all in
       let part_all : list_all is_key_or_none W ≡ true = (split-all is_key_or_none W Q (split-all is_key_or_none P (W ++ Q) keys_all).1).0 in
       let left_all : list_all is_key_or_none left ≡ true = all-without is_key_or_none (take j W) key (drop (suc j) W) (subst (λ ks. list_all is_key_or_none ks ≡ true) split part_all) in
       let exchanged =
-          part-exchanged P W left Q keys_all
-          (cut-start keys place start never are.begins (W ++ Q) (λ more. behind))
-          (cut-start keys place start never are.begins (left ++ Q) (λ more. same more ∙ behind))
-          are.cut next
-          (same-before keys place start never are.begins (first_of (left ++ Q)) (first_of (W ++ Q)) same) in
+      part-exchanged P W left Q keys_all
+      (cut-start keys place start never are.begins (W ++ Q) (λ more. behind))
+      (cut-start keys place start never are.begins (left ++ Q) (λ more. same more ∙ behind))
+      are.cut next
+      (same-before keys place start never are.begins (first_of (left ++ Q)) (first_of (W ++ Q)) same) in
       let end_is : length P + length W ≡ e = omega (arith, length_P, length_W) in
-      let R = repaired keys in
-      (record {
-        within = are.within;
-        exact =
-            ap repaired to ∙ exchanged
-            ∙ ap (λ ks. take (length P) (repaired ks) ++ (repaired_below (first_of Q) left ++ drop (length P + length W) (repaired ks))) (sym whole)
-            ∙ ap₂ (λ m n. take m R ++ (repaired_below (first_of Q) left ++ drop n R)) length_P end_is
-            ∙ ap (λ ks. take start R ++ (ks ++ drop e R)) (sym are.exact);
-      },
-      let count = ap length are.exact ∙ cut-count left Q next (list_all-append is_key_or_none left Q ∙ and_from (list_all is_key_or_none left) (list_all is_key_or_none Q) left_all (all-from e)) in
-      omega (arith, count, length-remove W j j_in, length_W))
+      let R = repaired keys in (
+        record {
+          within = are.within;
+          exact =
+              ap repaired to ∙ exchanged
+              ∙ ap (λ ks. take (length P) (repaired ks) ++ (repaired_below (first_of Q) left ++ drop (length P + length W) (repaired ks))) (sym whole)
+              ∙ ap₂ (λ m n. take m R ++ (repaired_below (first_of Q) left ++ drop n R)) length_P end_is
+              ∙ ap (λ ks. take start R ++ (ks ++ drop e R)) (sym are.exact);
+        },
+        let count = ap length are.exact ∙ cut-count left Q next (list_all-append is_key_or_none left Q ∙ and_from (list_all is_key_or_none left) (list_all is_key_or_none Q) left_all (all-from e)) in
+            omega (arith, count, length-remove W j j_in, length_W),
+      )
 
 -- ---- the indices of shown elements with one more, or without one, once the keys around it are set
 map-take : {X Y : Type 0} (f : X → Y) (n : ℕ) (xs : List X) → take n (map f xs) ≡ map f (take n xs)

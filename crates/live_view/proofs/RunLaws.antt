@@ -125,7 +125,7 @@ module _ (before part other after : List (Option (List ℕ))) (keys : list_all i
       let c = repaired after in
       let start : take (length before) (repaired (before ++ (part ++ after))) ≡ a = ap (take (length before)) whole ∙ take_at a (b ++ c) (length before) (sym count-before) in
       let end' : drop (length before + length part) (repaired (before ++ (part ++ after))) ≡ c =
-          ap (drop (length before + length part)) (whole ∙ sym (append_assoc a b c))
-          ∙ drop_at (a ++ b) c (length before + length part) (length-append a b ∙ ap₂ (λ m n. m + n) (sym count-before) (sym count-part)) in
+      ap (drop (length before + length part)) (whole ∙ sym (append_assoc a b c))
+      ∙ drop_at (a ++ b) c (length before + length part) (length-append a b ∙ ap₂ (λ m n. m + n) (sym count-before) (sym count-part)) in
       part-repaired before other after cut_other next_other
       ∙ ap₂ (λ xs ys. xs ++ (repaired_below (first_of after) other ++ ys)) (first ∙ sym start) (sym end')

@@ -239,11 +239,7 @@ fn key_at<'a>(live: &'a Vec<Element>, shown: &'a Vec<Element>, at: usize) -> Opt
 
 /// The stored index of a place.
 #[tactic(auto, using(crate::proofs::KeyPlaces::stored_index_is))]
-fn stored_index<'a>(
-    live: &'a Vec<Element>,
-    shown: &'a Vec<Element>,
-    at: usize,
-) -> &'a Option<Key>
+fn stored_index<'a>(live: &'a Vec<Element>, shown: &'a Vec<Element>, at: usize) -> &'a Option<Key>
     requires ordered { are_rising (ids_of live.now.items) ≡ true }
     requires within { at < length shown.now.items }
     ensures { slice_get (stored_keys live.now.items shown.now.items) at ≡ Some result.now }

@@ -19,7 +19,7 @@ loop-other-preserved c =
     let ids = c.args.self.now.list.items in
     let within : c.loop-other.other-index < length ids = omega (arith, c.loop-other-test.true, ap length c.deref-other-items.ensures.value) in
     let there : c.other-item.result ≡ get_or ids c.loop-other.other-index c.other-item.result =
-        c.other-item.is ∙ ap (λ (xs : List (List ℕ)). get_or xs c.loop-other.other-index c.other-item.result) c.deref-other-items.ensures.value in
+    c.other-item.is ∙ ap (λ (xs : List (List ℕ)). get_or xs c.loop-other.other-index c.other-item.result) c.deref-other-items.ensures.value in
     elim c.if-ne.branch [
       | then-ne+in_ok-add w ↦
           let off : bytes_eq c.args.id.now c.other-item.result ≡ false = off-from _ w.if-ne.ensures in

@@ -54,7 +54,7 @@ invariant_of-self-4 c =
     let d = (goal.at.invariant_of-self-4 c).After-reserve-3 in
     let a = (goal.at.invariant_of-self-4 c).After-replace in
     let shown_is = c.set_keys.ensures ∙ ap (rekeyed c.in-Some-2.rekeying.start c.in-Some-2.rekeying.keys)
-        (c.insert.ensures ∙ ap (λ es. insert es c.in-Some.place c.in-Some-3.coming.own) (c.put_all.ensures.items ∙ ap (all_put c.in-Some-3.coming.puts.items) c.reserve-2.ensures.items)) in
+    (c.insert.ensures ∙ ap (λ es. insert es c.in-Some.place c.in-Some-3.coming.own) (c.put_all.ensures.items ∙ ap (all_put c.in-Some-3.coming.puts.items) c.reserve-2.ensures.items)) in
     let none = element-gap c.self.inside.live.items c.args.e.now.id c.in-Err.at (gap d) in
     let new_rows = c.in_ok-rows.rows in
     record {
