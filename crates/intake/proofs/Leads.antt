@@ -1,72 +1,166 @@
 -- Texts, one after the other.
-use Rattle.std.proofs.Common.{◌≡◌, ℕ, ◌≤◌, List, [], ◌∷◌, ◌++◌, true, false, refl, sym, ap, subst, ◌∙◌, length, drop, arith, length-append, append-nil, append_assoc, subst₂, Option, None, Some}
+use Rattle.std.proofs.Common.{◌≡◌, ◌⊎◌, inl, inr, ℕ, ◌+◌, ◌<◌, ◌≤◌, List, [], ◌∷◌, ◌++◌, true, false, refl, sym, ap, subst, ◌∙◌, length, drop, arith, length-append, length-drop, append-nil, append_assoc, subst₂, Option, None, Some}
 use Rattle.std.specs.Prelude.{is_none}
-use Rattle.std.proofs.lemmas.Bool.{false≢true, both_ways, false_from_ne_true, and_parts}
-use Rattle.std.proofs.lemmas.List.{drop-append-le}
-use Rattle.std.proofs.lemmas.List.Folds.{list_all-append}
+use Rattle.std.specs.List.{prefix_len}
+use Rattle.std.proofs.lemmas.Bool.{false≢true, both_ways}
+use Rattle.std.proofs.lemmas.List.{drop-append-le, drop_all}
 use Rattle.scene_json.specs.Characters.{is_blank, is_space}
 use Rattle.scene_json.specs.Value.{Stands}
 use Rattle.scene_json.specs.Faults.{IsFirstFault}
-use Rattle.scene_json.specs.Feeding.{Feeding, IsAt}
+use Rattle.scene_json.specs.Feeding.{Feeding, IsAt, behind_space}
 use Rattle.scene_json.specs.declared.fault.JsonFault.{JsonFault}
+use Rattle.scene_json.specs.declared.fault.JsonFault.TheVariants.{Syntax}
+use Rattle.scene_json.proofs.Escapes.{prefix-run}
+use Rattle.scene_json.proofs.Feeds.{behind-blank, blank-behind}
 use Rattle.intake.specs.declared.reading.Stopped.{Stopped}
-use Rattle.intake.specs.declared.reading.Stopped.TheVariants.{Faulty, Refused}
-use Rattle.intake.specs.Texts.{TextsLead, IsLed, HasFaultBehind, HasRefusedBehind, StandsIn}
+use Rattle.intake.specs.declared.reading.Stopped.TheVariants.{Faulty, Refused, Extra}
+use Rattle.intake.specs.Texts.{Reading, TextsLead, HasReadTo, HasTexts, HasFaultBehind, HasRefusedBehind, HasExtraBehind, IsStopped, AreRead, IsLed, StandsIn}
+use Rattle.intake.proofs.Blanks.{blank-more, blank-both, stands-begun, blank-not, first-more}
 
 -- A value stands behind texts that lead up to it.
 pub TextsLead-more : (bytes rest next : List ℕ) (texts : List (List ℕ)) (text : List ℕ) → TextsLead bytes texts rest → Stands rest text next → TextsLead bytes (texts ++ text ∷ []) next
 TextsLead-more bytes rest next [] text lead stands = (next, subst (λ b. Stands b text next) (sym lead) stands, refl)
 TextsLead-more bytes rest next (first ∷ texts) text (middle, at, lead) stands = (middle, at, TextsLead-more middle rest next texts text lead stands)
 
--- what isn't white space alone isn't so with more behind it
-pub blank-more : (xs ys : List ℕ) → is_blank xs ≡ false → is_blank (xs ++ ys) ≡ false
-blank-more xs ys some = false_from_ne_true (is_blank (xs ++ ys)) (λ all. both_ways (is_blank xs) some (and_parts (is_blank xs) (is_blank ys) (sym (list_all-append is_space xs ys) ∙ all)).0)
+-- ---- where a feed stands behind texts
+module _ (stream left : List ℕ) (feed : Feeding) (reader : Reading) (l : IsLed stream left feed reader) where
+  -- what is left, whatever follows
+  pub parts_there : (more : List ℕ) → drop l.start (stream ++ more) ≡ drop l.start stream ++ more
+  parts_there more = drop-append-le l.start stream more l.at.within
 
--- ---- what a call of a feed says of texts that lead up to where it stands
-module _ {R : Type 0} (has_read : R → List (List ℕ) → Type 0) (stream left : List ℕ) (feed : Feeding) (old : R) (l : IsLed has_read stream left feed old) where
-  pub led_on : (after : List ℕ) (new : Feeding) → IsAt stream l.start after new → IsLed has_read stream after new old
-  led_on after new at = record { texts = l.texts; read = l.read; start = l.start; at = at; lead = l.lead }
+  pub read_to : (more : List ℕ) → HasReadTo (stream ++ more) reader l.texts l.start
+  read_to more = record {
+    read = l.read;
+    within = omega (arith, l.at.within, length-append stream more);
+    lead = subst (TextsLead (stream ++ more) l.texts) (sym (parts_there more)) (l.lead more);
+  }
+
+  -- nothing but white space was used behind the last text that is taken
+  pub skipped_there : reader.is_full ≡ true → is_blank l.at.stretch ≡ true
+  skipped_there full = behind-blank l.at.stretch (l.at.kept ∙ l.skipped full)
+
+  pub blank_there : reader.is_full ≡ true → is_blank left ≡ true → is_blank (drop l.start stream) ≡ true
+  blank_there full space = ap is_blank l.at.parts ∙ blank-both l.at.stretch left (skipped_there full) space
+
+  pub extra_there : reader.is_full ≡ true → prefix_len is_space left < length left → (more : List ℕ) → HasExtraBehind (stream ++ more) reader (feed.used + prefix_len is_space left)
+  extra_there full less more =
+      let stretch = l.at.stretch in
+      let parts : drop l.start (stream ++ more) ≡ stretch ++ (left ++ more) = parts_there more ∙ ap (λ x. x ++ more) l.at.parts ∙ append_assoc stretch left more in
+      let width : l.start + (length stretch + length left) ≡ length stream = omega (arith, l.at.within, length-drop l.start stream, ap length l.at.parts, length-append stretch left) in
+      let first : prefix_len is_space (drop l.start (stream ++ more)) ≡ length stretch + prefix_len is_space left =
+      ap (prefix_len is_space) parts ∙ prefix-run is_space stretch (left ++ more) (skipped_there full) ∙ ap (λ n. length stretch + n) (first-more left more less) in
+      record {
+        texts = l.texts;
+        start = l.start;
+        behind = read_to more;
+        full = full;
+        begun = blank-not (drop l.start (stream ++ more)) (omega (arith, first, less, ap length parts, length-append stretch (left ++ more), length-append left more));
+        is_first = omega (arith, first, width, l.at.counted);
+        more = omega (arith, less, width, l.at.counted, length-append stream more);
+      }
+
+  pub faulty_there : reader.is_full ≡ false → (fault : JsonFault) → (is_blank (drop l.start stream) ≡ false) × ((more : List ℕ) → IsFirstFault (stream ++ more) l.start fault)
+      → (more : List ℕ) → HasFaultBehind (stream ++ more) reader fault
+  faulty_there takes fault found more = record {
+    texts = l.texts;
+    start = l.start;
+    behind = read_to more;
+    takes = takes;
+    begun = inr (ap is_blank (parts_there more) ∙ blank-more (drop l.start stream) more found.0);
+    faulty = found.1 more;
+  }
+
+  -- ---- what a call of a feed leaves
+  pub led_on : (after : List ℕ) (new : Feeding) → IsAt stream l.start after new → (reader.is_full ≡ true → new.rest ≡ []) → IsLed stream after new reader
+  led_on after new at skipped = record { texts = l.texts; read = l.read; start = l.start; at = at; lead = l.lead; skipped = skipped }
 
   abbrev pub HasEnded : List ℕ → Feeding → List ℕ → Type 0
   HasEnded after new text =
       (next : ℕ) × IsAt stream next after new × ((more : List ℕ) → Stands (drop l.start stream ++ more) text (drop next stream ++ more))
 
-  pub led_text : (after : List ℕ) (new : Feeding) (text : List ℕ) (now : R) → HasEnded after new text → has_read now (l.texts ++ text ∷ []) → IsLed has_read stream after new now
-  led_text after new text now found read = record {
+  pub led_text : (after : List ℕ) (new : Feeding) (text : List ℕ) (now : Reading) → HasEnded after new text → now.has_read (l.texts ++ text ∷ []) → new.rest ≡ [] → IsLed stream after new now
+  led_text after new text now found read emptied = record {
     texts = l.texts ++ text ∷ [];
     read = read;
     start = found.0;
     at = found.1;
     lead = λ more. TextsLead-more (stream ++ more) (drop l.start stream ++ more) (drop found.0 stream ++ more) l.texts text (l.lead more) (found.2 more);
+    skipped = λ full. emptied;
   }
 
-  pub refused_there : (refuses : R → List (List ℕ) → List ℕ → Type 0) (after : List ℕ) (new : Feeding) (text : List ℕ) (now : R) → HasEnded after new text → refuses now l.texts text
-      → (more : List ℕ) → HasRefusedBehind refuses (stream ++ more) now
-  refused_there refuses after new text now found refused more = record {
-    texts = l.texts;
-    text = text;
-    refused = refused;
-    rest = drop found.0 stream ++ more;
-    lead = TextsLead-more (stream ++ more) (drop l.start stream ++ more) (drop found.0 stream ++ more) l.texts text (l.lead more) (found.2 more);
-  }
-
-  pub faulty_there : (fault : JsonFault) → (is_blank (drop l.start stream) ≡ false) × ((more : List ℕ) → IsFirstFault (stream ++ more) l.start fault)
-      → (more : List ℕ) → HasFaultBehind has_read (stream ++ more) old fault
-  faulty_there fault found more =
-      let parts : drop l.start (stream ++ more) ≡ drop l.start stream ++ more = drop-append-le l.start stream more l.at.within in
+  pub refused_there : (text : List ℕ) (now : Reading) (rest more : List ℕ) → Stands (drop l.start stream ++ more) text rest → now.refuses l.texts text → HasRefusedBehind (stream ++ more) now
+  refused_there text now rest more found refused =
+      let stands : Stands (drop l.start (stream ++ more)) text rest = subst (λ b. Stands b text rest) (sym (parts_there more)) found in
       record {
         texts = l.texts;
-        read = l.read;
         start = l.start;
-        within = omega (arith, l.at.within, length-append stream more);
-        lead = subst (TextsLead (stream ++ more) l.texts) (sym parts) (l.lead more);
-        more = ap is_blank parts ∙ blank-more (drop l.start stream) more found.0;
-        faulty = found.1 more;
+        within = (read_to more).within;
+        lead = (read_to more).lead;
+        text = text;
+        rest = rest;
+        stands = stands;
+        begun = stands-begun (drop l.start (stream ++ more)) text rest stands;
+        refused = refused;
+      }
+
+-- ---- where white space alone is used behind the last text that is taken
+module _ (stream piece : List ℕ) (feed : Feeding) (reader : Reading) (full : reader.is_full ≡ true) (space : is_blank piece ≡ true) (l : IsLed stream piece feed reader) where
+  nothing_stands : (text rest : List ℕ) → Stands (drop l.start stream ++ []) text rest → ⊥
+  nothing_stands text rest s =
+      both_ways (is_blank (drop l.start stream ++ [])) (stands-begun (drop l.start stream ++ []) text rest s)
+      (ap is_blank (append-nil (drop l.start stream)) ∙ blank_there stream piece feed reader l full space)
+
+  pub skipped_fault : {X : Type 0} → is_blank (drop l.start stream) ≡ false → X
+  skipped_fault begun = absurd (both_ways (is_blank (drop l.start stream)) begun (blank_there stream piece feed reader l full space))
+
+  pub skipped_on : (after : List ℕ) (new : Feeding) (value : Option (List ℕ))
+      → (value ≡ None → IsAt stream l.start after new) → (value ≡ None → new.rest ≡ behind_space (feed.rest ++ piece))
+      → ((text : List ℕ) → value ≡ Some text → (next : ℕ) × IsAt stream next after new × ((more : List ℕ) → Stands (drop l.start stream ++ more) text (drop next stream ++ more)))
+      → IsLed stream after new reader
+  skipped_on after new None going kept ended =
+      led_on stream piece feed reader l after new (going refl) (λ _.
+      kept refl ∙ ap (λ x. behind_space (x ++ piece)) (l.skipped full) ∙ blank-behind piece space)
+  skipped_on after new (Some text) going kept ended = let found = ended text refl in absurd (nothing_stands text _ (found.2 []))
+
+-- ---- at the end of the stream
+module _ (stream : List ℕ) (feed : Feeding) (reader : Reading) (l : IsLed stream [] feed reader) where
+  pub read_all_to : HasReadTo stream reader l.texts l.start
+  read_all_to = subst (λ bytes. HasReadTo bytes reader l.texts l.start) (append-nil stream) (read_to stream [] feed reader l [])
+
+  pub ended_full : reader.is_full ≡ true → reader.needs_text ≡ false → HasTexts stream reader
+  ended_full full enough = record { texts = l.texts; start = l.start; behind = read_all_to; space = blank_there stream [] feed reader l full refl; enough = enough }
+
+  pub ended_blank : is_blank (drop l.start stream) ≡ true → reader.needs_text ≡ false → HasTexts stream reader
+  ended_blank space enough = record { texts = l.texts; start = l.start; behind = read_all_to; space = space; enough = enough }
+
+  pub ended_missing : reader.is_full ≡ false → reader.needs_text ≡ true → (place : ℕ) → IsFirstFault stream l.start (Syntax place) → HasFaultBehind stream reader (Syntax place)
+  ended_missing takes needs place faulty =
+      record { texts = l.texts; start = l.start; behind = read_all_to; takes = takes; begun = inl needs; faulty = faulty }
+
+  pub ended_faulty : reader.is_full ≡ false → (fault : JsonFault) → (is_blank (drop l.start stream) ≡ false) × IsFirstFault stream l.start fault → HasFaultBehind stream reader fault
+  ended_faulty takes fault found =
+      record { texts = l.texts; start = l.start; behind = read_all_to; takes = takes; begun = inr found.0; faulty = found.1 }
+
+  pub ended_refused : (text : List ℕ) (now : Reading) → Stands (drop l.start stream) text [] → now.refuses l.texts text → HasRefusedBehind stream now
+  ended_refused text now found refused =
+      subst (λ bytes. HasRefusedBehind bytes now) (append-nil stream)
+      (refused_there stream [] feed reader l text now [] [] (subst (λ b. Stands b text []) (sym (append-nil (drop l.start stream))) found) refused)
+
+  pub ended_text : (text : List ℕ) (now : Reading) → Stands (drop l.start stream) text [] → now.has_read (l.texts ++ text ∷ []) → now.needs_text ≡ false → HasTexts stream now
+  ended_text text now found read enough =
+      let none : drop (length stream) stream ≡ [] = drop_all (length stream) stream (omega arith) in
+      let lead : TextsLead stream (l.texts ++ text ∷ []) [] = TextsLead-more stream (drop l.start stream) [] l.texts text read_all_to.lead found in
+      record {
+        texts = l.texts ++ text ∷ [];
+        start = length stream;
+        behind = record { read = read; within = omega arith; lead = subst (TextsLead stream (l.texts ++ text ∷ [])) (sym none) lead };
+        space = ap is_blank none;
+        enough = enough;
       }
 
 -- ---- a stream that goes on
-module _ {R : Type 0} (has_read : R → List (List ℕ) → Type 0) (refuses : R → List (List ℕ) → List ℕ → Type 0) (stream piece : List ℕ) (feed : Feeding) (reader : R) where
-  pub stands_more : (stop : Option Stopped) → StandsIn has_read refuses stream [] feed reader stop → StandsIn has_read refuses (stream ++ piece) piece feed reader stop
+module _ (stream piece : List ℕ) (feed : Feeding) (reader : Reading) where
+  pub stands_more : (stop : Option Stopped) → StandsIn stream [] feed reader stop → StandsIn (stream ++ piece) piece feed reader stop
   stands_more None l =
       let at = l.at in
       let parts : drop l.start (stream ++ piece) ≡ drop l.start stream ++ piece = drop-append-le l.start stream piece at.within in
@@ -84,19 +178,18 @@ module _ {R : Type 0} (has_read : R → List (List ℕ) → Type 0) (refuses : R
         };
         lead = λ more. subst₂ (λ x y. TextsLead x l.texts y) (sym (append_assoc stream piece more))
             (sym (ap (λ x. x ++ more) parts ∙ append_assoc (drop l.start stream) piece more)) (l.lead (piece ++ more));
+        skipped = l.skipped;
       }
-  stands_more (Some (Faulty fault)) h = λ more. subst (λ x. HasFaultBehind has_read x reader fault) (sym (append_assoc stream piece more)) (h (piece ++ more))
-  stands_more (Some Refused) h = λ more. subst (λ x. HasRefusedBehind refuses x reader) (sym (append_assoc stream piece more)) (h (piece ++ more))
+  stands_more (Some why) h = λ more. subst (λ x. IsStopped x reader why) (sym (append_assoc stream piece more)) (h (piece ++ more))
 
-  pub used_so_far : (stop : Option Stopped) → StandsIn has_read refuses stream [] feed reader stop → stop ≡ None → feed.used ≡ length stream
+  pub used_so_far : (stop : Option Stopped) → StandsIn stream [] feed reader stop → stop ≡ None → feed.used ≡ length stream
   used_so_far None l e = omega (arith, l.at.counted)
   used_so_far (Some s) h e = cc
 
   -- what stopped it stands, whatever is left
-  pub stands_stopped : (left : List ℕ) (stop : Option Stopped) → is_none stop ≡ false → StandsIn has_read refuses stream left feed reader stop → StandsIn has_read refuses stream [] feed reader stop
+  pub stands_stopped : (left : List ℕ) (stop : Option Stopped) → is_none stop ≡ false → StandsIn stream left feed reader stop → StandsIn stream [] feed reader stop
   stands_stopped left None e h = absurd (false≢true (sym e))
-  stands_stopped left (Some (Faulty fault)) e h = h
-  stands_stopped left (Some Refused) e h = h
+  stands_stopped left (Some why) e h = h
 
 pub none_of : (stop : Option Stopped) → is_none stop ≡ true → stop ≡ None
 none_of None e = refl

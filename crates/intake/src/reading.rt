@@ -1,25 +1,33 @@
 //! Texts that are handed on, one after the other.
 
-ghost use Rattle.std.specs.Prelude.{◌≡◌, ℕ, OnOk, ◌+◌, ◌-◌, ◌*◌, ◌^◌, ◌<◌, ◌≤◌, List, [], ◌∷◌, ◌++◌, Ok, min, length, drop, true, false};
-ghost use Rattle.scene_json.specs.declared.fault.JsonFault.{JsonFault};
-ghost use Rattle.intake.specs.Texts.{IsLed, HasFaultBehind, HasRefusedBehind, StandsIn};
+ghost use Rattle.std.specs.Prelude.{◌≡◌, ℕ, OnOk, IfOk, ◌+◌, ◌-◌, ◌*◌, ◌^◌, ◌<◌, ◌≤◌, List, [], ◌∷◌, ◌++◌, Ok, min, length, drop, true, false};
+ghost use Rattle.intake.specs.Texts.{Reading, IsLed, IsStopped, StandsIn, AreRead};
+ghost use Rattle.intake.specs.declared.reading.Stopped.{Stopped};
 
 use board_io::Stop;
-use scene_json::{Fed, Feed, JsonFault, Raw};
+use scene_json::{Fed, Feed, JsonFault, Raw, skip_space};
 use std::alloc::{AllocError, Global};
 
 /// What is made of texts, one after the other.
 pub trait Reader {
-    // It has read these compact texts, and refused none of them.
-    ghost has_read: { Self → List (List ℕ) → Type 0 };
+    // Which texts it has read and which it refuses, whether it takes no further one, and whether it must have one.
+    ghost seen: { Self → Reading };
 
-    // Behind these texts, which it has read, it refuses this one.
-    ghost refuses: { Self → List (List ℕ) → List ℕ → Type 0 };
+    /// Whether it takes no further text.
+    fn is_full(&self) -> bool
+        ensures full { result ≡ (seen self.now).is_full }
+        ensures enough { result ≡ true → (seen self.now).needs_text ≡ false };
+
+    /// Whether it must have a further text.
+    fn needs_text(&self) -> bool
+        ensures { result ≡ (seen self.now).needs_text };
 
     /// Reads the next text, or refuses it, and says whether it was read. Behind a text that it refuses it gets none.
     fn read(&mut self, alloc: Global, text: &Raw) -> Result<bool, AllocError>
-        ensures read { result ≡ Ok true → (texts : List (List ℕ)) → has_read self.old texts → has_read self.new (texts ++ text.now ∷ []) }
-        ensures refused { result ≡ Ok false → (texts : List (List ℕ)) → has_read self.old texts → refuses self.new texts text.now };
+        requires { (seen self.old).is_full ≡ false }
+        ensures read { result ≡ Ok true → (texts : List (List ℕ)) → (seen self.old).has_read texts → (seen self.new).has_read (texts ++ text.now ∷ []) }
+        ensures enough { result ≡ Ok true → (seen self.new).needs_text ≡ false }
+        ensures refused { result ≡ Ok false → (texts : List (List ℕ)) → (seen self.old).has_read texts → (seen self.new).refuses texts text.now };
 }
 
 /// Why no further text is handed on.
@@ -29,16 +37,16 @@ pub enum Stopped {
     Faulty(JsonFault),
     /// The reader refuses a text.
     Refused,
+    /// The reader takes no further text, and behind white space a byte stands at this place of the input.
+    Extra(usize),
 }
 
 /// What came of a piece.
 pub(crate) enum Next {
     /// So many bytes were used.
     On(usize),
-    /// The next text has this fault.
-    Faulty(JsonFault),
-    /// The reader refuses a text.
-    Refused,
+    /// No further text is handed on.
+    Stopped(Stopped),
 }
 
 /// Reads on to the end of a text or of the piece.
@@ -55,15 +63,16 @@ pub(crate) fn next_text<R: Reader>(
         → 2 * (length piece.now - used) + min 1 (length feed.new.rest) < 2 * length piece.now + min 1 (length feed.old.rest) }
     ensures counted { (used : ℕ) → result ≡ Ok (Next.On used) → feed.new.used ≡ feed.old.used + used }
     ensures led { (used : ℕ) → result ≡ Ok (Next.On used) → (stream : List ℕ)
-        → IsLed R.has_read stream piece.now feed.old reader.old → IsLed R.has_read stream (drop used piece.now) feed.new reader.new }
-    ensures faulty { (fault : JsonFault) → result ≡ Ok (Next.Faulty fault) → (stream : List ℕ)
-        → IsLed R.has_read stream piece.now feed.old reader.old → (more : List ℕ) → HasFaultBehind R.has_read (stream ++ more) reader.new fault }
-    ensures refused { result ≡ Ok Next.Refused → (stream : List ℕ)
-        → IsLed R.has_read stream piece.now feed.old reader.old → (more : List ℕ) → HasRefusedBehind R.refuses (stream ++ more) reader.new }
+        → IsLed stream piece.now feed.old (R.seen reader.old) → IsLed stream (drop used piece.now) feed.new (R.seen reader.new) }
+    ensures stopped { (why : Stopped) → result ≡ Ok (Next.Stopped why) → (stream : List ℕ)
+        → IsLed stream piece.now feed.old (R.seen reader.old) → (more : List ℕ) → IsStopped (stream ++ more) (R.seen reader.new) why }
 {
+    if reader.is_full() {
+        return skip_piece::<R>(feed, piece);
+    }
     let Fed { used, value } = match feed.feed(piece) {
         Ok(fed) => fed,
-        Err(Stop::Fault(fault)) => return Ok(Next::Faulty(fault)),
+        Err(Stop::Fault(fault)) => return Ok(Next::Stopped(Stopped::Faulty(fault))),
         Err(Stop::Memory) => return Err(AllocError),
     };
     let Some(text) = value else {
@@ -72,8 +81,33 @@ pub(crate) fn next_text<R: Reader>(
     if reader.read(alloc, &text)? {
         Ok(Next::On(used))
     } else {
-        Ok(Next::Refused)
+        Ok(Next::Stopped(Stopped::Refused))
     }
+}
+
+/// Reads on behind the last text that is taken, where white space alone may stand.
+fn skip_piece<R: Reader>(feed: &mut Feed, piece: &[u8]) -> Result<Next, AllocError>
+    requires fits { feed.old.used + length piece.now < 2 ^ 64 }
+    requires some { 0 < length piece.now }
+    ensures within { (used : ℕ) → result ≡ Ok (Next.On used) → used ≤ length piece.now }
+    ensures less { (used : ℕ) → result ≡ Ok (Next.On used)
+        → 2 * (length piece.now - used) + min 1 (length feed.new.rest) < 2 * length piece.now + min 1 (length feed.old.rest) }
+    ensures counted { (used : ℕ) → result ≡ Ok (Next.On used) → feed.new.used ≡ feed.old.used + used }
+    ensures led { (used : ℕ) → result ≡ Ok (Next.On used) → (stream : List ℕ) (reader : R) → (R.seen reader).is_full ≡ true
+        → IsLed stream piece.now feed.old (R.seen reader) → IsLed stream (drop used piece.now) feed.new (R.seen reader) }
+    ensures stopped { (why : Stopped) → result ≡ Ok (Next.Stopped why) → (stream : List ℕ) (reader : R) → (R.seen reader).is_full ≡ true
+        → IsLed stream piece.now feed.old (R.seen reader) → (more : List ℕ) → IsStopped (stream ++ more) (R.seen reader) why }
+{
+    let at = skip_space(piece, 0);
+    if at < piece.len() {
+        return Ok(Next::Stopped(Stopped::Extra(feed.used() as usize + at)));
+    }
+    let fed = match feed.feed(piece) {
+        Ok(fed) => fed,
+        Err(Stop::Fault(fault)) => return Ok(Next::Stopped(Stopped::Faulty(fault))),
+        Err(Stop::Memory) => return Err(AllocError),
+    };
+    Ok(Next::On(fed.used))
 }
 
 /// Takes the next piece: hands each text on that ends in it, up to what stops it.
@@ -84,17 +118,60 @@ pub fn take_piece<R: Reader>(
     stop: &mut Option<Stopped>,
     piece: &[u8],
 ) -> Result<(), AllocError>
-    requires { (stream : List ℕ) × StandsIn R.has_read R.refuses stream [] feed.old reader.old stop.old × (length stream + length piece.now < 2 ^ 64) }
-    ensures { OnOk result ((stream : List ℕ) → StandsIn R.has_read R.refuses stream [] feed.old reader.old stop.old
-        → StandsIn R.has_read R.refuses (stream ++ piece.now) [] feed.new reader.new stop.new) }
+    requires { (stream : List ℕ) × StandsIn stream [] feed.old (R.seen reader.old) stop.old × (length stream + length piece.now < 2 ^ 64) }
+    ensures { OnOk result ((stream : List ℕ) → StandsIn stream [] feed.old (R.seen reader.old) stop.old
+        → StandsIn (stream ++ piece.now) [] feed.new (R.seen reader.new) stop.new) }
 {
     let mut at = 0;
     'texts: while stop.is_none() && at < piece.len() {
         match next_text(alloc, feed, reader, &piece[at..])? {
             Next::On(used) => at += used,
-            Next::Faulty(fault) => *stop = Some(Stopped::Faulty(fault)),
-            Next::Refused => *stop = Some(Stopped::Refused),
+            Next::Stopped(why) => *stop = Some(why),
         }
     }
     Ok(())
+}
+
+/// Ends the input: its last text may be a number that only the end has ended.
+pub fn finish<R: Reader>(
+    alloc: Global,
+    feed: &mut Feed,
+    reader: &mut R,
+    stop: Option<Stopped>,
+) -> Result<Option<Stopped>, AllocError>
+    ensures { IfOk result (λ found. (stream : List ℕ) → StandsIn stream [] feed.old (R.seen reader.old) stop
+        → AreRead stream (R.seen reader.new) found) }
+{
+    if stop.is_some() || reader.is_full() {
+        return Ok(stop);
+    }
+    last_text(alloc, feed, reader)
+}
+
+/// Hands the last text on, if one is left.
+fn last_text<R: Reader>(
+    alloc: Global,
+    feed: &mut Feed,
+    reader: &mut R,
+) -> Result<Option<Stopped>, AllocError>
+    requires { (R.seen reader.old).is_full ≡ false }
+    ensures { IfOk result (λ found. (stream : List ℕ) → IsLed stream [] feed.old (R.seen reader.old)
+        → AreRead stream (R.seen reader.new) found) }
+{
+    let value = match feed.end() {
+        Ok(value) => value,
+        Err(Stop::Fault(fault)) => return Ok(Some(Stopped::Faulty(fault))),
+        Err(Stop::Memory) => return Err(AllocError),
+    };
+    let Some(text) = value else {
+        if reader.needs_text() {
+            return Ok(Some(Stopped::Faulty(JsonFault::Syntax(feed.used() as usize))));
+        }
+        return Ok(None);
+    };
+    if reader.read(alloc, &text)? {
+        Ok(None)
+    } else {
+        Ok(Some(Stopped::Refused))
+    }
 }

@@ -8,8 +8,8 @@ abbrev pub invariant-texts : goal.invariant-texts
 invariant-texts g l = record {
   within : l.at ≤ length l.piece;
   fits : l.stop ≡ None → l.feed.used + (length l.piece - l.at) < 2 ^ 64;
-  stands : (stream : List ℕ) → StandsIn g.R.Reader.has_read g.R.Reader.refuses stream [] l.fn.feed l.fn.reader l.fn.stop
-      → StandsIn g.R.Reader.has_read g.R.Reader.refuses (stream ++ l.piece) (drop l.at l.piece) l.feed l.reader l.stop;
+  stands : (stream : List ℕ) → StandsIn stream [] l.fn.feed (g.R.Reader.seen l.fn.reader) l.fn.stop
+      → StandsIn (stream ++ l.piece) (drop l.at l.piece) l.feed (g.R.Reader.seen l.reader) l.stop;
 }
 
 -- while nothing has stopped: the bytes that are left, each twice, and whether a value is under way
