@@ -1,6 +1,6 @@
 -- Texts, one after the other.
 use Rattle.std.proofs.Common.{◌≡◌, ◌⊎◌, inl, inr, ℕ, ◌+◌, ◌<◌, ◌≤◌, List, [], ◌∷◌, ◌++◌, true, false, refl, sym, ap, subst, ◌∙◌, length, drop, arith, length-append, length-drop, append-nil, append_assoc, subst₂, Option, None, Some}
-use Rattle.std.specs.Prelude.{is_none}
+use Rattle.std.specs.Prelude.{is_none, is_some}
 use Rattle.std.specs.List.{prefix_len}
 use Rattle.std.proofs.lemmas.Bool.{false≢true, both_ways}
 use Rattle.std.proofs.lemmas.List.{drop-append-le, drop_all}
@@ -190,6 +190,16 @@ module _ (stream piece : List ℕ) (feed : Feeding) (reader : Reading) where
   pub stands_stopped : (left : List ℕ) (stop : Option Stopped) → is_none stop ≡ false → StandsIn stream left feed reader stop → StandsIn stream [] feed reader stop
   stands_stopped left None e h = absurd (false≢true (sym e))
   stands_stopped left (Some why) e h = h
+
+-- what stopped it is the answer at the stream's end, and so is nothing where the reader is full
+pub stands_ended : (stream : List ℕ) (feed : Feeding) (reader : Reading) (stop : Option Stopped) → is_some stop ≡ true → StandsIn stream [] feed reader stop → AreRead stream reader stop
+stands_ended stream feed reader None e h = absurd (false≢true e)
+stands_ended stream feed reader (Some why) e h = subst (λ bytes. IsStopped bytes reader why) (append-nil stream) (h [])
+
+pub stands_full : (stream : List ℕ) (feed : Feeding) (reader : Reading) (stop : Option Stopped) → is_some stop ≡ false → reader.is_full ≡ true → reader.needs_text ≡ false
+    → StandsIn stream [] feed reader stop → HasTexts stream reader
+stands_full stream feed reader None e full enough l = ended_full stream feed reader l full enough
+stands_full stream feed reader (Some why) e full enough h = absurd (false≢true (sym e))
 
 pub none_of : (stop : Option Stopped) → is_none stop ≡ true → stop ≡ None
 none_of None e = refl

@@ -142,8 +142,11 @@ pub fn finish<R: Reader>(
     ensures { IfOk result (λ found. (stream : List ℕ) → StandsIn stream [] feed.old (R.seen reader.old) stop
         → AreRead stream (R.seen reader.new) found) }
 {
-    if stop.is_some() || reader.is_full() {
+    if stop.is_some() {
         return Ok(stop);
+    }
+    if reader.is_full() {
+        return Ok(None);
     }
     last_text(alloc, feed, reader)
 }

@@ -1,7 +1,8 @@
 use Rattle.std.proofs.Common.{◌≡◌, ℕ, ◌+◌, ◌<◌, List, ◌++◌, drop, length, Err, Ok, refl, sym, ap, subst, ◌∙◌, arith}
+use Rattle.std.proofs.lemmas.List.{drop_all}
 use Rattle.std.specs.List.{prefix_len}
 use Rattle.scene_json.specs.Characters.{is_space, is_blank}
-use Rattle.intake.specs.declared.reading.Stopped.{Stopped}
+use Rattle.scene_json.specs.Feeding.{IsAt}
 use Rattle.intake.specs.declared.reading.Stopped.TheVariants as stopped
 use Rattle.intake.specs.Texts.{IsLed, IsStopped}
 use Rattle.intake.proofs.Blanks.{blank-all}
@@ -28,6 +29,7 @@ returns-clause-led g c used is stream reader full l =
     let same : c.in-Ok.fed.used ≡ used = cc in
     subst (λ (n : ℕ). IsLed stream (drop n c.args.piece.now) c.feed.new.self (g.R.Reader.seen reader)) same
     (skipped_on stream c.args.piece.now c.args.feed.now (g.R.Reader.seen reader) full space l (drop c.in-Ok.fed.used c.args.piece.now) c.feed.new.self c.in-Ok.fed.value
-    ?
+    (λ none. subst (λ (left : List ℕ). IsAt stream l.start left c.feed.new.self)
+    (sym (drop_all c.in-Ok.fed.used c.args.piece.now (omega (arith, c.in-Ok.ensures.all_used none)))) (c.in-Ok.ensures.going none stream l.start l.at))
     (λ none. ap (λ f. f.rest) (c.in-Ok.ensures.kept none))
     (λ text some. c.in-Ok.ensures.value text some stream l.start l.at))
