@@ -1,8 +1,8 @@
 -- White space, and what is left behind it.
-use Rattle.std.proofs.Common.{◌≡◌, ◌≢◌, ◌⊎◌, inl, inr, ℕ, ◌+◌, ◌<◌, ◌≤◌, List, [], ◌∷◌, ◌++◌, true, false, eqb, cond, refl, sym, ap, subst, ◌∙◌, length, drop, arith, length-drop, length-append}
+use Rattle.std.proofs.Common.{◌≡◌, inl, inr, ℕ, ◌+◌, ◌<◌, ◌≤◌, List, [], ◌∷◌, ◌++◌, true, false, refl, sym, ap, ◌∙◌, length, arith}
 use Rattle.std.specs.List.{prefix_len}
 use Rattle.std.proofs.lemmas.Bool.{both_ways, false_from_ne_true, and_parts, cases_Bool}
-use Rattle.std.proofs.lemmas.List.Folds.{list_all-append, prefix_len-append}
+use Rattle.std.proofs.lemmas.List.Folds.{list_all-append}
 use Rattle.scene_json.specs.Characters.{is_blank, is_space}
 use Rattle.scene_json.specs.Value.{Stands}
 use Rattle.scene_json.proofs.Reading.{tree-Head, begins-no-space}

@@ -1,5 +1,5 @@
 -- Texts, one after the other.
-use Rattle.std.proofs.Common.{◌≡◌, ◌⊎◌, inl, inr, ℕ, ◌+◌, ◌<◌, ◌≤◌, List, [], ◌∷◌, ◌++◌, true, false, refl, sym, ap, subst, ◌∙◌, length, drop, arith, length-append, length-drop, append-nil, append_assoc, subst₂, Option, None, Some}
+use Rattle.std.proofs.Common.{◌≡◌, inl, inr, ℕ, ◌+◌, ◌<◌, List, [], ◌∷◌, ◌++◌, true, false, refl, sym, ap, subst, ◌∙◌, length, drop, arith, length-append, length-drop, append-nil, append_assoc, subst₂, Option, None, Some}
 use Rattle.std.specs.Prelude.{is_none, is_some}
 use Rattle.std.specs.List.{prefix_len}
 use Rattle.std.proofs.lemmas.Bool.{false≢true, both_ways}
@@ -13,7 +13,6 @@ use Rattle.scene_json.specs.declared.fault.JsonFault.TheVariants.{Syntax}
 use Rattle.scene_json.proofs.Escapes.{prefix-run}
 use Rattle.scene_json.proofs.Feeds.{behind-blank, blank-behind}
 use Rattle.intake.specs.declared.reading.Stopped.{Stopped}
-use Rattle.intake.specs.declared.reading.Stopped.TheVariants.{Faulty, Refused, Extra}
 use Rattle.intake.specs.Texts.{Reading, TextsLead, HasReadTo, HasTexts, HasFaultBehind, HasRefusedBehind, HasExtraBehind, IsStopped, AreRead, IsLed, StandsIn}
 use Rattle.intake.proofs.Blanks.{blank-more, blank-both, stands-begun, blank-not, first-more}
 

@@ -1,5 +1,5 @@
 -- A stream that a source gives, piece by piece.
-use Rattle.std.proofs.Common.{◌≡◌, ℕ, ◌+◌, ◌≤◌, List, [], ◌++◌, Option, None, Some, refl, ap, ◌∙◌, length, take, arith, length-append, length-take}
+use Rattle.std.proofs.Common.{◌≡◌, ℕ, ◌+◌, ◌≤◌, List, [], ◌++◌, Option, None, Some, refl, length, take, arith, length-append, length-take}
 use Rattle.std.specs.Option.{option_map}
 use Rattle.board_io.specs.Ends.{SourceEnd, Gave}
 use Rattle.board_io.proofs.Moved.{Gave-more}

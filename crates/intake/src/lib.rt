@@ -5,4 +5,4 @@ mod input;
 mod reading;
 
 pub use input::read_texts;
-pub use reading::{Reader, Stopped, finish, take_piece};
+pub use reading::{Reader, Stopped};

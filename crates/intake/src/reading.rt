@@ -42,7 +42,7 @@ pub enum Stopped {
 }
 
 /// What came of a piece.
-pub(crate) enum Next {
+enum Next {
     /// So many bytes were used.
     On(usize),
     /// No further text is handed on.
@@ -50,7 +50,7 @@ pub(crate) enum Next {
 }
 
 /// Reads on to the end of a text or of the piece.
-pub(crate) fn next_text<R: Reader>(
+fn next_text<R: Reader>(
     alloc: Global,
     feed: &mut Feed,
     reader: &mut R,
@@ -111,7 +111,7 @@ fn skip_piece<R: Reader>(feed: &mut Feed, piece: &[u8]) -> Result<Next, AllocErr
 }
 
 /// Takes the next piece: hands each text on that ends in it, up to what stops it.
-pub fn take_piece<R: Reader>(
+pub(crate) fn take_piece<R: Reader>(
     alloc: Global,
     feed: &mut Feed,
     reader: &mut R,
@@ -133,7 +133,7 @@ pub fn take_piece<R: Reader>(
 }
 
 /// Ends the input: its last text may be a number that only the end has ended.
-pub fn finish<R: Reader>(
+pub(crate) fn finish<R: Reader>(
     alloc: Global,
     feed: &mut Feed,
     reader: &mut R,

@@ -1,4 +1,4 @@
-use Rattle.std.proofs.Common.{◌≡◌, ℕ, List, ◌++◌, drop, Err, Ok, ap, subst, ◌∙◌}
+use Rattle.std.proofs.Common.{◌≡◌, ℕ, ◌++◌, drop, Err, Ok, ap, subst, ◌∙◌}
 use Rattle.intake.specs.declared.reading.Stopped.TheVariants as stopped
 use Rattle.intake.specs.Texts.{IsLed, IsStopped}
 use Rattle.intake.proofs.Leads.{led_text, refused_there, faulty_there}
