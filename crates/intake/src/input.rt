@@ -41,7 +41,14 @@ pub fn read_texts<S: Source, R: Reader>(
     let mut used = 0;
     'pieces: while used <= limit {
         let wanted = PIECE.min(limit + 1 - used);
-        let count = next_piece(alloc, source, &mut feed, reader, &mut stop, &mut piece[..wanted])?;
+        let count = next_piece(
+            alloc,
+            source,
+            &mut feed,
+            reader,
+            &mut stop,
+            &mut piece[..wanted],
+        )?;
         if count == 0 {
             return Ok(finish(alloc, &mut feed, reader, stop)?);
         }
