@@ -22,7 +22,7 @@ TextsLead-more bytes rest next [] text lead stands = (next, subst (λ b. Stands 
 TextsLead-more bytes rest next (first ∷ texts) text (middle, at, lead) stands = (middle, at, TextsLead-more middle rest next texts text lead stands)
 
 -- ---- where a feed stands behind texts
-module _ (stream left : List ℕ) (feed : Feeding) (reader : Reading) (l : IsLed stream left feed reader) where
+module _ {F : Type 0} (stream left : List ℕ) (feed : Feeding) (reader : Reading F) (l : IsLed stream left feed reader) where
   -- what is left, whatever follows
   pub parts_there : (more : List ℕ) → drop l.start (stream ++ more) ≡ drop l.start stream ++ more
   parts_there more = drop-append-le l.start stream more l.at.within
@@ -77,7 +77,7 @@ module _ (stream left : List ℕ) (feed : Feeding) (reader : Reading) (l : IsLed
   HasEnded after new text =
       (next : ℕ) × IsAt stream next after new × ((more : List ℕ) → Stands (drop l.start stream ++ more) text (drop next stream ++ more))
 
-  pub led_text : (after : List ℕ) (new : Feeding) (text : List ℕ) (now : Reading) → HasEnded after new text → now.has_read (l.texts ++ text ∷ []) → new.rest ≡ [] → IsLed stream after new now
+  pub led_text : (after : List ℕ) (new : Feeding) (text : List ℕ) (now : Reading F) → HasEnded after new text → now.has_read (l.texts ++ text ∷ []) → new.rest ≡ [] → IsLed stream after new now
   led_text after new text now found read emptied = record {
     texts = l.texts ++ text ∷ [];
     read = read;
@@ -87,8 +87,8 @@ module _ (stream left : List ℕ) (feed : Feeding) (reader : Reading) (l : IsLed
     skipped = λ full. emptied;
   }
 
-  pub refused_there : (text : List ℕ) (now : Reading) (rest more : List ℕ) → Stands (drop l.start stream ++ more) text rest → now.refuses l.texts text → HasRefusedBehind (stream ++ more) now
-  refused_there text now rest more found refused =
+  pub refused_there : (text : List ℕ) (now : Reading F) (fault : F) (rest more : List ℕ) → Stands (drop l.start stream ++ more) text rest → now.refuses l.texts text fault → HasRefusedBehind (stream ++ more) now fault
+  refused_there text now fault rest more found refused =
       let stands : Stands (drop l.start (stream ++ more)) text rest = subst (λ b. Stands b text rest) (sym (parts_there more)) found in
       record {
         texts = l.texts;
@@ -103,7 +103,7 @@ module _ (stream left : List ℕ) (feed : Feeding) (reader : Reading) (l : IsLed
       }
 
 -- ---- where white space alone is used behind the last text that is taken
-module _ (stream piece : List ℕ) (feed : Feeding) (reader : Reading) (full : reader.is_full ≡ true) (space : is_blank piece ≡ true) (l : IsLed stream piece feed reader) where
+module _ {F : Type 0} (stream piece : List ℕ) (feed : Feeding) (reader : Reading F) (full : reader.is_full ≡ true) (space : is_blank piece ≡ true) (l : IsLed stream piece feed reader) where
   nothing_stands : (text rest : List ℕ) → Stands (drop l.start stream ++ []) text rest → ⊥
   nothing_stands text rest s =
       both_ways (is_blank (drop l.start stream ++ [])) (stands-begun (drop l.start stream ++ []) text rest s)
@@ -113,16 +113,16 @@ module _ (stream piece : List ℕ) (feed : Feeding) (reader : Reading) (full : r
   skipped_fault begun = absurd (both_ways (is_blank (drop l.start stream)) begun (blank_there stream piece feed reader l full space))
 
   pub skipped_on : (after : List ℕ) (new : Feeding) (value : Option (List ℕ))
-      → (value ≡ None → IsAt stream l.start after new) → (value ≡ None → new.rest ≡ behind_space (feed.rest ++ piece))
+      → (value ≡ None → IsAt stream l.start after new) → (value ≡ None → new ≡ record { rest = behind_space (feed.rest ++ piece); used = feed.used + length piece; fault = None })
       → ((text : List ℕ) → value ≡ Some text → (next : ℕ) × IsAt stream next after new × ((more : List ℕ) → Stands (drop l.start stream ++ more) text (drop next stream ++ more)))
       → IsLed stream after new reader
   skipped_on after new None going kept ended =
       led_on stream piece feed reader l after new (going refl) (λ _.
-      kept refl ∙ ap (λ x. behind_space (x ++ piece)) (l.skipped full) ∙ blank-behind piece space)
+      ap (λ (f : Feeding). f.rest) (kept refl) ∙ ap (λ x. behind_space (x ++ piece)) (l.skipped full) ∙ blank-behind piece space)
   skipped_on after new (Some text) going kept ended = let found = ended text refl in absurd (nothing_stands text _ (found.2 []))
 
 -- ---- at the end of the stream
-module _ (stream : List ℕ) (feed : Feeding) (reader : Reading) (l : IsLed stream [] feed reader) where
+module _ {F : Type 0} (stream : List ℕ) (feed : Feeding) (reader : Reading F) (l : IsLed stream [] feed reader) where
   pub read_all_to : HasReadTo stream reader l.texts l.start
   read_all_to = subst (λ bytes. HasReadTo bytes reader l.texts l.start) (append-nil stream) (read_to stream [] feed reader l [])
 
@@ -140,12 +140,12 @@ module _ (stream : List ℕ) (feed : Feeding) (reader : Reading) (l : IsLed stre
   ended_faulty takes fault found =
       record { texts = l.texts; start = l.start; behind = read_all_to; takes = takes; begun = inr found.0; faulty = found.1 }
 
-  pub ended_refused : (text : List ℕ) (now : Reading) → Stands (drop l.start stream) text [] → now.refuses l.texts text → HasRefusedBehind stream now
-  ended_refused text now found refused =
-      subst (λ bytes. HasRefusedBehind bytes now) (append-nil stream)
-      (refused_there stream [] feed reader l text now [] [] (subst (λ b. Stands b text []) (sym (append-nil (drop l.start stream))) found) refused)
+  pub ended_refused : (text : List ℕ) (now : Reading F) (fault : F) → Stands (drop l.start stream) text [] → now.refuses l.texts text fault → HasRefusedBehind stream now fault
+  ended_refused text now fault found refused =
+      subst (λ bytes. HasRefusedBehind bytes now fault) (append-nil stream)
+      (refused_there stream [] feed reader l text now fault [] [] (subst (λ b. Stands b text []) (sym (append-nil (drop l.start stream))) found) refused)
 
-  pub ended_text : (text : List ℕ) (now : Reading) → Stands (drop l.start stream) text [] → now.has_read (l.texts ++ text ∷ []) → now.needs_text ≡ false → HasTexts stream now
+  pub ended_text : (text : List ℕ) (now : Reading F) → Stands (drop l.start stream) text [] → now.has_read (l.texts ++ text ∷ []) → now.needs_text ≡ false → HasTexts stream now
   ended_text text now found read enough =
       let none : drop (length stream) stream ≡ [] = drop_all (length stream) stream (omega arith) in
       let lead : TextsLead stream (l.texts ++ text ∷ []) [] = TextsLead-more stream (drop l.start stream) [] l.texts text read_all_to.lead found in
@@ -158,8 +158,8 @@ module _ (stream : List ℕ) (feed : Feeding) (reader : Reading) (l : IsLed stre
       }
 
 -- ---- a stream that goes on
-module _ (stream piece : List ℕ) (feed : Feeding) (reader : Reading) where
-  pub stands_more : (stop : Option Stopped) → StandsIn stream [] feed reader stop → StandsIn (stream ++ piece) piece feed reader stop
+module _ {F : Type 0} (stream piece : List ℕ) (feed : Feeding) (reader : Reading F) where
+  pub stands_more : (stop : Option (Stopped F)) → StandsIn stream [] feed reader stop → StandsIn (stream ++ piece) piece feed reader stop
   stands_more None l =
       let at = l.at in
       let parts : drop l.start (stream ++ piece) ≡ drop l.start stream ++ piece = drop-append-le l.start stream piece at.within in
@@ -181,25 +181,25 @@ module _ (stream piece : List ℕ) (feed : Feeding) (reader : Reading) where
       }
   stands_more (Some why) h = λ more. subst (λ x. IsStopped x reader why) (sym (append_assoc stream piece more)) (h (piece ++ more))
 
-  pub used_so_far : (stop : Option Stopped) → StandsIn stream [] feed reader stop → stop ≡ None → feed.used ≡ length stream
+  pub used_so_far : (stop : Option (Stopped F)) → StandsIn stream [] feed reader stop → stop ≡ None → feed.used ≡ length stream
   used_so_far None l e = omega (arith, l.at.counted)
   used_so_far (Some s) h e = cc
 
   -- what stopped it stands, whatever is left
-  pub stands_stopped : (left : List ℕ) (stop : Option Stopped) → is_none stop ≡ false → StandsIn stream left feed reader stop → StandsIn stream [] feed reader stop
+  pub stands_stopped : (left : List ℕ) (stop : Option (Stopped F)) → is_none stop ≡ false → StandsIn stream left feed reader stop → StandsIn stream [] feed reader stop
   stands_stopped left None e h = absurd (false≢true (sym e))
   stands_stopped left (Some why) e h = h
 
 -- what stopped it is the answer at the stream's end, and so is nothing where the reader is full
-pub stands_ended : (stream : List ℕ) (feed : Feeding) (reader : Reading) (stop : Option Stopped) → is_some stop ≡ true → StandsIn stream [] feed reader stop → AreRead stream reader stop
+pub stands_ended : {F : Type 0} (stream : List ℕ) (feed : Feeding) (reader : Reading F) (stop : Option (Stopped F)) → is_some stop ≡ true → StandsIn stream [] feed reader stop → AreRead stream reader stop
 stands_ended stream feed reader None e h = absurd (false≢true e)
 stands_ended stream feed reader (Some why) e h = subst (λ bytes. IsStopped bytes reader why) (append-nil stream) (h [])
 
-pub stands_full : (stream : List ℕ) (feed : Feeding) (reader : Reading) (stop : Option Stopped) → is_some stop ≡ false → reader.is_full ≡ true → reader.needs_text ≡ false
+pub stands_full : {F : Type 0} (stream : List ℕ) (feed : Feeding) (reader : Reading F) (stop : Option (Stopped F)) → is_some stop ≡ false → reader.is_full ≡ true → reader.needs_text ≡ false
     → StandsIn stream [] feed reader stop → HasTexts stream reader
 stands_full stream feed reader None e full enough l = ended_full stream feed reader l full enough
 stands_full stream feed reader (Some why) e full enough h = absurd (false≢true (sym e))
 
-pub none_of : (stop : Option Stopped) → is_none stop ≡ true → stop ≡ None
+pub none_of : {F : Type 0} (stop : Option (Stopped F)) → is_none stop ≡ true → stop ≡ None
 none_of None e = refl
 none_of (Some s) e = absurd (false≢true e)

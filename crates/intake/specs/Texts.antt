@@ -10,10 +10,10 @@ use Rattle.intake.specs.declared.reading.Stopped.{Stopped}
 use Rattle.intake.specs.declared.reading.Stopped.TheVariants.{Faulty, Refused, Extra}
 
 -- What is seen of a reader of texts: which compact texts it has read, one after the other; which text it refuses behind
--- those; whether it takes no further text; and whether it must have one more.
-pub record Reading : Type 1 where
+-- those, and for which fault; whether it takes no further text; and whether it must have one more.
+pub record Reading (F : Type 0) : Type 1 where
   pub has_read : List (List ℕ) → Type 0
-  pub refuses : List (List ℕ) → List ℕ → Type 0
+  pub refuses : List (List ℕ) → List ℕ → F → Type 0
   pub is_full : Bool
   pub needs_text : Bool
 
@@ -23,13 +23,13 @@ TextsLead bytes [] rest = bytes ≡ rest
 TextsLead bytes (text ∷ texts) rest = (next : List ℕ) × Stands bytes text next × TextsLead next texts rest
 
 -- The texts that the reader has read lead up to this offset.
-pub record HasReadTo (bytes : List ℕ) (reader : Reading) (texts : List (List ℕ)) (start : ℕ) : Type 0 where
+pub record HasReadTo {F : Type 0} (bytes : List ℕ) (reader : Reading F) (texts : List (List ℕ)) (start : ℕ) : Type 0 where
   pub read : reader.has_read texts
   pub within : start ≤ length bytes
   pub lead : TextsLead bytes texts (drop start bytes)
 
 -- The reader has read all texts: behind them white space alone is left, and it needs no further one.
-pub record HasTexts (bytes : List ℕ) (reader : Reading) : Type 0 where
+pub record HasTexts {F : Type 0} (bytes : List ℕ) (reader : Reading F) : Type 0 where
   pub texts : List (List ℕ)
   pub start : ℕ
   pub behind : HasReadTo bytes reader texts start
@@ -38,7 +38,7 @@ pub record HasTexts (bytes : List ℕ) (reader : Reading) : Type 0 where
 
 -- Behind the texts that the reader has read it takes a further one, and no value stands there: this is the first fault. It
 -- needs the text, or more than white space is left.
-pub record HasFaultBehind (bytes : List ℕ) (reader : Reading) (fault : JsonFault) : Type 0 where
+pub record HasFaultBehind {F : Type 0} (bytes : List ℕ) (reader : Reading F) (fault : JsonFault) : Type 0 where
   pub texts : List (List ℕ)
   pub start : ℕ
   pub behind : HasReadTo bytes reader texts start
@@ -46,8 +46,8 @@ pub record HasFaultBehind (bytes : List ℕ) (reader : Reading) (fault : JsonFau
   pub begun : (reader.needs_text ≡ true) ⊎ (is_blank (drop start bytes) ≡ false)
   pub faulty : IsFirstFault bytes start fault
 
--- Behind texts that the reader has read one stands that it refuses.
-pub record HasRefusedBehind (bytes : List ℕ) (reader : Reading) : Type 0 where
+-- Behind texts that the reader has read one stands that it refuses for this fault.
+pub record HasRefusedBehind {F : Type 0} (bytes : List ℕ) (reader : Reading F) (fault : F) : Type 0 where
   pub texts : List (List ℕ)
   pub start : ℕ
   pub within : start ≤ length bytes
@@ -56,11 +56,11 @@ pub record HasRefusedBehind (bytes : List ℕ) (reader : Reading) : Type 0 where
   pub rest : List ℕ
   pub stands : Stands (drop start bytes) text rest
   pub begun : is_blank (drop start bytes) ≡ false
-  pub refused : reader.refuses texts text
+  pub refused : reader.refuses texts text fault
 
 -- Behind the texts that the reader has read it takes no further one, and more than white space is left: behind the white
 -- space a further byte stands at this place.
-pub record HasExtraBehind (bytes : List ℕ) (reader : Reading) (place : ℕ) : Type 0 where
+pub record HasExtraBehind {F : Type 0} (bytes : List ℕ) (reader : Reading F) (place : ℕ) : Type 0 where
   pub texts : List (List ℕ)
   pub start : ℕ
   pub behind : HasReadTo bytes reader texts start
@@ -70,19 +70,19 @@ pub record HasExtraBehind (bytes : List ℕ) (reader : Reading) (place : ℕ) : 
   pub more : place < length bytes
 
 -- why no further text is read
-abbrev pub IsStopped : List ℕ → Reading → Stopped → Type 0
+abbrev pub IsStopped : {F : Type 0} → List ℕ → Reading F → Stopped F → Type 0
 IsStopped bytes reader (Faulty fault) = HasFaultBehind bytes reader fault
-IsStopped bytes reader Refused = HasRefusedBehind bytes reader
+IsStopped bytes reader (Refused fault) = HasRefusedBehind bytes reader fault
 IsStopped bytes reader (Extra place) = HasExtraBehind bytes reader place
 
 -- The reader has read all texts of the input, or this is what stopped it first.
-abbrev pub AreRead : List ℕ → Reading → Option Stopped → Type 0
+abbrev pub AreRead : {F : Type 0} → List ℕ → Reading F → Option (Stopped F) → Type 0
 AreRead bytes reader None = HasTexts bytes reader
 AreRead bytes reader (Some stopped) = IsStopped bytes reader stopped
 
 -- The feed stands in the stream, of which so much is left, behind texts that lead up to there whatever follows; the reader
 -- has read these. Behind the last text that it takes nothing but white space was used.
-pub record IsLed (stream left : List ℕ) (feed : Feeding) (reader : Reading) : Type 0 where
+pub record IsLed {F : Type 0} (stream left : List ℕ) (feed : Feeding) (reader : Reading F) : Type 0 where
   pub texts : List (List ℕ)
   pub read : reader.has_read texts
   pub start : ℕ
@@ -91,6 +91,6 @@ pub record IsLed (stream left : List ℕ) (feed : Feeding) (reader : Reading) : 
   pub skipped : reader.is_full ≡ true → feed.rest ≡ []
 
 -- The texts of the stream so far, of which so much is left: the reader has read those that have ended; or what stopped it, whatever follows.
-abbrev pub StandsIn : List ℕ → List ℕ → Feeding → Reading → Option Stopped → Type 0
+abbrev pub StandsIn : {F : Type 0} → List ℕ → List ℕ → Feeding → Reading F → Option (Stopped F) → Type 0
 StandsIn stream left feed reader None = IsLed stream left feed reader
 StandsIn stream left feed reader (Some stopped) = (more : List ℕ) → IsStopped (stream ++ more) reader stopped

@@ -21,7 +21,7 @@ pub fn read_texts<S: Source, R: Reader>(
     source: &mut S,
     limit: usize,
     reader: &mut R,
-) -> Result<Option<Stopped>, Stop<ReadError>>
+) -> Result<Option<Stopped<R::Fault>>, Stop<ReadError>>
     requires within { limit < 4294967295 }
     requires unread { (R.seen reader.old).has_read [] }
     ensures read { IfOk result (λ stop. (bytes : List ℕ) × (length bytes ≤ limit) × Gave (S.seen source.old) (S.seen source.new) bytes
@@ -63,7 +63,7 @@ fn next_piece<S: Source, R: Reader>(
     source: &mut S,
     feed: &mut Feed,
     reader: &mut R,
-    stop: &mut Option<Stopped>,
+    stop: &mut Option<Stopped<R::Fault>>,
     piece: &mut [u8],
 ) -> Result<usize, Stop<ReadError>>
     requires { (stream : List ℕ) × StandsIn stream [] feed.old (R.seen reader.old) stop.old × (length stream + length piece.old < 2 ^ 64) }

@@ -1,6 +1,6 @@
 //! Texts that are handed on, one after the other.
 
-ghost use Rattle.std.specs.Prelude.{◌≡◌, ℕ, OnOk, IfOk, ◌+◌, ◌-◌, ◌*◌, ◌^◌, ◌<◌, ◌≤◌, List, [], ◌∷◌, ◌++◌, Ok, min, length, drop, true, false};
+ghost use Rattle.std.specs.Prelude.{◌≡◌, ℕ, OnOk, IfOk, ◌+◌, ◌-◌, ◌*◌, ◌^◌, ◌<◌, ◌≤◌, List, [], ◌∷◌, ◌++◌, Ok, Err, min, length, drop, true, false};
 ghost use Rattle.intake.specs.Texts.{Reading, IsLed, IsStopped, StandsIn, AreRead};
 ghost use Rattle.intake.specs.declared.reading.Stopped.{Stopped};
 
@@ -10,8 +10,11 @@ use std::alloc::{AllocError, Global};
 
 /// What is made of texts, one after the other.
 pub trait Reader {
+    /// Why it refuses a text.
+    type Fault: Drop;
+
     // Which texts it has read and which it refuses, whether it takes no further one, and whether it must have one.
-    ghost seen: { Self → Reading };
+    ghost seen: { Self → Reading Self.Fault };
 
     /// Whether it takes no further text.
     fn is_full(&self) -> bool
@@ -22,31 +25,32 @@ pub trait Reader {
     fn needs_text(&self) -> bool
         ensures { result ≡ (seen self.now).needs_text };
 
-    /// Reads the next text, or refuses it, and says whether it was read. Behind a text that it refuses it gets none.
-    fn read(&mut self, alloc: Global, text: &Raw) -> Result<bool, AllocError>
+    /// Reads the next text, or refuses it for its fault. Behind a text that it refuses it gets none.
+    fn read(&mut self, alloc: Global, text: &Raw) -> Result<(), Stop<Self::Fault>>
         requires { (seen self.old).is_full ≡ false }
-        ensures read { result ≡ Ok true → (texts : List (List ℕ)) → (seen self.old).has_read texts → (seen self.new).has_read (texts ++ text.now ∷ []) }
-        ensures enough { result ≡ Ok true → (seen self.new).needs_text ≡ false }
-        ensures refused { result ≡ Ok false → (texts : List (List ℕ)) → (seen self.old).has_read texts → (seen self.new).refuses texts text.now };
+        ensures read { OnOk result ((texts : List (List ℕ)) → (seen self.old).has_read texts → (seen self.new).has_read (texts ++ text.now ∷ [])) }
+        ensures enough { OnOk result ((seen self.new).needs_text ≡ false) }
+        ensures refused { (fault : Self.Fault) → result ≡ Err (Stop.Fault fault)
+            → (texts : List (List ℕ)) → (seen self.old).has_read texts → (seen self.new).refuses texts text.now fault };
 }
 
 /// Why no further text is handed on.
-#[derive(Clone, Copy)]
-pub enum Stopped {
+#[derive(Drop)]
+pub enum Stopped<F> {
     /// The next text has this fault.
     Faulty(JsonFault),
-    /// The reader refuses a text.
-    Refused,
+    /// The reader refuses a text for this fault.
+    Refused(F),
     /// The reader takes no further text, and behind white space a byte stands at this place of the input.
     Extra(usize),
 }
 
 /// What came of a piece.
-enum Next {
+enum Next<F> {
     /// So many bytes were used.
     On(usize),
     /// No further text is handed on.
-    Stopped(Stopped),
+    Stopped(Stopped<F>),
 }
 
 /// Reads on to the end of a text or of the piece.
@@ -55,7 +59,7 @@ fn next_text<R: Reader>(
     feed: &mut Feed,
     reader: &mut R,
     piece: &[u8],
-) -> Result<Next, AllocError>
+) -> Result<Next<R::Fault>, AllocError>
     requires fits { feed.old.used + length piece.now < 2 ^ 64 }
     requires some { 0 < length piece.now }
     ensures within { (used : ℕ) → result ≡ Ok (Next.On used) → used ≤ length piece.now }
@@ -64,7 +68,7 @@ fn next_text<R: Reader>(
     ensures counted { (used : ℕ) → result ≡ Ok (Next.On used) → feed.new.used ≡ feed.old.used + used }
     ensures led { (used : ℕ) → result ≡ Ok (Next.On used) → (stream : List ℕ)
         → IsLed stream piece.now feed.old (R.seen reader.old) → IsLed stream (drop used piece.now) feed.new (R.seen reader.new) }
-    ensures stopped { (why : Stopped) → result ≡ Ok (Next.Stopped why) → (stream : List ℕ)
+    ensures stopped { (why : Stopped R.Fault) → result ≡ Ok (Next.Stopped why) → (stream : List ℕ)
         → IsLed stream piece.now feed.old (R.seen reader.old) → (more : List ℕ) → IsStopped (stream ++ more) (R.seen reader.new) why }
 {
     if reader.is_full() {
@@ -78,15 +82,15 @@ fn next_text<R: Reader>(
     let Some(text) = value else {
         return Ok(Next::On(used));
     };
-    if reader.read(alloc, &text)? {
-        Ok(Next::On(used))
-    } else {
-        Ok(Next::Stopped(Stopped::Refused))
+    match reader.read(alloc, &text) {
+        Ok(()) => Ok(Next::On(used)),
+        Err(Stop::Fault(fault)) => Ok(Next::Stopped(Stopped::Refused(fault))),
+        Err(Stop::Memory) => Err(AllocError),
     }
 }
 
 /// Reads on behind the last text that is taken, where white space alone may stand.
-fn skip_piece<R: Reader>(feed: &mut Feed, piece: &[u8]) -> Result<Next, AllocError>
+fn skip_piece<R: Reader>(feed: &mut Feed, piece: &[u8]) -> Result<Next<R::Fault>, AllocError>
     requires fits { feed.old.used + length piece.now < 2 ^ 64 }
     requires some { 0 < length piece.now }
     ensures within { (used : ℕ) → result ≡ Ok (Next.On used) → used ≤ length piece.now }
@@ -95,7 +99,7 @@ fn skip_piece<R: Reader>(feed: &mut Feed, piece: &[u8]) -> Result<Next, AllocErr
     ensures counted { (used : ℕ) → result ≡ Ok (Next.On used) → feed.new.used ≡ feed.old.used + used }
     ensures led { (used : ℕ) → result ≡ Ok (Next.On used) → (stream : List ℕ) (reader : R) → (R.seen reader).is_full ≡ true
         → IsLed stream piece.now feed.old (R.seen reader) → IsLed stream (drop used piece.now) feed.new (R.seen reader) }
-    ensures stopped { (why : Stopped) → result ≡ Ok (Next.Stopped why) → (stream : List ℕ) (reader : R) → (R.seen reader).is_full ≡ true
+    ensures stopped { (why : Stopped R.Fault) → result ≡ Ok (Next.Stopped why) → (stream : List ℕ) (reader : R) → (R.seen reader).is_full ≡ true
         → IsLed stream piece.now feed.old (R.seen reader) → (more : List ℕ) → IsStopped (stream ++ more) (R.seen reader) why }
 {
     let at = skip_space(piece, 0);
@@ -115,7 +119,7 @@ pub(crate) fn take_piece<R: Reader>(
     alloc: Global,
     feed: &mut Feed,
     reader: &mut R,
-    stop: &mut Option<Stopped>,
+    stop: &mut Option<Stopped<R::Fault>>,
     piece: &[u8],
 ) -> Result<(), AllocError>
     requires { (stream : List ℕ) × StandsIn stream [] feed.old (R.seen reader.old) stop.old × (length stream + length piece.now < 2 ^ 64) }
@@ -137,8 +141,8 @@ pub(crate) fn finish<R: Reader>(
     alloc: Global,
     feed: &mut Feed,
     reader: &mut R,
-    stop: Option<Stopped>,
-) -> Result<Option<Stopped>, AllocError>
+    stop: Option<Stopped<R::Fault>>,
+) -> Result<Option<Stopped<R::Fault>>, AllocError>
     ensures { IfOk result (λ found. (stream : List ℕ) → StandsIn stream [] feed.old (R.seen reader.old) stop
         → AreRead stream (R.seen reader.new) found) }
 {
@@ -156,7 +160,7 @@ fn last_text<R: Reader>(
     alloc: Global,
     feed: &mut Feed,
     reader: &mut R,
-) -> Result<Option<Stopped>, AllocError>
+) -> Result<Option<Stopped<R::Fault>>, AllocError>
     requires { (R.seen reader.old).is_full ≡ false }
     ensures { IfOk result (λ found. (stream : List ℕ) → IsLed stream [] feed.old (R.seen reader.old)
         → AreRead stream (R.seen reader.new) found) }
@@ -172,9 +176,9 @@ fn last_text<R: Reader>(
         }
         return Ok(None);
     };
-    if reader.read(alloc, &text)? {
-        Ok(None)
-    } else {
-        Ok(Some(Stopped::Refused))
+    match reader.read(alloc, &text) {
+        Ok(()) => Ok(None),
+        Err(Stop::Fault(fault)) => Ok(Some(Stopped::Refused(fault))),
+        Err(Stop::Memory) => Err(AllocError),
     }
 }

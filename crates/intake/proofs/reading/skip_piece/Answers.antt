@@ -31,5 +31,5 @@ returns-clause-led g c used is stream reader full l =
     (skipped_on stream c.args.piece.now c.args.feed.now (g.R.Reader.seen reader) full space l (drop c.in-Ok.fed.used c.args.piece.now) c.feed.new.self c.in-Ok.fed.value
     (λ none. subst (λ (left : List ℕ). IsAt stream l.start left c.feed.new.self)
     (sym (drop_all c.in-Ok.fed.used c.args.piece.now (omega (arith, c.in-Ok.ensures.all_used none)))) (c.in-Ok.ensures.going none stream l.start l.at))
-    (λ none. ap (λ f. f.rest) (c.in-Ok.ensures.kept none))
+    c.in-Ok.ensures.kept
     (λ text some. c.in-Ok.ensures.value text some stream l.start l.at))
