@@ -13,6 +13,7 @@ mod Never
 pub mod Numbers
 pub mod Opening
 pub mod Served
+pub mod Readers
 pub mod Reread
 pub mod Scenes
 pub mod States

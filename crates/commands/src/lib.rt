@@ -4,6 +4,7 @@
 mod answer;
 mod drilling;
 mod headline;
+mod input;
 pub mod laws;
 mod load;
 mod pictures;
@@ -11,6 +12,7 @@ mod running;
 mod serving;
 mod status;
 mod sure;
+mod taking;
 mod words;
 
 pub use running::board;
