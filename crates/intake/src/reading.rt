@@ -37,7 +37,7 @@ pub trait Reader {
 /// Why no further text is handed on.
 #[derive(Drop)]
 pub enum Stopped<F> {
-    /// The next text has this fault.
+    /// The next text has this fault, or one that must come is missing at the end.
     Faulty(JsonFault),
     /// The reader refuses a text for this fault.
     Refused(F),
