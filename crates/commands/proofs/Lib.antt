@@ -16,5 +16,6 @@ pub mod Served
 pub mod Readers
 pub mod Reread
 pub mod Scenes
+pub mod SessionTexts
 pub mod States
 pub mod Unique

@@ -11,4 +11,5 @@ pub mod Readers
 pub mod Replays
 pub mod Services
 pub mod Serving
+pub mod SessionTexts
 pub mod Words
