@@ -143,24 +143,24 @@ module _ (store : List ElementValue) (time nonce : ℕ) (parts : List Delta) (gi
         each = λ g c. elim (Contains-push_cases given e g c) [
           | inl earlier ↦ given-longer g (step.gives.each g earlier)
           | inr same ↦ record {
-              part = part;
-              now = now;
-              reverted = came.reverted;
-              at = own;
-              reverts = came.reverts;
-              differs = came.differs;
-              is = sym same ∙ came.is;
-            }
+            part = part;
+            now = now;
+            reverted = came.reverted;
+            at = own;
+            reverts = came.reverts;
+            differs = came.differs;
+            is = sym same ∙ came.is;
+          }
         ];
         all = λ q c. elim (Contains-push_cases parts part q c) [
           | inl earlier ↦ comes-longer (e ∷ []) q (step.gives.all q earlier)
           | inr same ↦ subst (Comes (given ++ e ∷ [])) same (record {
-              now = now;
-              reverted = came.reverted;
-              at = own;
-              reverts = came.reverts;
-              comes = inr (subst (Contains (given ++ e ∷ [])) came.is (Contains-push given e));
-            })
+            now = now;
+            reverted = came.reverted;
+            at = own;
+            reverts = came.reverts;
+            comes = inr (subst (Contains (given ++ e ∷ [])) came.is (Contains-push given e));
+          })
         ];
       };
       undoes = made-more;
