@@ -34,7 +34,7 @@ more-at bytes at within ends =
     elim (runs-either is_space (drop at bytes)) [ inl h ↦ absurd (omega (arith, h.1, length-drop at bytes)) | inr h ↦ h.0 ]
 
 -- ---- messages
-messages-few : (event : Event) → messages_of event ≤ 1
+pub messages-few : (event : Event) → messages_of event ≤ 1
 messages-few (Change at time capture command) = omega arith
 messages-few (Update elements) = omega arith
 messages-few (Deliver to picks) = omega arith
