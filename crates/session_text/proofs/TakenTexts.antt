@@ -1,24 +1,27 @@
 -- What is kept of a session so far while its texts are taken.
-use Rattle.std.proofs.Common.{◌≡◌, ℕ, ◌+◌, ◌==◌, ◌≤◌, ◌<◌, List, [], ◌∷◌, ◌++◌, Bool, false, Option, Some, None, Result, Ok, Err, OnOk, OnErr, length, sym, ap, subst, ◌∙◌, arith}
-use Rattle.std.proofs.lemmas.Bool.Decides.{nat_tests}
+use Rattle.std.proofs.Common.{◌≡◌, ℕ, ◌+◌, ◌≤◌, List, [], ◌∷◌, ◌++◌, Bool, false, Option, Some, None, Result, Ok, Err, OnOk, OnErr, length, sym, ap, subst, ◌∙◌, arith}
 use Rattle.board_io.specs.declared.stop.Stop.{Stop}
 use Rattle.session_text.specs.Events.{HeaderText, EventText}
 use Rattle.session_text.specs.Facts.{IsSession}
 use Rattle.session_text.specs.Sessions.{most_events, messages_of, made_after}
 use Rattle.session_text.specs.Taken.{is_full, session_so_far, IsFeed}
 use Rattle.session_text.specs.declared.event.Event.{Event}
+use Rattle.session_text.specs.declared.event.Event.TheVariants.{Change, Update, Deliver, Hold, Release, Undo, Redo}
 use Rattle.session_text.specs.declared.fault.TextFault.{TextFault}
 use Rattle.session_text.specs.declared.header.Header.{Header}
 use Rattle.session_text.specs.declared.session.Session.{Session}
-use Rattle.session_text.proofs.Behind.{messages-few}
+use Rattle.session_text.proofs.Behind.{fewer-events}
 use Rattle.session_text.proofs.SessionsMore.{session-begun, session-more}
 use Rattle.session_text.proofs.SessionsOne.{made-more}
 
-pub fewer-events : (session : Session) → length session.events ≤ most_events → is_full (Some session) ≡ false → length session.events < most_events
-fewer-events session few room = fewer (length session.events) most_events few room
-  where
-    fewer : (n most : ℕ) → n ≤ most → (n == most) ≡ false → n < most
-    fewer n most few e = grind (arith, nat_tests)
+messages-few : (event : Event) → messages_of event ≤ 1
+messages-few (Change at time capture command) = omega arith
+messages-few (Update elements) = omega arith
+messages-few (Deliver to picks) = omega arith
+messages-few (Hold at id) = omega arith
+messages-few (Release at id) = omega arith
+messages-few (Undo at time) = omega arith
+messages-few (Redo at time) = omega arith
 
 made-few : (made : ℕ) (events : List Event) → made_after made events ≤ made + length events
 made-few made [] = omega arith
@@ -30,12 +33,15 @@ feed-few None events made is = omega (arith, is.counted, made-few 0 events, ap l
 feed-few (Some head) events made is = omega (arith, is.counted, made-few 0 events, is.kept.few)
 
 -- the header is taken
-pub feed-begun : (events : List Event) (made : ℕ) (text : List ℕ) (head : Header) → IsFeed None events made → HeaderText text (Ok head) → IsFeed (Some head) events made
-feed-begun events made text head is says = record {
-  kept = subst (λ es. IsSession (record { replicas = head.replicas; seed = head.seed; scene = head.scene; events = es })) (sym is.begun) (session-begun text head says);
-  counted = is.counted;
-  begun = tt;
-}
+pub feed-begun : (found : Option Header) (head : Header) (events : List Event) (made : ℕ) (text : List ℕ) → found ≡ None → IsFeed found events made → HeaderText text (Ok head)
+    → IsFeed (Some head) events made
+feed-begun found head events made text there is says =
+    let none : events ≡ [] = (subst (λ f. IsFeed f events made) there is).begun in
+    record {
+      kept = subst (λ es. IsSession (record { replicas = head.replicas; seed = head.seed; scene = head.scene; events = es })) (sym none) (session-begun text head says);
+      counted = is.counted;
+      begun = tt;
+    }
 
 -- an event is taken
 feed-more : (head : Header) (events : List Event) (made : ℕ) (text : List ℕ) (event : Event) → IsFeed (Some head) events made → is_full (session_so_far (Some head) events) ≡ false
