@@ -3,10 +3,13 @@ pub mod Brought
 pub mod FormsOne
 pub mod Kept
 pub mod Lacking
+pub mod NeverJson
 pub mod PicksMore
 pub mod Readings
 pub mod Said
 pub mod RowsOne
+pub mod SessionsMore
 pub mod SessionsOne
+pub mod TakenTexts
 pub mod Values
 pub mod Words
