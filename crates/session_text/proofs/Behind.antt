@@ -1,15 +1,20 @@
 -- What stands behind an offset: white space alone, an event with a fault, or too many events.
-use Rattle.std.proofs.Common.{◌≡◌, ◌⊎◌, inl, inr, ℕ, ◌+◌, ◌≤◌, ◌<◌, List, [], ◌∷◌, ◌++◌, Bool, true, false, length, drop, refl, sym, ap, subst, ◌∙◌, arith, length-drop, length-append}
+use Rattle.std.proofs.Common.{◌≡◌, ◌⊎◌, inl, inr, ℕ, ◌+◌, ◌==◌, ◌≤◌, ◌<◌, List, [], ◌∷◌, Bool, true, false, Option, None, Some, IfSome, is_none, length, drop, refl, sym, ap, subst, arith, length-drop}
 use Rattle.std.specs.List.{list_all, prefix_len}
+use Rattle.std.proofs.lemmas.Bool.{false≢true}
+use Rattle.std.proofs.lemmas.Bool.Decides.{nat_tests}
 use Rattle.scene_json.specs.Characters.{is_blank, is_space}
-use Rattle.session_text.specs.Events.{EventText}
-use Rattle.session_text.specs.Sessions.{most_events, StandsAs, IsTextFaultAt, messages_of, made_after, LeadTo, IsSessionFault}
-use Rattle.session_text.specs.declared.event.Event.{Event}
-use Rattle.session_text.specs.declared.event.Event.TheVariants.{Change, Update, Deliver, Hold, Release, Undo, Redo}
+use Rattle.scene_json.specs.Faults.{IsFirstFault}
+use Rattle.scene_json.specs.Value.{Stands}
+use Rattle.scene_json.specs.declared.fault.JsonFault.{JsonFault}
+use Rattle.session_text.specs.Events.{HeaderText, header}
+use Rattle.session_text.specs.Sessions.{most_events, IsTextFaultAt, EventsLead, LeadTo, IsSessionOf, IsSessionFault}
+use Rattle.session_text.specs.Taken.{TakesText, IsNextFault, is_full, texts_in, LeadsUpTo, IsNextFaultAt}
 use Rattle.session_text.specs.declared.fault.TextFault.{TextFault}
+use Rattle.session_text.specs.declared.fault.TextFault.TheVariants.{Json}
 use Rattle.session_text.specs.declared.fault.SessionFault.TheVariants.{In, TooMany}
-use Rattle.session_text.specs.declared.header.Header.{Header}
-use Rattle.session_text.proofs.SessionsOne.{leads-more, made-more}
+use Rattle.session_text.specs.declared.session.Session.{Session}
+use Rattle.session_text.proofs.SessionsOne.{leads-more}
 
 -- ---- white space
 -- All elements pass, and the run that passes is the whole list; or neither is so.
@@ -33,49 +38,89 @@ pub more-at : (bytes : List ℕ) (at : ℕ) → at ≤ length bytes → at + pre
 more-at bytes at within ends =
     elim (runs-either is_space (drop at bytes)) [ inl h ↦ absurd (omega (arith, h.1, length-drop at bytes)) | inr h ↦ h.0 ]
 
--- ---- messages
-messages-few : (event : Event) → messages_of event ≤ 1
-messages-few (Change at time capture command) = omega arith
-messages-few (Update elements) = omega arith
-messages-few (Deliver to picks) = omega arith
-messages-few (Hold at id) = omega arith
-messages-few (Release at id) = omega arith
-messages-few (Undo at time) = omega arith
-messages-few (Redo at time) = omega arith
+-- ---- the session so far
+pub fewer-events : (session : Session) → length session.events ≤ most_events → is_full (Some session) ≡ false → length session.events < most_events
+fewer-events session few room = fewer (length session.events) most_events few room
+  where
+    fewer : (n most : ℕ) → n ≤ most → (n == most) ≡ false → n < most
+    fewer n most few e = grind (arith, nat_tests)
 
--- Events lead up to an offset, and so many messages were made by them.
-pub record AreRead (bytes : List ℕ) (head : Header) (events : List Event) (made at : ℕ) : Type 0 where
-  pub lead : LeadTo bytes head events at
-  pub counted : made ≡ made_after 0 events
-  pub few : made ≤ length events
+pub texts-few : (bytes : List ℕ) (state : Option Session) (at : ℕ) → LeadsUpTo bytes state at → texts_in state ≤ most_events + 1
+texts-few bytes None at lead = omega arith
+texts-few bytes (Some session) at lead = omega (arith, lead.few)
 
-pub read-more : (bytes : List ℕ) (head : Header) (events : List Event) (made at end : ℕ) (event : Event) → AreRead bytes head events made at → (length events ≡ most_events → ⊥)
-    → StandsAs (EventText head.replicas made) (drop at bytes) event (drop end bytes) → end ≤ length bytes → AreRead bytes head (events ++ event ∷ []) (made + messages_of event) end
-read-more bytes head events made at end event are open_yet stands within = record {
-  lead = leads-more bytes head events at end event are.lead (omega (arith, are.lead.few, open_yet))
-      (subst (λ n. StandsAs (EventText head.replicas n) (drop at bytes) event (drop end bytes)) are.counted stands) within;
-  counted = ap (λ n. n + messages_of event) are.counted ∙ sym (made-more 0 events event);
-  few = omega (arith, are.few, messages-few event, length-append events (event ∷ []));
+-- A text that stands at the offset and is taken leads up to the offset after it.
+pub leads-next : (bytes text : List ℕ) (before after : Option Session) (at end : ℕ) → LeadsUpTo bytes before at → is_full before ≡ false → Stands (drop at bytes) text (drop end bytes)
+    → end ≤ length bytes → TakesText before text after → LeadsUpTo bytes after end
+leads-next bytes text None None at end front room stands within takes = absurd takes
+leads-next bytes text None (Some session) at end front room stands within (says, none) = record {
+  first = drop end bytes;
+  heads = (text, subst (λ n. Stands (drop n bytes) text (drop end bytes)) front stands, says);
+  lead = subst (λ events. EventsLead session.replicas 0 (drop end bytes) events (drop end bytes)) (sym none) refl;
+  few = omega (arith, ap length none);
+  within = within;
 }
+leads-next bytes text (Some before) None at end lead room stands within takes = absurd takes
+leads-next bytes text (Some before) (Some session) at end lead room stands within (event, says, same) =
+    subst (λ (s : Session). LeadTo bytes (header s.replicas s.seed s.scene) s.events end) (sym same)
+    (leads-more bytes (header before.replicas before.seed before.scene) before.events at end event lead (fewer-events before lead.few room) (text, stands, says) within)
 
-pub sum-small : (bytes : List ℕ) (head : Header) (events : List Event) (made at : ℕ) (event : Event) → AreRead bytes head events made at → made + messages_of event ≤ 250001
-sum-small bytes head events made at event are = omega (arith, are.few, are.lead.few, messages-few event)
+pub begun-next : (text : List ℕ) (before after : Option Session) → TakesText before text after → is_none after ≡ false
+begun-next text None None takes = absurd takes
+begun-next text (Some before) None takes = absurd takes
+begun-next text before (Some session) takes = refl
+
+-- The texts of the session so far, that of the header among them, lead up to the offset.
+pub record IsReadTo (bytes : List ℕ) (state : Option Session) (at : ℕ) : Type 0 where
+  pub within : at ≤ length bytes
+  pub leads : LeadsUpTo bytes state at
+  pub begun : is_none state ≡ false
+
+pub session-read : (bytes : List ℕ) (state : Option Session) (at : ℕ) → LeadsUpTo bytes state at → is_blank (drop at bytes) ≡ true → IfSome state (IsSessionOf bytes)
+session-read bytes None at lead space = tt
+session-read bytes (Some session) at lead space = record { end = at; lead = lead; space = space }
 
 -- ---- faults
-pub too-many : (bytes : List ℕ) (head : Header) (events : List Event) (made at : ℕ) → AreRead bytes head events made at → length events ≡ most_events
-    → at + prefix_len is_space (drop at bytes) < length bytes → IsSessionFault bytes TooMany
-too-many bytes head events made at are full more =
-    record { head = head; events = events; end = at; lead = are.lead; full = full; more = more-at bytes at are.lead.within more }
+pub too-many : (bytes : List ℕ) (state : Option Session) (at : ℕ) → LeadsUpTo bytes state at → is_full state ≡ true → is_blank (drop at bytes) ≡ false → IsSessionFault bytes TooMany
+too-many bytes None at lead full more = absurd (false≢true full)
+too-many bytes (Some session) at lead full more =
+    record { head = header session.replicas session.seed session.scene; events = session.events; end = at; lead = lead; full = all (length session.events) most_events full; more = more }
+  where
+    all : (n most : ℕ) → (n == most) ≡ true → n ≡ most
+    all n most e = grind (arith, nat_tests)
 
-pub faulty-event : (bytes : List ℕ) (head : Header) (events : List Event) (made at number : ℕ) (fault : TextFault) → AreRead bytes head events made at → (length events ≡ most_events → ⊥)
-    → at + prefix_len is_space (drop at bytes) < length bytes → number ≡ length events + 2 → IsTextFaultAt (EventText head.replicas made) bytes at fault → IsSessionFault bytes (In number fault)
-faulty-event bytes head events made at number fault are open_yet more counted is = inr (record {
-  head = head;
-  events = events;
+begun-at : (more : Bool) → (false ≡ true) ⊎ (more ≡ false) → more ≡ false
+begun-at more (inl never) = absurd (false≢true never)
+begun-at more (inr is) = is
+
+next-faulty : (bytes : List ℕ) (state : Option Session) (at : ℕ) (fault : TextFault) → LeadsUpTo bytes state at → (is_none state ≡ true) ⊎ (is_blank (drop at bytes) ≡ false)
+    → is_full state ≡ false → IsNextFaultAt bytes at state fault → IsSessionFault bytes (In (texts_in state + 1) fault)
+next-faulty bytes None at fault front more room is = inl (refl, subst (λ n. IsTextFaultAt HeaderText bytes n fault) front is)
+next-faulty bytes (Some session) at fault lead more room is = inr (record {
+  head = header session.replicas session.seed session.scene;
+  events = session.events;
   start = at;
-  lead = are.lead;
-  more = more-at bytes at are.lead.within more;
-  fewer = omega (arith, are.lead.few, open_yet);
-  counted = counted;
-  faulty = subst (λ n. IsTextFaultAt (EventText head.replicas n) bytes at fault) are.counted is;
+  lead = lead;
+  more = begun-at (is_blank (drop at bytes)) more;
+  fewer = fewer-events session lead.few room;
+  counted = omega arith;
+  faulty = is;
 })
+
+-- no value stands behind the offset
+pub next-missing : (bytes : List ℕ) (state : Option Session) (at : ℕ) (found : JsonFault) → LeadsUpTo bytes state at → (is_none state ≡ true) ⊎ (is_blank (drop at bytes) ≡ false)
+    → is_full state ≡ false → IsFirstFault bytes at found → IsSessionFault bytes (In (texts_in state + 1) (Json found))
+next-missing bytes state at found lead more room first = next-faulty bytes state at (Json found) lead more room (by state)
+  where
+    by : (state : Option Session) → IsNextFaultAt bytes at state (Json found)
+    by None = inl (found, refl, first)
+    by (Some session) = inl (found, refl, first)
+
+-- the text behind the offset is refused
+pub next-refused : (bytes text rest : List ℕ) (state : Option Session) (at : ℕ) (fault : TextFault) → LeadsUpTo bytes state at → (is_none state ≡ true) ⊎ (is_blank (drop at bytes) ≡ false)
+    → is_full state ≡ false → Stands (drop at bytes) text rest → IsNextFault state text fault → IsSessionFault bytes (In (texts_in state + 1) fault)
+next-refused bytes text rest state at fault lead more room stands is = next-faulty bytes state at fault lead more room (by state is)
+  where
+    by : (state : Option Session) → IsNextFault state text fault → IsNextFaultAt bytes at state fault
+    by None is = inr (text, rest, stands, is)
+    by (Some session) is = inr (text, rest, stands, is)

@@ -167,7 +167,7 @@ named-brings replicas made members happenings.Redo event says =
     let (when, timed, last) = then-ok _ _ event says in
     subst BringsElements (sym (gives-ok _ event last)) tt
 
-event-brings : (replicas made : ℕ) (text : List ℕ) (event : Event) → EventText replicas made text (Ok event) → BringsElements event
+pub event-brings : (replicas made : ℕ) (text : List ℕ) (event : Event) → EventText replicas made text (Ok event) → BringsElements event
 event-brings replicas made text event says =
     let (members, object, inner) = then-ok _ _ event says in
     let (name, is, rest) = then-ok _ _ event inner in

@@ -125,10 +125,10 @@ picks-made made (item ∷ items) all (pick, others, same, is, are) =
 
 -- ---- events
 -- what holds of an event
-record IsKept (replicas made : ℕ) (event : Event) : Type 0 where
-  place : IsAmong replicas event
-  limits : IsEventWithinLimits event
-  picks : PicksMade made event
+pub record IsKept (replicas made : ℕ) (event : Event) : Type 0 where
+  pub place : IsAmong replicas event
+  pub limits : IsEventWithinLimits event
+  pub picks : PicksMade made event
 
 time-kept : (replicas : ℕ) (members : List Pair) (when : ℕ × ℕ) → TimeOf replicas members (Ok when) → (when.0 < replicas) × (when.1 ≤ greatest_whole)
 time-kept replicas members when says =
@@ -171,7 +171,7 @@ named-kept replicas made members happenings.Redo event says =
     let time = time-kept replicas members when timed in
     subst (IsKept replicas made) (sym (gives-ok _ event last)) (record { place = time.0; limits = time.1; picks = tt })
 
-event-kept : (replicas made : ℕ) (text : List ℕ) (event : Event) → EventText replicas made text (Ok event) → IsKept replicas made event
+pub event-kept : (replicas made : ℕ) (text : List ℕ) (event : Event) → EventText replicas made text (Ok event) → IsKept replicas made event
 event-kept replicas made text event says =
     let (members, object, inner) = then-ok _ _ event says in
     let (name, is, named) = then-ok _ _ event inner in
@@ -197,13 +197,13 @@ scene-keys (Some value) None is = absurd is
 scene-keys (Some value) (Some board) is = subst HaveKeys (sym is.are_loaded) (loaded-keys is.elements)
 
 -- what holds of a header
-record IsHead (head : Header) : Type 0 where
-  some : 1 ≤ head.replicas
-  most : head.replicas ≤ 64
-  seed : head.seed ≤ greatest_whole
-  keys : IfSome head.scene (λ (board : Board). HaveKeys board.elements)
+pub record IsHead (head : Header) : Type 0 where
+  pub some : 1 ≤ head.replicas
+  pub most : head.replicas ≤ 64
+  pub seed : head.seed ≤ greatest_whole
+  pub keys : IfSome head.scene (λ (board : Board). HaveKeys board.elements)
 
-header-kept : (text : List ℕ) (head : Header) → HeaderText text (Ok head) → IsHead head
+pub header-kept : (text : List ℕ) (head : Header) → HeaderText text (Ok head) → IsHead head
 header-kept text head says =
     let (members, object, inner) = then-ok _ _ head says in
     let (version, one, more) = then-ok _ _ head inner in

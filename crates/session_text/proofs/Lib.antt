@@ -7,6 +7,8 @@ pub mod PicksMore
 pub mod Readings
 pub mod Said
 pub mod RowsOne
+pub mod SessionsMore
 pub mod SessionsOne
+pub mod TakenTexts
 pub mod Values
 pub mod Words

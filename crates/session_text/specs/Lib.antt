@@ -6,3 +6,4 @@ pub mod Forms
 pub mod Names
 pub mod Reads
 pub mod Sessions
+pub mod Taken

@@ -12,9 +12,11 @@ mod name;
 mod picking;
 mod reading;
 mod session;
+mod taking;
 
 pub use event::{Event, Pick};
 pub use fault::{SessionFault, TextFault};
 pub use name::MemberName;
 pub use reading::read_session;
 pub use session::Session;
+pub use taking::SessionFeed;
