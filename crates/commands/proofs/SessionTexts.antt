@@ -1,5 +1,6 @@
 -- The texts that a reader of a session has read, and what stops it.
-use Rattle.std.proofs.Common.{◌≡◌, ◌⊎◌, inl, inr, ℕ, ◌+◌, ◌<◌, ◌≤◌, ◌==◌, List, [], ◌∷◌, Bool, true, false, refl, ap, subst, length, drop, arith, length-drop, Option, None, Some}
+use Rattle.std.proofs.Common.{◌≡◌, ◌⊎◌, inl, inr, ℕ, ◌+◌, ◌<◌, ◌≤◌, ◌==◌, List, [], ◌∷◌, ◌++◌, Bool, true, false, refl, sym, ap, subst, length, drop, arith, length-append, length-drop, Ok, Option, None, Some}
+use Rattle.std.specs.Prelude.{is_none}
 use Rattle.std.proofs.lemmas.Bool.{false≢true}
 use Rattle.std.proofs.lemmas.Bool.Decides.{nat_tests}
 use Rattle.scene_json.specs.Characters.{is_blank}
@@ -8,13 +9,14 @@ use Rattle.scene_json.specs.Value.{Stands}
 use Rattle.intake.specs.Texts.{TextsLead, HasTexts, IsStopped}
 use Rattle.intake.specs.declared.reading.Stopped.{Stopped}
 use Rattle.intake.specs.declared.reading.Stopped.TheVariants.{Faulty, Refused, Extra}
-use Rattle.session_text.specs.Events.{header}
-use Rattle.session_text.specs.Sessions.{most_events, messages_of, EventsLead, LeadTo, IsSessionOf}
+use Rattle.session_text.specs.Events.{EventText, header}
+use Rattle.session_text.specs.Sessions.{most_events, messages_of, made_after, EventsLead, LeadTo, IsSessionOf}
+use Rattle.session_text.specs.Taken.{TakesText, is_full, texts_in, with_event}
 use Rattle.session_text.specs.declared.event.Event.{Event}
 use Rattle.session_text.specs.declared.fault.TextFault.{TextFault}
 use Rattle.session_text.specs.declared.session.Session.{Session}
 use Rattle.commands.specs.Answers.{IsSessionRefusal}
-use Rattle.commands.specs.SessionTexts.{SayEvents, SaySession, session_seen, next_number, session_refusal_of}
+use Rattle.commands.specs.SessionTexts.{SayEvents, SaySession, session_seen, session_refusal_of}
 
 events-lead : (replicas made : ℕ) (bytes rest : List ℕ) (texts : List (List ℕ)) (events : List Event) → SayEvents replicas made texts events → TextsLead bytes texts rest → EventsLead replicas made bytes events rest
 events-lead replicas made bytes rest [] [] say lead = lead
@@ -53,6 +55,26 @@ events-more replicas made [] (one ∷ events) text event say is = absurd say
 events-more replicas made (first ∷ texts) [] text event say is = absurd say
 events-more replicas made (first ∷ texts) (one ∷ events) text event (says, say) is = (says, events-more replicas (made + messages_of one) texts events text event say is)
 
+pub say-taken : (texts : List (List ℕ)) (before : Option Session) (text : List ℕ) (after : Option Session) → SaySession texts before → is_full before ≡ false
+    → TakesText before text after → SaySession (texts ++ text ∷ []) after
+say-taken [] None text None say open takes = absurd takes
+say-taken [] None text (Some session) say open (heads, none) =
+    (heads, subst (λ (events : List Event). SayEvents session.replicas 0 [] events × (length events ≤ most_events)) (sym none) (tt, omega arith))
+say-taken (first ∷ texts) None text after say open takes = absurd say
+say-taken [] (Some before) text after say open takes = absurd say
+say-taken (first ∷ texts) (Some before) text None say open takes = absurd takes
+say-taken (first ∷ texts) (Some before) text (Some session) (heads, say, few) open (event, is, same) =
+    subst (λ (after : Session). SaySession (first ∷ (texts ++ text ∷ [])) (Some after)) (sym same) (
+      heads,
+      events-more before.replicas 0 texts before.events text event say is,
+      omega (arith, length-append before.events (event ∷ []), fewer-events (length before.events) most_events few open),
+    )
+
+pub taken-some : (before : Option Session) (text : List ℕ) (after : Option Session) → TakesText before text after → is_none after ≡ false
+taken-some None text None takes = absurd takes
+taken-some (Some before) text None takes = absurd takes
+taken-some before text (Some session) takes = refl
+
 -- ---- what stopped the reader, or nothing did
 pub session-read : (bytes : List ℕ) (session : Session) → HasTexts bytes (session_seen (Some session)) → IsSessionOf bytes session
 session-read bytes session h = record { end = h.start; lead = lead-to bytes session h.texts h.start h.behind.read h.behind.within h.behind.lead; space = h.space }
@@ -61,7 +83,7 @@ begun-at : (more : Bool) → (false ≡ true) ⊎ (more ≡ false) → more ≡ 
 begun-at more (inl never) = absurd (false≢true never)
 begun-at more (inr is) = is
 
-pub session-refused : (bytes : List ℕ) (state : Option Session) (stopped : Stopped TextFault) → IsStopped bytes (session_seen state) stopped → IsSessionRefusal bytes (session_refusal_of (next_number state) stopped)
+pub session-refused : (bytes : List ℕ) (state : Option Session) (stopped : Stopped TextFault) → IsStopped bytes (session_seen state) stopped → IsSessionRefusal bytes (session_refusal_of (texts_in state + 1) stopped)
 session-refused bytes None (Faulty fault) h =
     let front = at-front bytes h.texts h.start h.behind.read h.behind.within h.behind.lead in
     inl (refl, inl (fault, refl, subst (λ at. IsFirstFault bytes at fault) front h.faulty))

@@ -93,7 +93,7 @@ pub(crate) fn session<S: Source>(alloc: Global, input: &mut S) -> Result<Session
     };
     let found = read_input(alloc, input, &mut reader)?;
     if let Some(stopped) = found {
-        let number = reader.feed.count() + 1;
+        let number = reader.feed.texts() + 1;
         return Err(Fault::Refused(session_refused(number, stopped)));
     }
     let Some(session) = reader.feed.finish() else {
