@@ -1,7 +1,11 @@
 //! Calls below the top one, each asked for by a member of its name.
 
+use crate::deliver::push_delivered;
 use crate::elements::{push_applied, push_clashes, push_compared, push_element_of, push_message};
+use crate::fed::{push_cut, push_fed};
 use crate::follow::push_followed;
+use crate::given::is_given;
+use crate::keep::push_kept;
 use crate::keys::{
     push_between, push_is_key, push_n_between, push_repaired, push_rising, push_walk,
 };
@@ -49,6 +53,10 @@ fn push_value_call(
         push_compared(alloc, line, value)
     } else if let Some(value) = value_named(case, "apply") {
         push_applied(alloc, line, value)
+    } else if let Some(value) = value_named(case, "fed") {
+        push_fed(alloc, line, value)
+    } else if let Some(value) = value_named(case, "cut") {
+        push_cut(alloc, line, value)
     } else if let Some(value) = value_named(case, "pretty") {
         push_pretty(alloc, line, value)
     } else if let Some(value) = value_named(case, "parts") {
@@ -61,6 +69,10 @@ fn push_value_call(
         push_first(alloc, line, value)
     } else if let Some(value) = value_named(case, "follow") {
         push_followed(alloc, line, value)
+    } else if let Some(value) = value_named(case, "update") {
+        push_kept(alloc, line, value)
+    } else if is_given(case, "deliver") {
+        push_delivered(alloc, line, case)
     } else {
         Err(Stop::Fault(Text::fixed("member words")))
     }

@@ -154,7 +154,7 @@ fn is_on(part: &Part, now: &Element) -> bool
 }
 
 /// The elements of a list, if each item is one.
-fn elements_of(alloc: Global, value: &Raw) -> Result<Option<List<Element>>, AllocError> {
+pub fn elements_of(alloc: Global, value: &Raw) -> Result<Option<List<Element>>, AllocError> {
     let mut elements = Vec::new(alloc);
     for item in listed(alloc, value)?.as_slice() {
         match element_of(alloc, item)? {

@@ -56,7 +56,7 @@ fn is_shown(alloc: Global, replica: &Replica) -> Result<bool, AllocError> {
 }
 
 /// Whether two lists have the same elements.
-fn are_same(elements: &[Element], others: &[Element]) -> bool {
+pub fn are_same(elements: &[Element], others: &[Element]) -> bool {
     if elements.len() != others.len() {
         return false;
     }
@@ -111,7 +111,7 @@ fn draw_element(
     let text = format!(in alloc;
         "{{\"id\":\"e{number}\",\"type\":\"{kind}\",\"version\":{version},\"isDeleted\":{deleted},\"index\":{index},\"frameId\":{frame},\"groupIds\":[\"g\",\"e{number}\",\"g\"],\"boundElements\":{listed}{named}}}"
     )?;
-    element_of(alloc, text.as_str())
+    element_of_text(alloc, text.as_str())
 }
 
 /// The kind of the elements of a number.
@@ -177,7 +177,7 @@ fn draw(generator: &mut Pcg32, limit: u64) -> u64 {
 }
 
 /// The element that a text is read as.
-fn element_of(alloc: Global, text: &str) -> Result<Option<Element>, AllocError> {
+pub fn element_of_text(alloc: Global, text: &str) -> Result<Option<Element>, AllocError> {
     let value = match scan(alloc, text.as_bytes(), 0) {
         Ok((value, _after)) => value,
         Err(Stop::Fault(_)) => return Ok(None),

@@ -196,7 +196,7 @@ fn push_keys(line: &mut Vec<u8>, keys: &[Key]) -> Result<(), AllocError> {
 }
 
 /// Appends an end, null where it is absent.
-fn push_end(line: &mut Vec<u8>, end: &Option<Key>) -> Result<(), AllocError> {
+pub fn push_end(line: &mut Vec<u8>, end: &Option<Key>) -> Result<(), AllocError> {
     match end {
         Some(key) => push_key(line, key),
         None => line.extend_from_slice(b"null"),

@@ -3,10 +3,13 @@
 #![tactic(auto)]
 
 mod calls;
+mod deliver;
 mod elements;
 mod events;
+mod fed;
 mod follow;
 mod given;
+mod keep;
 mod keys;
 mod line;
 mod run;

@@ -7,9 +7,9 @@ use Rattle.scene_json.specs.Characters.{is_blank, is_space}
 use Rattle.scene_json.specs.Faults.{IsFirstFault}
 use Rattle.scene_json.specs.Value.{Stands}
 use Rattle.scene_json.specs.declared.fault.JsonFault.{JsonFault}
-use Rattle.session_text.specs.Events.{HeaderText, header}
-use Rattle.session_text.specs.Sessions.{most_events, IsTextFaultAt, EventsLead, LeadTo, IsSessionOf, IsSessionFault}
-use Rattle.session_text.specs.Taken.{TakesText, IsNextFault, is_full, texts_in, LeadsUpTo, IsNextFaultAt}
+use Rattle.session_text.specs.Events.{HeaderText, EventText, header}
+use Rattle.session_text.specs.Sessions.{most_events, IsTextFaultAt, made_after, EventsLead, LeadTo, IsSessionOf, IsSessionFault}
+use Rattle.session_text.specs.Taken.{TakesText, IsNextFault, is_full, texts_in, LeadsUpTo}
 use Rattle.session_text.specs.declared.fault.TextFault.{TextFault}
 use Rattle.session_text.specs.declared.fault.TextFault.TheVariants.{Json}
 use Rattle.session_text.specs.declared.fault.SessionFault.TheVariants.{In, TooMany}
@@ -92,6 +92,11 @@ too-many bytes (Some session) at lead full more =
 begun-at : (more : Bool) → (false ≡ true) ⊎ (more ≡ false) → more ≡ false
 begun-at more (inl never) = absurd (false≢true never)
 begun-at more (inr is) = is
+
+-- The text of the header, or of the next event, has this first fault behind the offset.
+abbrev IsNextFaultAt : List ℕ → ℕ → Option Session → TextFault → Type 0
+IsNextFaultAt bytes at None fault = IsTextFaultAt HeaderText bytes at fault
+IsNextFaultAt bytes at (Some session) fault = IsTextFaultAt (EventText session.replicas (made_after 0 session.events)) bytes at fault
 
 next-faulty : (bytes : List ℕ) (state : Option Session) (at : ℕ) (fault : TextFault) → LeadsUpTo bytes state at → (is_none state ≡ true) ⊎ (is_blank (drop at bytes) ≡ false)
     → is_full state ≡ false → IsNextFaultAt bytes at state fault → IsSessionFault bytes (In (texts_in state + 1) fault)

@@ -2,7 +2,7 @@
 use Rattle.std.specs.Prelude.{◌≡◌, ℕ, ◌+◌, ◌==◌, List, [], ◌∷◌, ◌++◌, Bool, false, Option, Some, None, IfSome, IfNone, Ok, Err, length}
 use Rattle.session_text.specs.Events.{HeaderText, EventText, header}
 use Rattle.session_text.specs.Facts.{IsSession}
-use Rattle.session_text.specs.Sessions.{most_events, made_after, IsTextFaultAt, LeadTo}
+use Rattle.session_text.specs.Sessions.{most_events, made_after, LeadTo}
 use Rattle.session_text.specs.declared.event.Event.{Event}
 use Rattle.session_text.specs.declared.fault.TextFault.{TextFault}
 use Rattle.session_text.specs.declared.header.Header.{Header}
@@ -50,8 +50,3 @@ pub record IsFeed (head : Option Header) (events : List Event) (made : ℕ) : Ty
 abbrev pub LeadsUpTo : List ℕ → Option Session → ℕ → Type 0
 LeadsUpTo bytes None at = at ≡ 0
 LeadsUpTo bytes (Some session) at = LeadTo bytes (header session.replicas session.seed session.scene) session.events at
-
--- The text of the header, or of the next event, has this first fault behind the offset.
-abbrev pub IsNextFaultAt : List ℕ → ℕ → Option Session → TextFault → Type 0
-IsNextFaultAt bytes at None fault = IsTextFaultAt HeaderText bytes at fault
-IsNextFaultAt bytes at (Some session) fault = IsTextFaultAt (EventText session.replicas (made_after 0 session.events)) bytes at fault

@@ -1,6 +1,7 @@
 //! The texts of a session are taken, one after the other.
 
-ghost use Rattle.std.specs.Prelude.{◌≡◌, ◌+◌, ◌≤◌, [], ◌∷◌, ◌++◌, false, is_none, None, Ok, Err, IfSome, OnOk, OnErr};
+ghost use Rattle.std.specs.Prelude.{◌≡◌, ◌≢◌, ◌+◌, ◌≤◌, [], ◌∷◌, ◌++◌, false, is_none, None, Ok, Err, IfSome, OnOk, OnErr};
+ghost use Rattle.scene_json.specs.declared.fault.JsonFault.{JsonFault};
 ghost use Rattle.session_text.specs.Events.{EventText};
 ghost use Rattle.session_text.specs.Facts.{IsSession};
 ghost use Rattle.session_text.specs.Sessions as sessions;
@@ -63,6 +64,7 @@ impl SessionFeed {
         requires { taken.is_full self.old ≡ false }
         ensures taken { OnOk result (TakesText self.old text.now self.new) }
         ensures fault { (fault : TextFault) → result ≡ Err (Stop.Fault fault) → IsNextFault self.old text.now fault }
+        ensures json { (fault : JsonFault) → result ≢ Err (Stop.Fault (TextFault.Json fault)) }
         ensures err { OnErr result (self.new ≡ self.old) }
     {
         let replicas = match &self.head {

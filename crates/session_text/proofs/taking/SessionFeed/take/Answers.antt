@@ -1,6 +1,8 @@
 -- The header is taken, or an event, or nothing.
 use Rattle.std.proofs.Common.{ap, ◌∙◌}
 use Rattle.session_text.specs.Taken.{is_full}
+use Rattle.session_text.specs.declared.fault.TextFault.TheVariants.{Json}
+use Rattle.session_text.proofs.NeverJson.{event_text-form}
 use Rattle.session_text.proofs.TakenTexts.{feed-few, feed-begun, feed-after}
 use Rattle.session_text.proofs.taking.SessionFeed.take.Goals as goal
 
@@ -17,3 +19,6 @@ invariant_of-self-2 c =
     let s = c.self.inside in
     feed-after c.take_event.result s.head c.in-Some.head s.events.items c.take_event.new.events.items s.made c.take_event.new.made c.args.text.now c.in-Some.is c.self.invariant
     (ap is_full c.self.view_is ∙ c.requires) c.take_event.ensures.taken c.take_event.ensures.events c.take_event.ensures.made
+
+pub returns-clause-json : goal.returns-clause-json
+returns-clause-json c fault e = event_text-form c.in-Some.head.replicas c.self.inside.made c.args.text.now fault (c.take_event.ensures.fault (Json fault) e)

@@ -1,0 +1,88 @@
+//! A view that follows updates by their ids, one after the other.
+
+use crate::elements::elements_of;
+use crate::given::given;
+use crate::keys::push_end;
+use crate::told::push_member_of;
+use board_io::Stop;
+use elem::Element;
+use elem_store::Store;
+use live_view::LiveView;
+use scene_json::{Raw, Text, push_comma, push_quote};
+use std::alloc::{AllocError, Global};
+use std::marker::Model;
+use std::slice;
+
+/// What is stored, and its view.
+#[derive(Drop)]
+struct Board {
+    store: Store,
+    view: LiveView,
+}
+
+impl Model for Board {
+    ghost use Rattle.std.specs.Prelude.{◌≡◌, List};
+    ghost use Rattle.elem.specs.ElementValue.{ElementValue};
+    ghost use Rattle.view.specs.Shown.{live_elements};
+
+    ghost Value = { List ElementValue };
+
+    ghost view = { λ b. b.store.elements };
+
+    ghost invariant = { λ b. b.view ≡ live_elements b.store.elements };
+}
+
+impl Board {
+    /// With nothing.
+    fn new(alloc: Global) -> Board {
+        Board {
+            store: Store::new(alloc),
+            view: LiveView::new(alloc),
+        }
+    }
+
+    /// Stores an update, and lets the view follow by its id.
+    fn with(self, e: Element) -> Result<Board, AllocError> {
+        let Board { store, view } = self;
+        let id = e.id.try_clone()?;
+        let (mut store, mut view) = (store, view);
+        match store.take(e) {
+            Ok(_) => {}
+            Err(_) => return Err(AllocError),
+        }
+        view.update(&store, slice::from_ref(&id))?;
+        Ok(Board { store, view })
+    }
+
+    /// What the view shows.
+    fn shown(&self) -> &[Element] {
+        self.view.elements()
+    }
+}
+
+/// Appends the id and the key of each element that a view shows, which has followed the updates of a list.
+pub fn push_kept(alloc: Global, line: &mut Vec<u8>, value: &Raw) -> Result<(), Stop<Text>> {
+    let updates = given(elements_of(alloc, value)?, "member update")?;
+    let mut board = Board::new(alloc);
+    for e in updates.into_vec() {
+        board = board.with(e)?;
+    }
+    push_member_of(line, "shown")?;
+    push_keyed(line, board.shown())?;
+    Ok(())
+}
+
+/// Appends the id and the key of each element.
+fn push_keyed(line: &mut Vec<u8>, elements: &[Element]) -> Result<(), AllocError> {
+    line.push(b'[')?;
+    for (i, e) in elements.iter().enumerate() {
+        push_comma(line, i)?;
+        line.push(b'[')?;
+        push_quote(line, &e.id)?;
+        line.push(b',')?;
+        push_end(line, &e.index)?;
+        line.push(b']')?;
+    }
+    line.push(b']')?;
+    Ok(())
+}
