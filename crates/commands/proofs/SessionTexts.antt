@@ -57,17 +57,17 @@ events-more replicas made (first ∷ texts) (one ∷ events) text event (says, s
 
 pub say-taken : (texts : List (List ℕ)) (before : Option Session) (text : List ℕ) (after : Option Session) → SaySession texts before → is_full before ≡ false
     → TakesText before text after → SaySession (texts ++ text ∷ []) after
-say-taken [] None text None say open takes = absurd takes
-say-taken [] None text (Some session) say open (heads, none) =
-    (heads, subst (λ (events : List Event). SayEvents session.replicas 0 [] events × (length events ≤ most_events)) (sym none) (tt, omega arith))
-say-taken (first ∷ texts) None text after say open takes = absurd say
-say-taken [] (Some before) text after say open takes = absurd say
-say-taken (first ∷ texts) (Some before) text None say open takes = absurd takes
-say-taken (first ∷ texts) (Some before) text (Some session) (heads, say, few) open (event, is, same) =
+say-taken [] None text None say room takes = absurd takes
+say-taken [] None text (Some session) say room (heads, none) =
+    (heads, subst (SayEvents session.replicas 0 []) (sym none) tt, omega (arith, ap length none))
+say-taken (first ∷ texts) None text after say room takes = absurd say
+say-taken [] (Some before) text after say room takes = absurd say
+say-taken (first ∷ texts) (Some before) text None say room takes = absurd takes
+say-taken (first ∷ texts) (Some before) text (Some session) (heads, say, few) room (event, is, same) =
     subst (λ (after : Session). SaySession (first ∷ (texts ++ text ∷ [])) (Some after)) (sym same) (
       heads,
       events-more before.replicas 0 texts before.events text event say is,
-      omega (arith, length-append before.events (event ∷ []), fewer-events (length before.events) most_events few open),
+      omega (arith, length-append before.events (event ∷ []), fewer-events (length before.events) most_events few room),
     )
 
 pub taken-some : (before : Option Session) (text : List ℕ) (after : Option Session) → TakesText before text after → is_none after ≡ false
@@ -96,7 +96,7 @@ session-refused bytes (Some session) (Faulty fault) h =
       lead = lead;
       more = begun-at (is_blank (drop h.start bytes)) h.begun;
       fewer = fewer-events (length session.events) most_events lead.few h.takes;
-      counted = refl;
+      counted = omega arith;
       faulty = inl (fault, refl, h.faulty);
     })
 session-refused bytes None (Refused fault) h =
@@ -111,7 +111,7 @@ session-refused bytes (Some session) (Refused fault) h =
       lead = lead;
       more = h.begun;
       fewer = fewer-events (length session.events) most_events lead.few h.refused.1;
-      counted = refl;
+      counted = omega arith;
       faulty = inr (h.text, h.rest, h.stands, h.refused.2);
     })
 session-refused bytes None (Extra place) h = absurd (false≢true h.full)

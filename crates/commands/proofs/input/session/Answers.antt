@@ -13,7 +13,7 @@ returns-in-Some-clause-refused g c why is =
     let state = c.read_input.new.reader.feed in
     let told : c.session_refused.result ≡ why = cc in
     let same : session_refusal_of (texts_in state + 1) c.in-Some.stopped ≡ c.session_refused.result =
-    ap (λ n. session_refusal_of (n + 1) c.in-Some.stopped) (sym c.texts.ensures) ∙ sym c.session_refused.ensures in (
+    ap (λ n. session_refusal_of (n + 1) c.in-Some.stopped) (sym c.texts-number.ensures) ∙ sym c.session_refused.ensures in (
       read.0,
       read.1,
       subst (IsSessionRefusal read.0) (same ∙ told)
