@@ -96,7 +96,10 @@ fn is_cut_anywhere(alloc: Global, bytes: &[u8]) -> Result<bool, AllocError> {
 fn scanned(alloc: Global, bytes: &[u8]) -> Result<Vec<u8>, AllocError> {
     let mut told = Vec::new(alloc);
     let mut at = 0;
-    'values: while skip_space(bytes, at) < bytes.len() {
+    for _ in 0..u64::MAX {
+        if at >= bytes.len() || skip_space(bytes, at) == bytes.len() {
+            break;
+        }
         match scan(alloc, bytes, at) {
             Ok((value, after)) => {
                 tell(&mut told, value.as_bytes())?;

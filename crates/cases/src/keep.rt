@@ -46,6 +46,7 @@ impl Board {
         let Board { store, view } = self;
         let id = e.id.try_clone()?;
         let (mut store, mut view) = (store, view);
+        store.tell();
         match store.take(e) {
             Ok(_) => {}
             Err(_) => return Err(AllocError),

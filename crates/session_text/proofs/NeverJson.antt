@@ -2,7 +2,7 @@
 use Rattle.std.proofs.Common.{◌≡◌, ℕ, List, Option, Some, None, Result, Ok, Err, codes, sym, subst}
 use Rattle.scene_json.specs.Compact.{Member as Pair}
 use Rattle.scene_json.specs.declared.fault.JsonFault.{JsonFault}
-use Rattle.elem.specs.Forms.{IsObject, IsWholeNumber}
+use Rattle.elem.specs.Forms.{IsText, IsObject, IsWholeNumber}
 use Rattle.elem_read.specs.declared.fault.ElemFault.{ElemFault}
 use Rattle.scene_file.specs.Reading.{value_unless_null}
 use Rattle.scene_file.specs.declared.fault.SceneFault.{SceneFault}
@@ -32,8 +32,8 @@ gives-form x = record { never = λ found e. apart x (Json found) (sym e) }
 member-form : {A : Type 0} (IsForm : Option (List ℕ) → A → Type 0) (members : List Pair) (name : MemberName) → HasForm (MemberOf name IsForm members)
 member-form IsForm members name = record { never = λ found is. other found name is.1 }
   where
-    other : (found : JsonFault) (name : MemberName) → Json found ≡ faults.Member name → ⊥
-    other found name e = cc
+    other : (found : JsonFault) (which : MemberName) → Json found ≡ faults.Member which → ⊥
+    other found which e = cc
 
 then-form : {A B : Type 0} (First : Result A TextFault → Type 0) (Next : A → Result B TextFault → Type 0) → HasForm First → ((x : A) → HasForm (Next x)) → HasForm (Then First Next)
 then-form {A = A} {B = B} First Next first next = record { never = never }
@@ -44,10 +44,10 @@ then-form {A = A} {B = B} First Next first next = record { never = never }
 
 -- ---- members that several have
 text-form : (members : List Pair) (name : MemberName) → HasForm (TextOf name members)
-text-form members name = member-form _ members name
+text-form members name = member-form IsText members name
 
 drawn-form : (value : List ℕ) → HasForm (IsDrawnAs value)
-drawn-form value = record { never = λ found is. other found is.0 is.1.0 }
+drawn-form value = record { never = λ found is. other found is.0 is.1 }
   where
     other : (found : JsonFault) (why : ElemFault) → Json found ≡ faults.Element 0 why → ⊥
     other found why e = cc
@@ -94,13 +94,13 @@ command-form members = then-form _ _ (member-form HasObject members names.Comman
 -- ---- the header and the events
 scene-form : (found : Option (List ℕ)) → HasForm (SceneOf found)
 scene-form None = gives-form None
-scene-form (Some value) = record { never = λ found is. other found is.0 is.1.0 }
+scene-form (Some value) = record { never = λ found is. other found is.0 is.1 }
   where
     other : (found : JsonFault) (why : SceneFault) → Json found ≡ faults.Scene why → ⊥
     other found why e = cc
 
 drawings-form : (values : List (List ℕ)) → HasForm (AreDrawnAs values)
-drawings-form values = record { never = λ found is. other found is.0 is.1 is.2.0 }
+drawings-form values = record { never = λ found is. other found is.0 is.1 is.2 }
   where
     other : (found : JsonFault) (place : ℕ) (why : ElemFault) → Json found ≡ faults.Element place why → ⊥
     other found place why e = cc

@@ -1,4 +1,5 @@
 use Rattle.std.proofs.Common.{◌≡◌, ◌+◌, Err, ap, subst, sym, ◌∙◌, drop, arith}
+use Rattle.scene_file.proofs.Blanks.{Stands-behind}
 use Rattle.session_text.specs.Sessions.{IsSessionFault}
 use Rattle.session_text.specs.declared.fault.SessionFault.{SessionFault}
 use Rattle.session_text.specs.declared.fault.SessionFault.TheVariants.{In}
@@ -17,6 +18,11 @@ returns-in-Err-Fault-clause-fault c fault e =
     subst (IsSessionFault c.args.bytes.now) (ap (λ n. In (n + 1) (Json c.in-Err-Fault.fault)) (sym c.texts-number.ensures) ∙ same)
     (next-missing c.args.bytes.now c.args.feed.now c.args.at c.in-Err-Fault.fault c.requires.leads c.requires.more c.requires.room
     (c.in-Err-Fault.ensures.fault c.in-Err-Fault.fault (ap Err c.in-Err-Fault.field-0-is)))
+
+pub returns-in-Ok-take-clause-within : goal.returns-in-Ok-take-clause-within
+returns-in-Ok-take-clause-within c =
+    let end = c.in-Ok.ensures.within.1 in
+    (Stands-behind c.args.bytes.now c.in-Ok.found.0 c.args.at c.in-Ok.found.1 end c.in-Ok.ensures.found, end)
 
 pub returns-in-Ok-take-clause-leads : goal.returns-in-Ok-take-clause-leads
 returns-in-Ok-take-clause-leads c =

@@ -1,5 +1,6 @@
 -- The live elements before and after an update was taken differ at its id alone.
-use Rattle.std.proofs.Common.{◌≡◌, ◌||◌, ◌&&◌, ℕ, Bool, true, false, List, [], ◌∷◌, Some, None, if◌then◌else◌, refl, sym, ap, subst, ◌∙◌}
+use Rattle.std.proofs.Common.{◌≡◌, ◌||◌, ◌&&◌, ℕ, Bool, true, false, List, [], ◌∷◌, Some, None, if◌then◌else◌, bytes_eq, refl, sym, ap, subst, ◌∙◌}
+use Rattle.std.specs.List.{list_any}
 use Rattle.frac_keys.specs.Rising.{are_rising}
 use Rattle.elem.specs.ElementValue.{ElementValue}
 use Rattle.elem.specs.Order.{has_id}
@@ -17,3 +18,10 @@ same-but-at : (old new : List ElementValue) (e : ElementValue) → are_rising (i
 same-but-at old new e rising has id other =
     let at_other = ap (λ b. if b && is_taken old e then Some e else element_of old id) (not-one (has_id id e) other) in
     element-live None old id rising ∙ (ap if_live (sym (has.each id ∙ at_other)) ∙ sym (element-live None new id has.ordered))
+
+pub update-requires : goal.update-requires
+update-requires c id other =
+    let named : c.from_ref.result.now ≡ c.args.e.id ∷ [] = c.from_ref.ensures.value ∙ (ap (λ i. i ∷ []) c.in_ok-id.ensures ∙ ap (λ (e : ElementValue). e.id ∷ []) c.e.view_is) in
+    ap (λ es. element_of es id) c.self.invariant
+    ∙ same-but-at c.self.inside.store.elements c.take.new.self.elements c.args.e c.tell.ensures.ordered c.in-Ok.ensures.after id
+        (subst (λ ids. list_any (bytes_eq id) ids ≡ false) named other)
