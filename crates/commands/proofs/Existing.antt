@@ -31,7 +31,7 @@ use Rattle.commands.specs.declared.status.Refusal.{Refusal}
 use Rattle.commands.specs.declared.status.Refusal.TheVariants as refusal
 use Rattle.commands.specs.declared.words.Command.{Command}
 use Rattle.commands.specs.declared.words.Command.TheVariants.{Restore, Merge, State, Pictures, Replay}
-use Rattle.commands.proofs.Blanks.{Runs-either}
+use Rattle.commands.proofs.Runs.{Runs-either}
 use Rattle.commands.proofs.Scenes.{ScenesLead-more}
 
 -- ---- the scenes of an input, or its first faulty text

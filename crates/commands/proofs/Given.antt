@@ -17,14 +17,6 @@ pub within-excludes : (before after : SourceEnd) → IsSome before.left → Gave
 within-excludes before after told (x, long, first) (y, short, second) =
     omega (arith, one-length before.left after.left x y told first second)
 
-gave-none : (left : Option (List ℕ)) → left ≡ option_map (λ rest. [] ++ rest) left
-gave-none None = refl
-gave-none (Some rest) = refl
-
--- Where the content is told and nothing was given, that isn't more than the limit.
-pub nothing-excludes : (before : SourceEnd) → IsSome before.left → GaveTooMuch (span before before) → ⊥
-nothing-excludes before told long = within-excludes before before told long ([], omega arith, gave-none before.left)
-
 given-less : (bytes given : List ℕ) (before after : Option (List ℕ)) → before ≡ Some bytes → before ≡ option_map (λ rest. given ++ rest) after → length given ≤ length bytes
 given-less bytes given before None told gave = let no : Some bytes ≡ None = sym told ∙ gave in cc
 given-less bytes given before (Some rest) told gave =

@@ -8,7 +8,7 @@ use Rattle.scene_file.specs.declared.scene.Scene.{Scene}
 use Rattle.scene_file.specs.declared.fault.SceneFault.{SceneFault}
 use Rattle.scene_file.proofs.Once.{scene-once, scene-some, fault-once, fault-none}
 use Rattle.commands.specs.Input.{ScenesLead, HasScenes, HasFaultyText, HasExtraText}
-use Rattle.commands.proofs.Blanks.{Runs-either}
+use Rattle.commands.proofs.Runs.{Runs-either}
 
 -- no scene stands at the front
 abbrev HasNoScene : List ℕ → Type 0

@@ -1,7 +1,6 @@
 pub mod Again
 pub mod Answering
 pub mod Asking
-pub mod Blanks
 mod Closing
 pub mod Drills
 pub mod Existing
@@ -12,8 +11,11 @@ pub mod Lines
 mod Never
 pub mod Numbers
 pub mod Opening
-pub mod Served
+pub mod Readers
 pub mod Reread
+pub mod Runs
 pub mod Scenes
+pub mod Served
+pub mod SessionTexts
 pub mod States
 pub mod Unique

@@ -9,7 +9,3 @@ pub ScenesLead-more : (bytes rest next : List ℕ) (scenes : List Scene) (scene 
 ScenesLead-more bytes rest next [] scene lead at = (next, subst (λ b. IsSceneAt b scene next) (sym lead) at, refl)
 ScenesLead-more bytes rest next (first ∷ scenes) scene (middle, stands, lead) at =
     (middle, stands, ScenesLead-more middle rest next scenes scene lead at)
-
-pub one-more : (scenes : List Scene) (scene : Scene) → scenes ++ scene ∷ [] ≡ [] → ⊥
-one-more [] scene e = cc
-one-more (first ∷ scenes) scene e = cc

@@ -7,7 +7,9 @@ pub mod Ends
 pub mod Faults
 pub mod Input
 pub mod Pictures
+pub mod Readers
 pub mod Replays
 pub mod Services
 pub mod Serving
+pub mod SessionTexts
 pub mod Words

@@ -1,19 +1,21 @@
 //! What an input is answered with, command by command.
 
-ghost use Rattle.std.specs.Prelude.{◌≡◌, ◌++◌, ℕ, [], ◌∷◌, List as Items, Ok, Err, IfOk, OnOk};
+ghost use Rattle.std.specs.Prelude.{◌≡◌, ◌⊎◌, ◌++◌, ℕ, [], ◌∷◌, List as Items, Ok, Err, IfOk, IfErr, OnOk, IsSome};
+ghost use Rattle.board_io.specs.Counts.{Rose};
 ghost use Rattle.scene_file.specs.Heads.{Heading, IsJoinedHead};
 ghost use Rattle.session.specs.Printed.{IsReportText};
 ghost use Rattle.session_text.specs.Facts.{IsSession};
 ghost use Rattle.commands.specs.Answers.{IsAnswer, IsBoardOf, IsShownAs, IsStoredAs, HasPictures, heads_of, updates_of};
+ghost use Rattle.commands.specs.Ends.{span, GaveWithin, GaveTooMuch, WasRead};
 ghost use Rattle.commands.specs.Faults.{newline};
+ghost use Rattle.commands.specs.declared.status.Fault.{Fault};
 ghost use Rattle.commands.specs.declared.status.Refusal.{Refusal};
 
-use crate::load;
-use crate::load::{one_scene, scenes};
+use crate::input::{one_scene, session, some_scenes};
 use crate::pictures::picture_lines;
-use crate::status::Refusal;
+use crate::status::{Fault, Refusal};
 use crate::words::Command;
-use board_io::{Bytes, List, Stop};
+use board_io::{Bytes, List, Source};
 use elem::Element;
 use elem_store::Store;
 use scene_file::{Head, Layout, Scene, join, scene_text, state_text};
@@ -22,33 +24,54 @@ use session_text::Session;
 use std::alloc::{AllocError, Global};
 use view::view_of;
 
-/// The text that the command answers these bytes with, or the fault that they are refused for.
-pub(crate) fn answer(alloc: Global, command: Command, bytes: Bytes) -> Result<Bytes, Stop<Refusal>>
-    ensures text { IfOk result (λ text. IsAnswer command bytes (Ok text)) }
-    ensures fault { (fault : Refusal) → result ≡ Err (Stop.Fault fault) → IsAnswer command bytes (Err fault) }
+/// The text that the command answers the input with, which is read to its end.
+pub(crate) fn answer<S: Source>(
+    alloc: Global,
+    command: Command,
+    input: &mut S,
+) -> Result<Bytes, Fault>
+    ensures text { IfOk result (λ text. (bytes : Items ℕ) × WasRead (span (S.seen input.old) (S.seen input.new)) bytes
+        × IsAnswer command bytes (Ok text)) }
+    ensures refused { (why : Refusal) → result ≡ Err (Fault.Refused why)
+        → (bytes : Items ℕ) × WasRead (span (S.seen input.old) (S.seen input.new)) bytes × IsAnswer command bytes (Err why) }
+    ensures read_fault { result ≡ Err Fault.Read → Rose (S.seen input.old).faults (S.seen input.new).faults
+        × GaveWithin (span (S.seen input.old) (S.seen input.new)) }
+    ensures too_long { result ≡ Err Fault.TooLong → GaveTooMuch (span (S.seen input.old) (S.seen input.new)) }
+    ensures long { IsSome (S.seen input.old).left → GaveTooMuch (span (S.seen input.old) (S.seen input.new))
+        → (result ≡ Err Fault.Memory) ⊎ (result ≡ Err Fault.TooLong) }
+    ensures only { IfErr result (λ fault. (fault ≡ Fault.Memory) ⊎ ((fault ≡ Fault.Read) ⊎ ((fault ≡ Fault.TooLong)
+        ⊎ ((why : Refusal) × (fault ≡ Fault.Refused why))))) }
 {
     match command {
         Command::Restore(layout) => {
-            let scene = one_scene(alloc, bytes)?;
-            Ok(shown_text(alloc, List::from_vec(vec![in alloc; scene]?), layout)?)
+            let scene = one_scene(alloc, input)?;
+            Ok(restored_text(alloc, scene, layout)?)
         }
         Command::Merge(layout) => {
-            let scenes = scenes(alloc, bytes)?;
+            let scenes = some_scenes(alloc, input)?;
             Ok(shown_text(alloc, scenes, layout)?)
         }
         Command::State => {
-            let scenes = scenes(alloc, bytes)?;
+            let scenes = some_scenes(alloc, input)?;
             Ok(stored_text(alloc, scenes)?)
         }
         Command::Pictures => {
-            let scenes = scenes(alloc, bytes)?;
+            let scenes = some_scenes(alloc, input)?;
             Ok(pictures_text(alloc, scenes)?)
         }
         Command::Replay => {
-            let session = load::session(alloc, bytes)?;
+            let session = session(alloc, input)?;
             Ok(replayed_text(alloc, &session)?)
         }
     }
+}
+
+/// The text of one scene as its board shows it, and a newline.
+fn restored_text(alloc: Global, scene: Scene, layout: Layout) -> Result<Bytes, AllocError>
+    ensures { IfOk result (IsShownAs (scene ∷ []) layout) }
+{
+    let scenes = vec![in alloc; scene]?;
+    shown_text(alloc, List::from_vec(scenes), layout)
 }
 
 /// The text of the scene that the board of these scenes shows, and a newline. The store is dropped as soon as its view is

@@ -4,13 +4,14 @@
 mod answer;
 mod drilling;
 mod headline;
+mod input;
 pub mod laws;
-mod load;
 mod pictures;
 mod running;
 mod serving;
 mod status;
 mod sure;
+mod taking;
 mod words;
 
 pub use running::board;

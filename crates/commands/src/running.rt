@@ -7,7 +7,7 @@ ghost use Rattle.commands.specs.Answers.{IsAnswer, Converges};
 ghost use Rattle.commands.specs.Causes.{HasCause};
 ghost use Rattle.commands.specs.Closing.{IsServedToClose};
 ghost use Rattle.commands.specs.Drills.{DrillsAgree, EndsDrilling};
-ghost use Rattle.commands.specs.Ends.{span, EndsWith, GaveWithin, GaveTooMuch, HasLeft, WasDone, WasDoneInPart, WasRead, WasRefused};
+ghost use Rattle.commands.specs.Ends.{span, EndsWith, GaveWithin, GaveTooMuch, HasLeft, WasDone, WasDoneInPart, WasRefused};
 ghost use Rattle.commands.specs.Faults.{status_of, Noted};
 ghost use Rattle.commands.specs.Replays.{ChangesAreCaptured, NothingIsPending, PrintedScenesAgree, RedoRepeats, ReplicasConverge, ReplicasStoreTheBest, UndoBringsBack};
 ghost use Rattle.commands.specs.Services.{IsDrillWithinLimits, IsService};
@@ -28,11 +28,8 @@ use crate::serving::{noted_end, serve};
 use crate::status::{Fault, Status};
 use crate::words;
 use crate::words::{Command, Drill, Request, Service};
-use board_io::{Bytes, Failed, Links, ReadError, Sink, Source, Stop, read_all, write_all};
+use board_io::{Bytes, Failed, Links, Sink, Source, write_all};
 use std::alloc::Global;
-
-/// How many bytes an input has at most.
-const LIMIT: usize = 67108864;
 
 /// Does what the words ask for, over this input, output and links. On every answer but `Done` and `Idle` one line on the
 /// fault goes to the notes; a fault of the notes changes no status. The whole output is made before its first byte is
@@ -250,32 +247,9 @@ fn run<S: Source, K: Sink>(
         → (result ≡ Err Fault.Memory) ⊎ (result ≡ Err Fault.TooLong) }
     ensures output_kept { IfErr result (λ fault. fault ≢ Fault.Write → output.new ≡ output.old) }
 {
-    let bytes = input_of(alloc, input)?;
-    let text = match answer(alloc, command, bytes) {
-        Ok(text) => text,
-        Err(Stop::Fault(refusal)) => return Err(Fault::Refused(refusal)),
-        Err(Stop::Memory) => return Err(Fault::Memory),
-    };
+    let text = answer(alloc, command, input)?;
     match write_all(output, text.as_slice()) {
         Ok(()) => Ok(()),
         Err(Failed) => Err(Fault::Write),
-    }
-}
-
-/// The whole input, within the limit.
-pub(crate) fn input_of<S: Source>(alloc: Global, input: &mut S) -> Result<Bytes, Fault>
-    ensures read { IfOk result (WasRead (span (S.seen input.old) (S.seen input.new))) }
-    ensures read_fault { result ≡ Err Fault.Read → Rose (S.seen input.old).faults (S.seen input.new).faults
-        × GaveWithin (span (S.seen input.old) (S.seen input.new)) }
-    ensures too_long { result ≡ Err Fault.TooLong → GaveTooMuch (span (S.seen input.old) (S.seen input.new)) }
-    ensures long { IsSome (S.seen input.old).left → GaveTooMuch (span (S.seen input.old) (S.seen input.new))
-        → (result ≡ Err Fault.Memory) ⊎ (result ≡ Err Fault.TooLong) }
-    ensures only { IfErr result (λ fault. (fault ≡ Fault.Memory) ⊎ ((fault ≡ Fault.Read) ⊎ (fault ≡ Fault.TooLong))) }
-{
-    match read_all(alloc, input, LIMIT) {
-        Ok(bytes) => Ok(bytes),
-        Err(Stop::Fault(ReadError::Failed)) => Err(Fault::Read),
-        Err(Stop::Fault(ReadError::TooLong)) => Err(Fault::TooLong),
-        Err(Stop::Memory) => Err(Fault::Memory),
     }
 }

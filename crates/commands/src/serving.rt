@@ -1,11 +1,12 @@
 //! A room that is served: from the scenes that it begins with to the scene that is written at its end.
 
-ghost use Rattle.std.specs.Prelude.{◌≡◌, ◌≢◌, ◌⊎◌, Some, [], List as Items, IfOk, IfErr, Err};
+ghost use Rattle.std.specs.Prelude.{◌≡◌, ◌≢◌, ◌⊎◌, ℕ, Some, [], List as Items, IfOk, IfErr, Err};
 ghost use Rattle.board_io.specs.Counts.{Rose};
 ghost use Rattle.room_core.specs.Serving.{at_start, IsServed};
 ghost use Rattle.room_core.specs.Told.{told_of};
 ghost use Rattle.scene_file.specs.declared.scene.Scene.{Scene};
 ghost use Rattle.commands.specs.Answers.{IsBoardOf, IsRefusal};
+ghost use Rattle.commands.specs.Ends.{span, GaveWithin, GaveTooMuch, WasRead};
 ghost use Rattle.commands.specs.Input.{HasScenes};
 ghost use Rattle.commands.specs.Services.{IsService};
 ghost use Rattle.commands.specs.Serving.{links_seen, end_line, end_status, HasServingCause, IsSceneOfStored, WasHeld, WasServedTo};
@@ -14,13 +15,10 @@ ghost use Rattle.commands.specs.declared.status.Fault.{Fault};
 ghost use Rattle.commands.specs.declared.status.Refusal.{Refusal};
 
 use crate::answer::{board_of, ended};
-use crate::load::scenes;
-use crate::running::input_of;
+use crate::input::some_scenes;
 use crate::status::{Fault, Refusal, Status};
 use crate::words::Service;
-use board_io::{
-    Bytes, Failed, LinkError, Links, Piece, Sink, Source, Stop, write_all, write_pieces,
-};
+use board_io::{Bytes, Failed, LinkError, Links, Piece, Sink, Source, write_all, write_pieces};
 use elem_store::Store;
 use room_core::{Room, ServeEnd, serve_room};
 use scene_file::{Head, Layout, scene_text};
@@ -46,12 +44,7 @@ pub(crate) fn serve<S: Source, K: Sink, L: Links>(
     ensures output_kept { IfErr result (λ fault. fault ≢ Fault.Write → output.new ≡ output.old) }
     ensures links_kept { IfErr result (λ fault. fault ≢ Fault.Write → fault ≢ Fault.Memory → links.new ≡ links.old) }
 {
-    let bytes = input_of(alloc, input)?;
-    let (head, store) = match begin(alloc, bytes) {
-        Ok(begun) => begun,
-        Err(Stop::Fault(refusal)) => return Err(Fault::Refused(refusal)),
-        Err(Stop::Memory) => return Err(Fault::Memory),
-    };
+    let (head, store) = begin(alloc, input)?;
     let (end, text) = hold(alloc, service, &head, store, links)?;
     match write_all(output, text.as_slice()) {
         Ok(()) => Ok(end),
@@ -59,12 +52,19 @@ pub(crate) fn serve<S: Source, K: Sink, L: Links>(
     }
 }
 
-/// The joined head of the scenes of an input, and what is stored of them.
-fn begin(alloc: Global, input: Bytes) -> Result<(Head, Store), Stop<Refusal>>
-    ensures begun { IfOk result (λ begun. (scenes : Items Scene) × HasScenes input scenes × IsBoardOf scenes begun.0 begun.1.elements) }
-    ensures refusal { (refusal : Refusal) → result ≡ Err (Stop.Fault refusal) → IsRefusal input refusal }
+/// The joined head of the scenes of the input, and what is stored of them.
+fn begin<S: Source>(alloc: Global, input: &mut S) -> Result<(Head, Store), Fault>
+    ensures begun { IfOk result (λ begun. (bytes : Items ℕ) × WasRead (span (S.seen input.old) (S.seen input.new)) bytes
+        × ((scenes : Items Scene) × HasScenes bytes scenes × IsBoardOf scenes begun.0 begun.1.elements)) }
+    ensures refused { (why : Refusal) → result ≡ Err (Fault.Refused why)
+        → (bytes : Items ℕ) × WasRead (span (S.seen input.old) (S.seen input.new)) bytes × IsRefusal bytes why }
+    ensures read_fault { result ≡ Err Fault.Read → Rose (S.seen input.old).faults (S.seen input.new).faults
+        × GaveWithin (span (S.seen input.old) (S.seen input.new)) }
+    ensures too_long { result ≡ Err Fault.TooLong → GaveTooMuch (span (S.seen input.old) (S.seen input.new)) }
+    ensures only { IfErr result (λ fault. (fault ≡ Fault.Memory) ⊎ ((fault ≡ Fault.Read) ⊎ ((fault ≡ Fault.TooLong)
+        ⊎ ((why : Refusal) × (fault ≡ Fault.Refused why))))) }
 {
-    let scenes = scenes(alloc, input)?;
+    let scenes = some_scenes(alloc, input)?;
     Ok(board_of(alloc, scenes)?)
 }
 

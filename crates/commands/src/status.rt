@@ -9,6 +9,7 @@ ghost use Rattle.commands.specs.declared.status.Refusal.{Refusal};
 use board_io::{Piece, Sink, write_pieces};
 use scene_file::SceneFault;
 use session_text::TextFault;
+use std::alloc::AllocError;
 
 /// A piece that says nothing.
 const NONE: Piece = Piece::Words("");
@@ -80,6 +81,17 @@ pub enum Fault {
     Refused(Refusal),
     /// The output could not be written.
     Write,
+}
+
+impl From<AllocError> for Fault {
+    ghost use Rattle.std.specs.Prelude.{◌≡◌};
+    ghost use Rattle.commands.specs.declared.status.Fault.TheVariants.{Memory};
+
+    ghost from_gives = { λ _ fault. fault ≡ Memory };
+
+    fn from(_error: AllocError) -> Fault {
+        Fault::Memory
+    }
 }
 
 impl Fault {

@@ -1,0 +1,149 @@
+//! The scenes or the session of an input.
+
+ghost use Rattle.std.specs.Prelude.{◌≡◌, ◌⊎◌, ℕ, [], ◌∷◌, List as Items, IfOk, IfErr, Err, IsSome};
+ghost use Rattle.board_io.specs.Counts.{Rose};
+ghost use Rattle.intake.specs.Texts.{AreRead};
+ghost use Rattle.session_text.specs.Facts.{IsSession};
+ghost use Rattle.session_text.specs.Sessions.{IsSessionOf};
+ghost use Rattle.commands.specs.Answers.{IsOneRefusal, IsRefusal, IsSessionRefusal};
+ghost use Rattle.commands.specs.Ends.{span, GaveWithin, GaveTooMuch, WasRead};
+ghost use Rattle.commands.specs.Input.{HasScenes};
+ghost use Rattle.commands.specs.Readers.{refusal_of};
+ghost use Rattle.commands.specs.SessionTexts.{session_refusal_of};
+ghost use Rattle.commands.specs.declared.status.Refusal.{Refusal};
+
+use crate::status::{Fault, Refusal};
+use crate::taking::{OneScene, OneSession, Scenes};
+use board_io::{List, ReadError, Source, Stop};
+use intake::{Reader, Stopped, read_texts};
+use scene_file::{Scene, SceneFault};
+use session_text::{Session, SessionFeed, TextFault};
+use std::alloc::Global;
+
+/// How many bytes an input has at most.
+const LIMIT: usize = 67108864;
+
+/// The one scene that the input is.
+pub(crate) fn one_scene<S: Source>(alloc: Global, input: &mut S) -> Result<Scene, Fault>
+    ensures scene { IfOk result (λ scene. (bytes : Items ℕ) × WasRead (span (S.seen input.old) (S.seen input.new)) bytes
+        × HasScenes bytes (scene ∷ [])) }
+    ensures refused { (why : Refusal) → result ≡ Err (Fault.Refused why)
+        → (bytes : Items ℕ) × WasRead (span (S.seen input.old) (S.seen input.new)) bytes × IsOneRefusal bytes why }
+    ensures read_fault { result ≡ Err Fault.Read → Rose (S.seen input.old).faults (S.seen input.new).faults
+        × GaveWithin (span (S.seen input.old) (S.seen input.new)) }
+    ensures too_long { result ≡ Err Fault.TooLong → GaveTooMuch (span (S.seen input.old) (S.seen input.new)) }
+    ensures long { IsSome (S.seen input.old).left → GaveTooMuch (span (S.seen input.old) (S.seen input.new))
+        → (result ≡ Err Fault.Memory) ⊎ (result ≡ Err Fault.TooLong) }
+    ensures only { IfErr result (λ fault. (fault ≡ Fault.Memory) ⊎ ((fault ≡ Fault.Read) ⊎ ((fault ≡ Fault.TooLong)
+        ⊎ ((why : Refusal) × (fault ≡ Fault.Refused why))))) }
+{
+    let mut reader = OneScene { read: None };
+    let found = read_input(alloc, input, &mut reader)?;
+    if let Some(stopped) = found {
+        return Err(Fault::Refused(refused(1, stopped)));
+    }
+    let Some(scene) = reader.read else {
+        unreachable!();
+    };
+    Ok(scene)
+}
+
+/// The scenes that the input is, one at least.
+pub(crate) fn some_scenes<S: Source>(alloc: Global, input: &mut S) -> Result<List<Scene>, Fault>
+    ensures scenes { IfOk result (λ scenes. (bytes : Items ℕ) × WasRead (span (S.seen input.old) (S.seen input.new)) bytes
+        × HasScenes bytes scenes) }
+    ensures refused { (why : Refusal) → result ≡ Err (Fault.Refused why)
+        → (bytes : Items ℕ) × WasRead (span (S.seen input.old) (S.seen input.new)) bytes × IsRefusal bytes why }
+    ensures read_fault { result ≡ Err Fault.Read → Rose (S.seen input.old).faults (S.seen input.new).faults
+        × GaveWithin (span (S.seen input.old) (S.seen input.new)) }
+    ensures too_long { result ≡ Err Fault.TooLong → GaveTooMuch (span (S.seen input.old) (S.seen input.new)) }
+    ensures long { IsSome (S.seen input.old).left → GaveTooMuch (span (S.seen input.old) (S.seen input.new))
+        → (result ≡ Err Fault.Memory) ⊎ (result ≡ Err Fault.TooLong) }
+    ensures only { IfErr result (λ fault. (fault ≡ Fault.Memory) ⊎ ((fault ≡ Fault.Read) ⊎ ((fault ≡ Fault.TooLong)
+        ⊎ ((why : Refusal) × (fault ≡ Fault.Refused why))))) }
+{
+    let mut reader = Scenes {
+        read: Vec::new(alloc),
+    };
+    let found = read_input(alloc, input, &mut reader)?;
+    let scenes = List::from_vec(reader.read);
+    match found {
+        None => Ok(scenes),
+        Some(stopped) => Err(Fault::Refused(refused(scenes.as_slice().len() + 1, stopped))),
+    }
+}
+
+/// The session that the input is.
+pub(crate) fn session<S: Source>(alloc: Global, input: &mut S) -> Result<Session, Fault>
+    ensures session { IfOk result (λ session. (bytes : Items ℕ) × WasRead (span (S.seen input.old) (S.seen input.new)) bytes
+        × IsSessionOf bytes session) }
+    ensures kept { IfOk result IsSession }
+    ensures refused { (why : Refusal) → result ≡ Err (Fault.Refused why)
+        → (bytes : Items ℕ) × WasRead (span (S.seen input.old) (S.seen input.new)) bytes × IsSessionRefusal bytes why }
+    ensures read_fault { result ≡ Err Fault.Read → Rose (S.seen input.old).faults (S.seen input.new).faults
+        × GaveWithin (span (S.seen input.old) (S.seen input.new)) }
+    ensures too_long { result ≡ Err Fault.TooLong → GaveTooMuch (span (S.seen input.old) (S.seen input.new)) }
+    ensures long { IsSome (S.seen input.old).left → GaveTooMuch (span (S.seen input.old) (S.seen input.new))
+        → (result ≡ Err Fault.Memory) ⊎ (result ≡ Err Fault.TooLong) }
+    ensures only { IfErr result (λ fault. (fault ≡ Fault.Memory) ⊎ ((fault ≡ Fault.Read) ⊎ ((fault ≡ Fault.TooLong)
+        ⊎ ((why : Refusal) × (fault ≡ Fault.Refused why))))) }
+{
+    let mut reader = OneSession {
+        feed: SessionFeed::new(alloc),
+    };
+    let found = read_input(alloc, input, &mut reader)?;
+    if let Some(stopped) = found {
+        let number = reader.feed.texts() + 1;
+        return Err(Fault::Refused(session_refused(number, stopped)));
+    }
+    let Some(session) = reader.feed.finish() else {
+        unreachable!();
+    };
+    Ok(session)
+}
+
+/// Hands the texts of the input, within the limit, to a reader that has read none.
+fn read_input<S: Source, R: Reader>(
+    alloc: Global,
+    input: &mut S,
+    reader: &mut R,
+) -> Result<Option<Stopped<R::Fault>>, Fault>
+    requires { (R.seen reader.old).has_read [] }
+    ensures read { IfOk result (λ stopped. (bytes : Items ℕ) × WasRead (span (S.seen input.old) (S.seen input.new)) bytes
+        × AreRead bytes (R.seen reader.new) stopped) }
+    ensures read_fault { result ≡ Err Fault.Read → Rose (S.seen input.old).faults (S.seen input.new).faults
+        × GaveWithin (span (S.seen input.old) (S.seen input.new)) }
+    ensures too_long { result ≡ Err Fault.TooLong → GaveTooMuch (span (S.seen input.old) (S.seen input.new)) }
+    ensures long { IsSome (S.seen input.old).left → GaveTooMuch (span (S.seen input.old) (S.seen input.new))
+        → (result ≡ Err Fault.Memory) ⊎ (result ≡ Err Fault.TooLong) }
+    ensures only { IfErr result (λ fault. (fault ≡ Fault.Memory) ⊎ ((fault ≡ Fault.Read) ⊎ (fault ≡ Fault.TooLong))) }
+{
+    match read_texts(alloc, input, LIMIT, reader) {
+        Ok(stopped) => Ok(stopped),
+        Err(Stop::Fault(ReadError::Failed)) => Err(Fault::Read),
+        Err(Stop::Fault(ReadError::TooLong)) => Err(Fault::TooLong),
+        Err(Stop::Memory) => Err(Fault::Memory),
+    }
+}
+
+/// What an input is refused for whose text with this number isn't read.
+fn refused(number: usize, stopped: Stopped<SceneFault>) -> Refusal
+    ensures { result ≡ refusal_of number stopped }
+{
+    match stopped {
+        Stopped::Faulty(fault) => Refusal::Text(number, SceneFault::Json(fault)),
+        Stopped::Refused(fault) => Refusal::Text(number, fault),
+        Stopped::Extra(place) => Refusal::Extra(place),
+    }
+}
+
+/// What an input that is to be a session is refused for, whose text with this number isn't read.
+fn session_refused(number: u64, stopped: Stopped<TextFault>) -> Refusal
+    ensures { result ≡ session_refusal_of number stopped }
+{
+    match stopped {
+        Stopped::Faulty(fault) => Refusal::Event(number, TextFault::Json(fault)),
+        Stopped::Refused(fault) => Refusal::Event(number, fault),
+        Stopped::Extra(_) => Refusal::TooMany,
+    }
+}
