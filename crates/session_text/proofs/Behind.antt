@@ -45,10 +45,6 @@ fewer-events session few room = fewer (length session.events) most_events few ro
     fewer : (n most : ℕ) → n ≤ most → (n == most) ≡ false → n < most
     fewer n most few e = grind (arith, nat_tests)
 
-pub texts-few : (bytes : List ℕ) (state : Option Session) (at : ℕ) → LeadsUpTo bytes state at → texts_in state ≤ most_events + 1
-texts-few bytes None at lead = omega arith
-texts-few bytes (Some session) at lead = omega (arith, lead.few)
-
 -- A text that stands at the offset and is taken leads up to the offset after it.
 pub leads-next : (bytes text : List ℕ) (before after : Option Session) (at end : ℕ) → LeadsUpTo bytes before at → is_full before ≡ false → Stands (drop at bytes) text (drop end bytes)
     → end ≤ length bytes → TakesText before text after → LeadsUpTo bytes after end
@@ -64,11 +60,6 @@ leads-next bytes text (Some before) None at end lead room stands within takes = 
 leads-next bytes text (Some before) (Some session) at end lead room stands within (event, says, same) =
     subst (λ (s : Session). LeadTo bytes (header s.replicas s.seed s.scene) s.events end) (sym same)
     (leads-more bytes (header before.replicas before.seed before.scene) before.events at end event lead (fewer-events before lead.few room) (text, stands, says) within)
-
-pub begun-next : (text : List ℕ) (before after : Option Session) → TakesText before text after → is_none after ≡ false
-begun-next text None None takes = absurd takes
-begun-next text (Some before) None takes = absurd takes
-begun-next text before (Some session) takes = refl
 
 -- The texts of the session so far, that of the header among them, lead up to the offset.
 pub record IsReadTo (bytes : List ℕ) (state : Option Session) (at : ℕ) : Type 0 where

@@ -1,5 +1,5 @@
 -- A text that is there has no fault of its JSON form.
-use Rattle.std.proofs.Common.{◌≡◌, ℕ, List, Option, Some, None, Result, Ok, Err, codes, sym, subst}
+use Rattle.std.proofs.Common.{◌≡◌, ℕ, List, Option, Some, None, Result, Err, codes, sym, subst}
 use Rattle.scene_json.specs.Compact.{Member as Pair}
 use Rattle.scene_json.specs.declared.fault.JsonFault.{JsonFault}
 use Rattle.elem.specs.Forms.{IsText, IsObject, IsWholeNumber}

@@ -1,5 +1,5 @@
 -- A session with its header alone is one, and so is one with one event more.
-use Rattle.std.proofs.Common.{◌≡◌, ℕ, ◌+◌, ◌≤◌, ◌<◌, List, [], ◌∷◌, ◌++◌, Ok, length, arith, length-append}
+use Rattle.std.proofs.Common.{ℕ, ◌+◌, ◌<◌, List, [], ◌∷◌, ◌++◌, Ok, length, arith, length-append}
 use Rattle.std.specs.List.{AllByRecursion}
 use Rattle.session_text.specs.Events.{HeaderText, EventText}
 use Rattle.session_text.specs.Facts.{IsAmong, IsEventWithinLimits, BringsElements, PicksMade, PickMade, IsSession}

@@ -1,5 +1,5 @@
 -- What is kept of a session so far while its texts are taken.
-use Rattle.std.proofs.Common.{◌≡◌, ℕ, ◌+◌, ◌≤◌, List, [], ◌∷◌, ◌++◌, Bool, false, Option, Some, None, Result, Ok, Err, OnOk, OnErr, length, sym, ap, subst, ◌∙◌, arith}
+use Rattle.std.proofs.Common.{◌≡◌, ℕ, ◌+◌, ◌≤◌, List, [], ◌∷◌, ◌++◌, false, Option, Some, None, Result, Ok, Err, OnOk, OnErr, length, sym, ap, subst, ◌∙◌, arith}
 use Rattle.board_io.specs.declared.stop.Stop.{Stop}
 use Rattle.session_text.specs.Events.{HeaderText, EventText}
 use Rattle.session_text.specs.Facts.{IsSession}

@@ -1,15 +1,11 @@
-use Rattle.std.proofs.Common.{◌≡◌, ◌+◌, Err, ap, subst, sym, ◌∙◌, drop, arith}
+use Rattle.std.proofs.Common.{◌≡◌, ◌+◌, Err, ap, subst, sym, ◌∙◌, drop}
 use Rattle.scene_file.proofs.Blanks.{Stands-behind}
 use Rattle.session_text.specs.Sessions.{IsSessionFault}
 use Rattle.session_text.specs.declared.fault.SessionFault.{SessionFault}
 use Rattle.session_text.specs.declared.fault.SessionFault.TheVariants.{In}
-use Rattle.session_text.specs.declared.fault.TextFault.{TextFault}
 use Rattle.session_text.specs.declared.fault.TextFault.TheVariants.{Json}
-use Rattle.session_text.proofs.Behind.{texts-few, leads-next, begun-next, next-missing, next-refused}
+use Rattle.session_text.proofs.Behind.{leads-next, next-missing, next-refused}
 use Rattle.session_text.proofs.reading.next_text.Goals as goal
-
-pub overflow_add-number : goal.overflow_add-number
-overflow_add-number c = omega (arith, c.texts-number.ensures, texts-few c.args.bytes.now c.args.feed.now c.args.at c.requires.leads)
 
 pub returns-in-Err-Fault-clause-fault : goal.returns-in-Err-Fault-clause-fault
 returns-in-Err-Fault-clause-fault c fault e =
@@ -28,9 +24,6 @@ pub returns-in-Ok-take-clause-leads : goal.returns-in-Ok-take-clause-leads
 returns-in-Ok-take-clause-leads c =
     leads-next c.args.bytes.now c.in-Ok.found.0 c.args.feed.now c.take.new.self c.args.at c.in-Ok.found.1 c.requires.leads c.requires.room
     c.in-Ok.ensures.found c.in-Ok.ensures.within.1 c.in-Ok-take.ensures.taken
-
-pub returns-in-Ok-take-clause-begun : goal.returns-in-Ok-take-clause-begun
-returns-in-Ok-take-clause-begun c = begun-next c.in-Ok.found.0 c.args.feed.now c.take.new.self c.in-Ok-take.ensures.taken
 
 pub returns-in-Err-Fault-take-clause-fault : goal.returns-in-Err-Fault-take-clause-fault
 returns-in-Err-Fault-take-clause-fault c fault e =

@@ -24,4 +24,4 @@ update-requires c id other =
     let named : c.from_ref.result.now ≡ c.args.e.id ∷ [] = c.from_ref.ensures.value ∙ (ap (λ i. i ∷ []) c.in_ok-id.ensures ∙ ap (λ (e : ElementValue). e.id ∷ []) c.e.view_is) in
     ap (λ es. element_of es id) c.self.invariant
     ∙ same-but-at c.self.inside.store.elements c.take.new.self.elements c.args.e c.tell.ensures.ordered c.in-Ok.ensures.after id
-        (subst (λ ids. list_any (bytes_eq id) ids ≡ false) named other)
+    (subst (λ ids. list_any (bytes_eq id) ids ≡ false) named other)
