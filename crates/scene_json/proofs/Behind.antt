@@ -36,7 +36,7 @@ plain-quote b h = grind (arith, nat_tests)
 pub plain-slash : (b : ℕ) → is_plain b ≡ true → eqb b 92 ≡ false
 plain-slash b h = grind (arith, nat_tests)
 
-hex-plain : (b : ℕ) → is_hex b ≡ true → is_plain b ≡ true
+pub hex-plain : (b : ℕ) → is_hex b ≡ true → is_plain b ≡ true
 hex-plain b h = grind (arith, nat_tests)
 
 -- a pass inside a string goes over plain bytes

@@ -25,7 +25,7 @@ scalar-not-high c h = grind (arith, nat_tests)
 scalar-not-low : (c : ℕ) → IsScalar c → is_low c ≡ false
 scalar-not-low c h = grind (arith, nat_tests)
 
-content-bare : (c : ℕ) (ps : List Piece) → IsScalar c → content (bare c ∷ ps) ≡ encode_utf8 c ++ content ps
+pub content-bare : (c : ℕ) (ps : List Piece) → IsScalar c → content (bare c ∷ ps) ≡ encode_utf8 c ++ content ps
 unfolding content
 content-bare c ps h = ap encode_utf8_all (characters-first c (map piece_value ps) (scalar-not-high c h))
     ∙ ap (λ u. encode_utf8 u ++ encode_utf8_all (characters (map piece_value ps))) (lone-same c h)

@@ -30,8 +30,6 @@ pub mod Quoting
 pub mod Decimals
 pub mod Collapsed
 pub mod CompactLaws
-pub mod Walks
-pub mod Turns
 pub mod Spellings
 mod Rows
 pub mod Tried
@@ -54,4 +52,7 @@ pub mod Quotes
 pub mod Appended
 mod Placing
 mod QuotedNames
-mod Writing
+mod Drafting
+mod Ready
+mod Alongside
+mod Written

@@ -2,8 +2,9 @@
 use Rattle.std.proofs.Common.{◌≡◌, ℕ, suc, ◌+◌, ◌-◌, ◌≤◌, List, [], ◌∷◌, take, drop, length, Bool, true, Option, Some, None, refl, sym, ap, subst, ◌∙◌, inl, inr, arith, length-drop}
 use Rattle.std.specs.List.{AllByRecursion, prefix_len}
 use Rattle.std.proofs.lemmas.Bool.{cases_Bool, false≢true}
+use Rattle.std.proofs.lemmas.Bool.Decides.{nat_tests}
 use Rattle.std.proofs.lemmas.List.Sums.{prefix_len-le-length}
-use Rattle.scene_json.specs.Characters.{is_space, is_digit}
+use Rattle.scene_json.specs.Characters.{is_space, is_digit, is_plain}
 use Rattle.scene_json.specs.declared.number.Part.TheVariants.{Whole, Fraction, Exponent}
 use Rattle.scene_json.specs.declared.brackets.Bracket.{Bracket}
 use Rattle.scene_json.specs.declared.machine.Place.TheVariants.{Plain}
@@ -12,6 +13,7 @@ use Rattle.scene_json.specs.declared.machine.Mode.TheVariants.{Fresh, Name, Colo
 use Rattle.scene_json.specs.declared.machine.Mode.TheVariants as mode
 use Rattle.scene_json.specs.declared.machine.Move.TheVariants.{To}
 use Rattle.scene_json.specs.Machine.{state, top, applied, moved, is_bare, keeps_bare, keeps_digits, keeps_space}
+use Rattle.scene_json.specs.Writing.{AreAlike, place_in}
 use Rattle.scene_json.proofs.Machines.{run}
 
 -- ---- the bytes that leave a mode as it is
@@ -58,3 +60,23 @@ passed_all p P each bytes at end is =
 pub stay_run : (m : Mode) (st : List Bracket) (xs : List ℕ) → AllByRecursion (λ b. moved m (top st) b ≡ To m) xs → run 128 (state m st) xs ≡ state m st
 stay_run m st [] all = refl
 stay_run m st (x ∷ xs) all = ap (λ move. run 128 (applied 128 st x move) xs) all.0 ∙ stay_run m st xs all.1
+
+-- ---- what is written of it
+pub bare-alike : (m : Mode) (xs : List ℕ) → keeps_bare m ≡ true → AllByRecursion (λ b. is_plain b ≡ true) xs → AreAlike (place_in m) xs
+bare-alike (Quoted r Plain) xs keeps plain = inr (inl (refl, plain))
+bare-alike m xs keeps plain = absurd (false≢true keeps)
+
+pub digits-alike : (m : Mode) (xs : List ℕ) → keeps_digits m ≡ true → AllByRecursion (λ b. is_digit b ≡ true) xs → AreAlike (place_in m) xs
+digits-alike (Number part) xs keeps digits = inr (inr (refl, inr digits))
+digits-alike m xs keeps digits = absurd (false≢true keeps)
+
+pub space-alike : (m : Mode) (top : Option Bracket) (xs : List ℕ) → keeps_space m top ≡ true → AllByRecursion (λ b. is_space b ≡ true) xs → AreAlike (place_in m) xs
+space-alike mode.Value top xs keeps blank = inr (inr (refl, inl blank))
+space-alike Name top xs keeps blank = inr (inr (refl, inl blank))
+space-alike Colon top xs keeps blank = inr (inr (refl, inl blank))
+space-alike Fresh top xs keeps blank = inr (inr (refl, inl blank))
+space-alike After top xs keeps blank = inr (inr (refl, inl blank))
+space-alike m top xs keeps blank = absurd (false≢true keeps)
+
+pub bare-plain : (b : ℕ) → is_bare b ≡ true → is_plain b ≡ true
+bare-plain b is = grind (arith, nat_tests)

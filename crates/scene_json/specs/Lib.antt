@@ -2,6 +2,7 @@ pub mod Alike
 pub mod Appending
 pub mod Characters
 pub mod Compact
+pub mod Drafts
 pub mod Faults
 pub mod Feeding
 pub mod Layout
@@ -18,3 +19,4 @@ pub mod TheOne
 pub mod Tree
 pub mod Value
 pub mod Walk
+pub mod Writing

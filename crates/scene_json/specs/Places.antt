@@ -24,8 +24,3 @@ AreWithin size places = All (λ (place : Place). IsWithin size place.name × IsW
 -- a member with its name quoted
 abbrev pub quoted : Member → Member
 quoted member = (quote member.0, member.1)
-
--- members whose names are quoted, each behind a mark, and the bracket that closes an object
-abbrev pub joined : ℕ → List Member → List ℕ
-joined mark [] = 125 ∷ []
-joined mark (member ∷ members) = mark ∷ (member.0 ++ 58 ∷ (member.1 ++ joined 44 members))

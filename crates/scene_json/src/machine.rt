@@ -7,6 +7,7 @@ ghost use Rattle.std.specs.List.{AllByRecursion};
 ghost use Rattle.scene_json.specs.Characters.{is_space, is_hex};
 ghost use Rattle.scene_json.specs.Machine.{closes_bracket, after_comma, after_string, value_begun, value_move, fresh_move, name_begun, name_move, colon_move, after_move, plain_move, led_move, escape_move, hex_move, sequence_move, string_move, number_move, first_letter, letters_after, word_move, moved, string_fault, bracket_fault, fault_of, top, step, ended, Stepped};
 ghost use Rattle.scene_json.specs.Runs.{is_over};
+ghost use Rattle.scene_json.specs.Writing.{place_in, AreAlike};
 ghost use Rattle.scene_json.specs.declared.machine.Move.TheVariants.{To};
 
 use crate::brackets::{Bracket, Brackets};
@@ -147,6 +148,7 @@ impl Machine {
         requires { at ≤ length bytes.now }
         ensures within { (at ≤ result) × (result ≤ length bytes.now) }
         ensures stays { AllByRecursion (λ b. moved self.now.mode (top self.now.brackets) b ≡ To self.now.mode) (take (result - at) (drop at bytes.now)) }
+        ensures alike { AreAlike (place_in self.now.mode) (take (result - at) (drop at bytes.now)) }
     {
         stay_end(self.mode, self.brackets.top(), bytes, at)
     }

@@ -4,6 +4,7 @@ ghost use Rattle.std.specs.Prelude.{◌≡◌, ◌+◌, ◌-◌, ◌≤◌, take
 ghost use Rattle.std.specs.List.{AllByRecursion, prefix_len};
 ghost use Rattle.scene_json.specs.Characters.{is_digit};
 ghost use Rattle.scene_json.specs.Machine.{is_bare, keeps_bare, keeps_digits, keeps_space, moved};
+ghost use Rattle.scene_json.specs.Writing.{place_in, AreAlike};
 ghost use Rattle.scene_json.specs.declared.machine.Move.TheVariants.{To};
 
 use crate::brackets::Bracket;
@@ -17,6 +18,7 @@ pub(crate) fn stay_end(mode: Mode, top: Option<Bracket>, bytes: &[u8], at: usize
     requires { at ≤ length bytes.now }
     ensures within { (at ≤ result) × (result ≤ length bytes.now) }
     ensures stays { AllByRecursion (λ b. moved mode top b ≡ To mode) (take (result - at) (drop at bytes.now)) }
+    ensures alike { AreAlike (place_in mode) (take (result - at) (drop at bytes.now)) }
 {
     if keeps_bare(mode) {
         skip_bare(bytes, at)

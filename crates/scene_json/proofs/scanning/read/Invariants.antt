@@ -1,0 +1,18 @@
+use Rattle.std.proofs.Common.{◌≡◌, ◌-◌, ◌≤◌, length, take, drop}
+use Rattle.scene_json.specs.Machine.{state}
+use Rattle.scene_json.specs.Writing.{HasWritten, place_in, writing_of}
+use Rattle.scene_json.proofs.Machines.{run, start}
+use Rattle.scene_json.proofs.scanning.read.Given as goal
+
+-- the machine has run over the bytes before next, and what they make is written
+abbrev pub invariant-loop-next : goal.invariant-loop-next
+invariant-loop-next l = record {
+  low : l.at ≤ l.next;
+  high : l.next ≤ length l.bytes;
+  runs : run 128 start (take (l.next - l.at) (drop l.at l.bytes)) ≡ state l.machine.mode l.machine.brackets;
+  place : place_in l.machine.mode ≡ (writing_of l.writer).place;
+  written : HasWritten (take (l.next - l.at) (drop l.at l.bytes)) (writing_of l.writer);
+}
+
+abbrev pub decreases-loop-next : goal.decreases-loop-next
+decreases-loop-next l = length l.bytes - l.next
