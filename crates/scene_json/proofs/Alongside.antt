@@ -4,6 +4,7 @@ use Rattle.std.proofs.lemmas.Bool.{cases_Bool, cond_both, eqb-true, false≢true
 use Rattle.std.proofs.lemmas.Bool.Decides.{nat_tests}
 use Rattle.scene_json.specs.Characters.{is_space, is_hex}
 use Rattle.scene_json.specs.Lines.{Place, outside, inside}
+use Rattle.scene_json.specs.Tree.{letter_meaning}
 use Rattle.scene_json.specs.declared.number.Part.{Part}
 use Rattle.scene_json.specs.declared.number.Part.TheVariants.{Minus, Zero, Whole, Dot, Fraction, Letter, Sign, Exponent}
 use Rattle.scene_json.specs.declared.sequence.Tail.{Tail}
@@ -239,7 +240,7 @@ sequence-lands r n tail front b = elim (cases_Bool (tail_fits tail b)) [
 -- ---- both
 lands : (m : Mode) (front : Option Bracket) (level b : ℕ) → Lands (moved m front b) (place_by (deed (place_in m) level b) (place_in m))
 lands (Quoted r Plain) front level b = subst (Lands (moved (Quoted r Plain) front b)) (sym (deed-quoted level b)) (plain-lands r front b)
-lands (Quoted r Escape) front level b = cond_both (b == 117) _ _ In (λ _. refl) (λ _. cond_both (_ == 0) _ _ In (λ _. tt) (λ _. refl))
+lands (Quoted r Escape) front level b = cond_both (b == 117) _ _ In (λ _. refl) (λ _. cond_both (letter_meaning b == 0) Refuse (To (Quoted r Plain)) In (λ _. tt) (λ _. refl))
 lands (Quoted r (Hex more)) front level b = subst (Lands (moved (Quoted r (Hex more)) front b)) (sym (deed-quoted level b)) (hex-lands r more front b)
 lands (Quoted r (Sequence n tail)) front level b = subst (Lands (moved (Quoted r (Sequence n tail)) front b)) (sym (deed-quoted level b)) (sequence-lands r n tail front b)
 lands mode.Value front level b = subst (Lands (moved mode.Value front b)) (sym (deed-between level b)) (moved-between mode.Value front b refl)

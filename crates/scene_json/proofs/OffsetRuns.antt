@@ -1,8 +1,8 @@
 -- The machine over the bytes from an offset on.
-use Rattle.std.proofs.Common.{◌≡◌, ℕ, suc, ◌+◌, ◌-◌, ◌<◌, ◌≤◌, List, [], ◌∷◌, length, take, drop, ◌++◌, get_or, Some, None, sym, ap, ap₂, subst, ◌∙◌, arith, length-drop}
+use Rattle.std.proofs.Common.{◌≡◌, ℕ, suc, ◌+◌, ◌-◌, ◌<◌, ◌≤◌, List, [], ◌∷◌, length, take, drop, ◌++◌, get_or, Some, None, sym, ap, ap₂, subst, ◌∙◌, arith, length-drop, append_assoc}
 use Rattle.std.specs.Prelude.{slice_get}
 use Rattle.std.specs.List.{AllByRecursion}
-use Rattle.std.proofs.lemmas.List.{drop-drop, drop-take, get_or-drop, drop_all, take-append-drop, take-take}
+use Rattle.std.proofs.lemmas.List.{append_cancel_right, drop-drop, drop-take, get_or-drop, drop_all, take-append-drop, take-take}
 use Rattle.std.proofs.lemmas.Option.{slice_get-get_or, slice_get_past}
 use Rattle.scene_json.specs.Value.{Stands}
 use Rattle.scene_json.specs.Faults.{IsFirstFault, IsJsonFault}
@@ -29,6 +29,22 @@ module _ (bytes : List ℕ) (at i : ℕ) (low : at ≤ i) where
 
   behind : drop (i - at) (drop at bytes) ≡ drop i bytes
   behind = let place : at + (i - at) ≡ i = omega arith in drop-drop (i - at) at bytes ∙ ap (λ k. drop k bytes) place
+
+  -- the bytes before i and the one there, a stretch behind them, and a value that ends with them
+  pub one_more : i < length bytes → take (i + 1 - at) (drop at bytes) ≡ take (i - at) (drop at bytes) ++ get_or bytes i 0 ∷ []
+  one_more high =
+      let one : suc (i - at) ≡ i + 1 - at = omega arith in
+      ap (λ k. take k (drop at bytes)) (sym one) ∙ take_one (drop at bytes) (i - at) (get_or bytes i 0) (got high)
+
+  pub stretch_more : (j : ℕ) → i ≤ j → take (j - at) (drop at bytes) ≡ take (i - at) (drop at bytes) ++ take (j - i) (drop i bytes)
+  stretch_more j up =
+      let sum : (i - at) + (j - i) ≡ j - at = omega arith in
+      ap (λ k. take k (drop at bytes)) (sym sum) ∙ take-plus (i - at) (j - i) (drop at bytes) ∙ ap (λ xs. take (i - at) (drop at bytes) ++ take (j - i) xs) behind
+
+  pub whole_value : (text : List ℕ) (s : Stands (drop at bytes) text (drop i bytes)) → take (i - at) (drop at bytes) ≡ s.blank ++ s.value
+  whole_value text s =
+      append_cancel_right (take (i - at) (drop at bytes)) (s.blank ++ s.value) (drop i bytes)
+      (ap (λ r. take (i - at) (drop at bytes) ++ r) (sym behind) ∙ take-append-drop (i - at) (drop at bytes) ∙ s.parts ∙ sym (append_assoc s.blank s.value (drop i bytes)))
 
   module _ (m : Mode) (st : List Bracket) (is : run 128 start (take (i - at) (drop at bytes)) ≡ state m st) where
     pub read_on : (o : Outcome) → i < length bytes → step 128 m st (get_or bytes i 0) ≡ o → run 128 start (take (i + 1 - at) (drop at bytes)) ≡ o

@@ -35,6 +35,7 @@ pub(crate) fn value_at(alloc: Global, bytes: &[u8], at: usize) -> Result<Raw, Al
     requires within { at ≤ length bytes.now }
     requires stands { (text rest : List ℕ) × Stands (drop at bytes.now) text rest }
     ensures value { IfOk result (λ value. (text rest : List ℕ) → Stands (drop at bytes.now) text rest → text ≡ value) }
+    ensures some { IfOk result (λ value. at < length bytes.now) }
 {
     match scan(alloc, bytes, at) {
         Ok((value, _end)) => Ok(value),
