@@ -66,10 +66,10 @@ deed-between level b = elim (cases_Bool (is_space b)) [
   | inr s ↦ elim (cases_Bool (b == 34)) [
     | inl e ↦ rw (s, e) refl
     | inr e ↦ rw (s, e) (
-      cond_both (b == 44) _ _ Stays (λ _. cond_both (level == 0) Parted Push Stays (λ _. refl) (λ _. refl))
-      (λ _. cond_both (b == 58) _ _ Stays (λ _. refl) (λ _. cond_both (b == 91) _ _ Stays (λ _. refl) (λ _. cond_both (b == 93) _ _ Stays (λ _. refl)
-      (λ _. cond_both (b == 123) _ _ Stays (λ _. refl) (λ _. cond_both (b == 125) _ _ Stays (λ _. refl) (λ _. refl))))))
-    )
+        cond_both (b == 44) _ _ Stays (λ _. cond_both (level == 0) Parted Push Stays (λ _. refl) (λ _. refl))
+        (λ _. cond_both (b == 58) _ _ Stays (λ _. refl) (λ _. cond_both (b == 91) _ _ Stays (λ _. refl) (λ _. cond_both (b == 93) _ _ Stays (λ _. refl)
+        (λ _. cond_both (b == 123) _ _ Stays (λ _. refl) (λ _. cond_both (b == 125) _ _ Stays (λ _. refl) (λ _. refl))))))
+        )
   ]
 ]
   where
@@ -120,9 +120,9 @@ number_move-out None ends front b = cond_both ends _ _ Out (λ _. after-out fron
 
 begun-out : (b : ℕ) → eqb b 34 ≡ false → Out (value_begun b)
 begun-out b other = rw other (
-  cond_both (b == 91) _ _ Out (λ _. refl) (λ _. cond_both (b == 123) _ _ Out (λ _. refl) (λ _. cond_both (b == 110) _ _ Out (λ _. refl)
-  (λ _. cond_both (b == 116) _ _ Out (λ _. refl) (λ _. cond_both (b == 102) _ _ Out (λ _. refl) (λ _. number-out (part_begun b))))))
-)
+    cond_both (b == 91) _ _ Out (λ _. refl) (λ _. cond_both (b == 123) _ _ Out (λ _. refl) (λ _. cond_both (b == 110) _ _ Out (λ _. refl)
+    (λ _. cond_both (b == 116) _ _ Out (λ _. refl) (λ _. cond_both (b == 102) _ _ Out (λ _. refl) (λ _. number-out (part_begun b))))))
+    )
 
 word-out : (o : Option Letters) → Out (word_on o)
 word-out None = refl

@@ -149,28 +149,34 @@ module _ (written : List ℕ) where
         is = g.is;
         same = λ none are. g.same none are;
       }) r))
-  pieces-ready (letter b ∷ ps) rest whole s t escapes d ds g r = (tt, λ new e. subst (λ w. Is w (b ∷ (flat_map piece_spelling ps ++ 34 ∷ rest))) (sym e) (
+  pieces-ready (letter b ∷ ps) rest whole s t escapes d ds g r = (
     tt,
-    λ new e. subst (λ w. Is w (flat_map piece_spelling ps ++ 34 ∷ rest)) (sym e) (pieces-ready ps rest whole ((s ++ 92 ∷ []) ++ b ∷ []) t true d ds (record {
-      good = g.good.1;
-      parts = g.parts ∙ sym (one-more s 92 (b ∷ (flat_map piece_spelling ps ++ 34 ∷ []))) ∙ sym (one-more (s ++ 92 ∷ []) b (flat_map piece_spelling ps ++ 34 ∷ []));
-      is = g.is;
-      same = λ none. absurd (false≢true (sym none));
-    }) r),
-  ))
-  pieces-ready (unit a b c x ∷ ps) rest whole s t escapes d ds g r = (tt, λ new e. subst (λ w. Is w (117 ∷ a ∷ b ∷ c ∷ x ∷ (flat_map piece_spelling ps ++ 34 ∷ rest))) (sym e) (
-    tt,
-    λ new e. subst (λ w. Is w (a ∷ b ∷ c ∷ x ∷ (flat_map piece_spelling ps ++ 34 ∷ rest))) (sym e) (
-      keep-ready (a ∷ b ∷ c ∷ x ∷ []) (flat_map piece_spelling ps ++ 34 ∷ rest) ((s ++ 92 ∷ []) ++ 117 ∷ []) true d ds (list_all-each _ is_plain hex-plain (a ∷ b ∷ c ∷ x ∷ []) g.good.0)
-      (pieces-ready ps rest whole (((s ++ 92 ∷ []) ++ 117 ∷ []) ++ a ∷ b ∷ c ∷ x ∷ []) t true d ds (record {
+    λ new e. subst (λ w. Is w (b ∷ (flat_map piece_spelling ps ++ 34 ∷ rest))) (sym e) (
+      tt,
+      λ new e. subst (λ w. Is w (flat_map piece_spelling ps ++ 34 ∷ rest)) (sym e) (pieces-ready ps rest whole ((s ++ 92 ∷ []) ++ b ∷ []) t true d ds (record {
         good = g.good.1;
-        parts = g.parts ∙ sym (one-more s 92 (117 ∷ a ∷ b ∷ c ∷ x ∷ (flat_map piece_spelling ps ++ 34 ∷ []))) ∙ sym (one-more (s ++ 92 ∷ []) 117 (a ∷ b ∷ c ∷ x ∷ (flat_map piece_spelling ps ++ 34 ∷ [])))
-            ∙ sym (append_assoc ((s ++ 92 ∷ []) ++ 117 ∷ []) (a ∷ b ∷ c ∷ x ∷ []) (flat_map piece_spelling ps ++ 34 ∷ []));
+        parts = g.parts ∙ sym (one-more s 92 (b ∷ (flat_map piece_spelling ps ++ 34 ∷ []))) ∙ sym (one-more (s ++ 92 ∷ []) b (flat_map piece_spelling ps ++ 34 ∷ []));
         is = g.is;
         same = λ none. absurd (false≢true (sym none));
-      }) r)
+      }) r),
     ),
-  ))
+  )
+  pieces-ready (unit a b c x ∷ ps) rest whole s t escapes d ds g r = (
+    tt,
+    λ new e. subst (λ w. Is w (117 ∷ a ∷ b ∷ c ∷ x ∷ (flat_map piece_spelling ps ++ 34 ∷ rest))) (sym e) (
+      tt,
+      λ new e. subst (λ w. Is w (a ∷ b ∷ c ∷ x ∷ (flat_map piece_spelling ps ++ 34 ∷ rest))) (sym e) (
+          keep-ready (a ∷ b ∷ c ∷ x ∷ []) (flat_map piece_spelling ps ++ 34 ∷ rest) ((s ++ 92 ∷ []) ++ 117 ∷ []) true d ds (list_all-each _ is_plain hex-plain (a ∷ b ∷ c ∷ x ∷ []) g.good.0)
+          (pieces-ready ps rest whole (((s ++ 92 ∷ []) ++ 117 ∷ []) ++ a ∷ b ∷ c ∷ x ∷ []) t true d ds (record {
+            good = g.good.1;
+            parts = g.parts ∙ sym (one-more s 92 (117 ∷ a ∷ b ∷ c ∷ x ∷ (flat_map piece_spelling ps ++ 34 ∷ []))) ∙ sym (one-more (s ++ 92 ∷ []) 117 (a ∷ b ∷ c ∷ x ∷ (flat_map piece_spelling ps ++ 34 ∷ [])))
+                ∙ sym (append_assoc ((s ++ 92 ∷ []) ++ 117 ∷ []) (a ∷ b ∷ c ∷ x ∷ []) (flat_map piece_spelling ps ++ 34 ∷ []));
+            is = g.is;
+            same = λ none. absurd (false≢true (sym none));
+          }) r)
+          ),
+    ),
+  )
 
   string-ready : (ps : List Piece) (rest : List ℕ) (d : Drafted) (ds : List Drafted) → AllByRecursion IsPiece ps
       → Is (between (grown d (quote (content ps))) ds) rest → Is (between d ds) (string_spelling ps ++ rest)
@@ -249,9 +255,12 @@ module _ (written : List ℕ) where
         let deep : eqb (l + 1) 0 ≡ false = grind (arith, nat_tests) in
         subst (Is (between (draft ms n c (l + 1)) ds)) (sym (regroup-next (label_spelling label) (spelling value) blank 44 (values_spelling values) (93 ∷ rest)))
         (space-ready label _ _ ds good.0 (tree-ready value _ ms n c (l + 1) ds good.1 (blank-ready blank _ _ ds good.2
-        (rw deep (tt, λ new e. subst (λ w. Is w (values_spelling values ++ 93 ∷ rest)) (sym e)
-        (items-ready values rest ms n ((c ++ compact value) ++ 44 ∷ []) l ds good.3
-        (subst (λ s. Is (between (draft ms n s l) ds) rest) (items-step c (compact value) values) r)))))))
+        (rw deep (
+          tt,
+          λ new e. subst (λ w. Is w (values_spelling values ++ 93 ∷ rest)) (sym e)
+              (items-ready values rest ms n ((c ++ compact value) ++ 44 ∷ []) l ds good.3
+              (subst (λ s. Is (between (draft ms n s l) ds) rest) (items-step c (compact value) values) r)),
+        )))))
 
     members-ready : (values : Values) (rest : List ℕ) (done : List Member) (o : Drafted) (ds : List Drafted) → AreGood object values
         → Is (between (grown (grown o (pairs_text (collapsed (done ++ map quoted (members values))))) (125 ∷ [])) ds) rest
