@@ -226,26 +226,6 @@ run-pieces (bare c ∷ ps) after good =
 pub unread-Run : {xs text after : List ℕ} → Unread xs text after → Run xs text after (prefix_len is_plain xs)
 unread-Run {xs} {text} {after} u = rw (u.parts, (sym u.means)) (run-pieces u.pieces after u.good)
 
--- that run is its own quote
-quoted-pieces : (ps : List Piece) (after : List ℕ) → AllByRecursion IsPiece ps → (xs : List ℕ) → xs ≡ flat_map piece_spelling ps ++ 34 ∷ after →
-    flat_map quoted_byte (take (prefix_len is_plain xs) xs) ≡ take (prefix_len is_plain xs) xs
-quoted-pieces [] after good xs e = rw e refl
-quoted-pieces (letter b ∷ ps) after good xs e = rw e refl
-quoted-pieces (unit a b c d ∷ ps) after good xs e = rw e refl
-quoted-pieces (bare c ∷ ps) after good xs e =
-    let bytes = encode_utf8 c in
-    let ys = flat_map piece_spelling ps ++ 34 ∷ after in
-    let n = prefix_len is_plain ys in
-    let same : xs ≡ bytes ++ ys = e ∙ append_assoc bytes (flat_map piece_spelling ps) (34 ∷ after) in
-    let count : prefix_len is_plain (bytes ++ ys) ≡ length bytes + n = prefix-run is_plain bytes ys (plain-bare c good.0.2 good.0.3) in
-    let front : take (prefix_len is_plain xs) xs ≡ bytes ++ take n ys =
-    rw same (ap (λ k. take k (bytes ++ ys)) count ∙ take-append-add bytes ys n) in
-    ap (flat_map quoted_byte) front ∙ flat_map-append quoted_byte bytes (take n ys)
-    ∙ ap₂ (λ x y. x ++ y) (quoted-bare c good.0) (quoted-pieces ps after good.1 ys refl) ∙ sym front
-
-pub unread-quoted : {xs text after : List ℕ} → Unread xs text after → flat_map quoted_byte (take (prefix_len is_plain xs) xs) ≡ take (prefix_len is_plain xs) xs
-unread-quoted {xs} {text} {after} u = quoted-pieces u.pieces after u.good xs u.parts
-
 pub starts-ahead : {xs text after : List ℕ} (h : UnitAhead xs text after) (v : ℕ) →
     v ≡ piece_value (unit (get_or xs 2 0) (get_or xs 3 0) (get_or xs 4 0) (get_or xs 5 0)) → StartsWithUnit xs v
 starts-ahead {xs} {text} {after} h v e = record {

@@ -32,7 +32,6 @@ pub mod Collapsed
 pub mod CompactLaws
 pub mod Spellings
 mod Rows
-pub mod Tried
 -- ---- the walks over compact texts: how they nest, are laid out, and are taken apart
 pub mod Literals
 pub mod Forms

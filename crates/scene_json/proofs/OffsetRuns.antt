@@ -13,7 +13,6 @@ use Rattle.scene_json.specs.Machine.{Outcome, state, ended, refused, top, moved,
 use Rattle.scene_json.proofs.Machines.{run, start, run-append}
 use Rattle.scene_json.proofs.Ends.{take_one, ended_stands, refused_faulty, done_stands, undone_faulty}
 use Rattle.scene_json.proofs.Places.{told}
-use Rattle.scene_json.proofs.Reading.{Stands-once}
 use Rattle.scene_json.proofs.Stays.{stay_run}
 
 -- a front of two parts
@@ -66,9 +65,6 @@ module _ (bytes : List ℕ) (at i : ℕ) (low : at ≤ i) where
     pub end_found : i < length bytes → step 128 m st (get_or bytes i 0) ≡ ended (get_or bytes i 0) → (text : List ℕ) × Stands (drop at bytes) text (drop i bytes)
     end_found high e = subst (λ r. (text : List ℕ) × Stands (drop at bytes) text r) behind (ended_stands (drop at bytes) (i - at) m st is (get_or bytes i 0) (got high) e)
 
-    pub end_only : i < length bytes → step 128 m st (get_or bytes i 0) ≡ ended (get_or bytes i 0) → (text rest : List ℕ) → Stands (drop at bytes) text rest → rest ≡ drop i bytes
-    end_only high e text rest s = (Stands-once s (end_found high e).1).1
-
     -- the byte at i is refused
     pub refused_fault : i < length bytes → step 128 m st (get_or bytes i 0) ≡ refused → IsFirstFault bytes at (fault_of m (top st) (Some (get_or bytes i 0)) i)
     refused_fault high e =
@@ -95,9 +91,6 @@ module _ (bytes : List ℕ) (at i : ℕ) (low : at ≤ i) where
 
       pub done_found : step 128 m st 32 ≡ ended 32 → (text : List ℕ) × Stands (drop at bytes) text (drop (length bytes) bytes)
       done_found e = subst (λ r. (text : List ℕ) × Stands (drop at bytes) text r) nothing (done_stands (drop at bytes) (i - at) m st is all e)
-
-      pub finished_only : step 128 m st 32 ≡ ended 32 → (text rest : List ℕ) → Stands (drop at bytes) text rest → rest ≡ drop (length bytes) bytes
-      finished_only e text rest s = (Stands-once s (done_found e).1).1
 
       pub undone_fault : (step 128 m st 32 ≡ ended 32 → ⊥) → IsFirstFault bytes at (fault_of m (top st) None (length bytes))
       undone_fault undone =

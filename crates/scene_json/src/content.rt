@@ -3,7 +3,7 @@
 ghost use Rattle.std.specs.Prelude.{◌≡◌, ◌≢◌, ℕ, [], ◌∷◌, true, ◌+◌, ◌*◌, ◌^◌, ◌<◌, ◌≤◌, ◌-◌, List, ◌++◌, take, drop, length, slice_get, slice_index, Some, IfOk, OnOk, IfSome, IfNone, encode_utf8};
 ghost use Rattle.std.specs.List.{prefix_len, list_all};
 ghost use Rattle.scene_json.specs.Characters;
-ghost use Rattle.scene_json.specs.Characters.{is_hex, is_plain, quote};
+ghost use Rattle.scene_json.specs.Characters.{is_hex, is_plain};
 ghost use Rattle.scene_json.specs.Tree.{unit};
 ghost use Rattle.scene_json.specs.Compact.{lone, piece_value};
 ghost use Rattle.scene_json.specs.Compact;
@@ -27,13 +27,11 @@ pub(crate) fn text_at(alloc: Global, value: &Raw, at: usize) -> Result<(Text, us
     }
 }
 
-/// Where the closing quotation mark of the string at an offset stands, if no character in the string is escaped. Then the
-/// string is the quote of its text as it stands.
-pub(crate) fn plain_end(bytes: &[u8], at: usize) -> Option<usize>
+/// Where the closing quotation mark of the string at an offset stands, if no character in the string is escaped.
+fn plain_end(bytes: &[u8], at: usize) -> Option<usize>
     requires { (text rest : List ℕ) × Quoted (drop at bytes.now) text rest }
     ensures text { IfSome result (λ end. (text rest : List ℕ) → Quoted (drop at bytes.now) text rest
         → (take (end - (at + 1)) (drop (at + 1) bytes.now) ≡ text) × (drop (end + 1) bytes.now ≡ rest)) }
-    ensures quote { IfSome result (λ end. (text rest : List ℕ) → Quoted (drop at bytes.now) text rest → take (end + 1 - at) (drop at bytes.now) ≡ quote text) }
     ensures within { IfSome result (λ end. (at < end) × (end < length bytes.now)) }
 {
     let end = run_end(bytes, at + 1);
