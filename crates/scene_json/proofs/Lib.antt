@@ -55,3 +55,4 @@ mod Drafting
 mod Ready
 mod Alongside
 mod Written
+mod Copying

@@ -1,6 +1,6 @@
 -- What each byte of a value makes of what was written of the value. Only contracts of private functions cite this.
 -- This project's own, over RFC 8259, sections 2 to 7.
-use Rattle.std.specs.Prelude.{◌≡◌, ℕ, ◌+◌, ◌-◌, List, [], ◌∷◌, ◌++◌, Option, None, Some, Bool, true, false, ◌==◌, ◌⊎◌, if◌then◌else◌}
+use Rattle.std.specs.Prelude.{◌≡◌, ℕ, ◌+◌, ◌-◌, ◌≤◌, take, drop, slice_index, List, [], ◌∷◌, ◌++◌, Option, None, Some, Bool, true, false, ◌==◌, ◌⊎◌, if◌then◌else◌}
 use Rattle.std.specs.List.{AllByRecursion}
 use Rattle.scene_json.specs.Characters.{is_space, is_blank, is_plain, is_digit, quote}
 use Rattle.scene_json.specs.Compact.{compact}
@@ -28,14 +28,28 @@ pub record Writing : Type 0 where
 abbrev pub between : Drafted → List Drafted → Writing
 between here around = record { place = outside; escapes = false; string = []; here = here; around = around }
 
-abbrev pub writing_of : Writer → Writing
-writing_of w = record {
+-- the bytes between two offsets
+abbrev pub stretch : List ℕ → ℕ → ℕ → List ℕ
+stretch bytes from to = take (to - from) (drop from bytes)
+
+-- where the bytes end that are still to be appended as they stand: at the string that is open
+abbrev pub kept_to : ℕ → Writer → ℕ
+kept_to next w = if w.quoted then w.start else next
+
+-- where the writer stands before an offset of these bytes
+abbrev pub writing_at : List ℕ → ℕ → Writer → Writing
+writing_at bytes next w = record {
   place = place_of w.quoted w.escaped;
   escapes = w.escapes;
-  string = w.string.items;
-  here = w.here;
+  string = if w.quoted then stretch bytes w.start next else [];
+  here = grown w.here (stretch bytes w.from (kept_to next w));
   around = w.around.items;
 }
+
+-- The writer's offsets lie before this one.
+pub record Fits (next : ℕ) (w : Writer) : Type 0 where
+  pub from : w.from ≤ kept_to next w
+  pub to : kept_to next w ≤ next
 
 -- what is done with a byte, where so many arrays are open in the innermost object
 abbrev pub deed : Place → ℕ → ℕ → Deed
@@ -104,6 +118,18 @@ abbrev pub place_in : Mode → Place
 place_in (Within role Escape) = inside true
 place_in (Within role at) = inside false
 place_in mode = outside
+
+-- the writer with the bytes before an offset copied
+abbrev pub copied : List ℕ → ℕ → Writer → Writer
+copied bytes to w = record w { here = grown w.here (stretch bytes w.from to); from = to }
+
+-- what it takes to do with the byte at an offset what is to be done, and what comes of it
+abbrev pub CanPut : List ℕ → ℕ → Writer → Type 0
+CanPut bytes next w = Can (deed_at (writing_at bytes next w) (slice_index bytes next)) (writing_at bytes next w) (slice_index bytes next)
+
+pub record HasPut (d : Deed) (bytes : List ℕ) (next : ℕ) (old new : Writer) : Type 0 where
+  pub done : Done d (writing_at bytes next old) (slice_index bytes next) (writing_at bytes (next + 1) new)
+  pub fits : Fits (next + 1) new
 
 -- Each of these bytes may be taken, and however they are, this text and nothing else is written then.
 abbrev pub Ready : List ℕ → Writing → List ℕ → Type 0

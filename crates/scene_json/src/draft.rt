@@ -5,7 +5,7 @@ ghost use Rattle.scene_json.specs.Characters.{quote};
 ghost use Rattle.scene_json.specs.Drafts.{fresh, grown, closed};
 
 use crate::build::push_quote;
-use crate::collapsing::{Place, Span, collapse};
+use crate::collapsing::{FEW, Place, Span, collapse};
 use crate::text::Text;
 use std::alloc::{AllocError, Global};
 use std::marker::Model;
@@ -42,7 +42,7 @@ impl Model for Draft {
 }
 
 impl Draft {
-    /// Nothing is written.
+    /// Nothing is written outside objects.
     pub(crate) fn new(alloc: Global) -> Draft
         ensures { result ≡ fresh }
     {
@@ -55,19 +55,26 @@ impl Draft {
         }
     }
 
+    /// Nothing is written of an object. There is room for one like an element.
+    pub(crate) fn of_object(alloc: Global) -> Result<Draft, AllocError>
+        ensures { IfOk result (λ draft. draft ≡ fresh) }
+    {
+        let text = Vec::with_capacity(alloc, 512)?;
+        let places = Vec::with_capacity(alloc, FEW)?;
+        Ok(Draft {
+            text,
+            from: 0,
+            name: None,
+            places,
+            level: 0,
+        })
+    }
+
     /// How many arrays are open.
     pub(crate) fn level(&self) -> u64
         ensures { result ≡ self.now.level }
     {
         self.level
-    }
-
-    /// Appends a byte.
-    pub(crate) fn push(&mut self, byte: u8) -> Result<(), AllocError>
-        ensures { OnOk result (self.new ≡ grown self.old (byte ∷ [])) }
-    {
-        self.text.push(byte)?;
-        Ok(())
     }
 
     /// Appends these bytes.
@@ -86,24 +93,20 @@ impl Draft {
         Ok(())
     }
 
-    /// Opens an array by this bracket.
-    pub(crate) fn deepen(&mut self, bracket: u8) -> Result<(), AllocError>
-        ensures { OnOk result (self.new ≡ record (grown self.old (bracket ∷ [])) { level = self.old.level + 1 }) }
+    /// An array is opened.
+    pub(crate) fn deepen(&mut self) -> Result<(), AllocError>
+        ensures { OnOk result (self.new ≡ record self.old { level = self.old.level + 1 }) }
     {
         // So many arrays would find no memory.
-        let level = self.level.checked_add(1).ok_or(AllocError)?;
-        self.text.push(bracket)?;
-        self.level = level;
+        self.level = self.level.checked_add(1).ok_or(AllocError)?;
         Ok(())
     }
 
-    /// Closes an array by this bracket.
-    pub(crate) fn rise(&mut self, bracket: u8) -> Result<(), AllocError>
-        ensures { OnOk result (self.new ≡ record (grown self.old (bracket ∷ [])) { level = self.old.level - 1 }) }
+    /// An array is closed.
+    pub(crate) fn rise(&mut self)
+        ensures { self.new ≡ record self.old { level = self.old.level - 1 } }
     {
-        self.text.push(bracket)?;
         self.level = self.level.saturating_sub(1);
-        Ok(())
     }
 
     /// A colon comes: what is current is a name.

@@ -1,11 +1,11 @@
 //! Reading one value.
 
-ghost use Rattle.std.specs.Prelude.{◌≡◌, ℕ, ◌++◌, ◌-◌, ◌<◌, ◌≤◌, List, length, take, drop, IfOk, OnOk};
+ghost use Rattle.std.specs.Prelude.{◌≡◌, ℕ, ◌++◌, ◌-◌, ◌<◌, ◌≤◌, List, length, take, drop, IfOk};
 ghost use Rattle.std.specs.List.{AllByRecursion};
 ghost use Rattle.scene_json.specs.Value.{Stands};
 ghost use Rattle.scene_json.specs.Faults.{IsFirstFault};
 ghost use Rattle.scene_json.specs.Machine.{moved, top};
-ghost use Rattle.scene_json.specs.Writing.{place_in, writing_of, Ready};
+ghost use Rattle.scene_json.specs.Writing.{place_in, writing_at, Fits, Ready};
 ghost use Rattle.scene_json.specs.declared.fault.JsonFault.{JsonFault};
 ghost use Rattle.scene_json.specs.declared.machine.Move.TheVariants.{To};
 
@@ -53,20 +53,20 @@ fn read(alloc: Global, bytes: &[u8], at: usize) -> Result<(Vec<u8>, usize), Stop
     ensures fault { (fault : JsonFault) → result ≡ Err (Stop.Fault fault) → IsFirstFault bytes.now at fault }
 {
     let mut machine = Machine::new();
-    let mut writer = Writer::new(alloc);
+    let mut writer = Writer::new(alloc, at);
     let mut next = pass(&machine, &mut writer, bytes, at)?;
     while next < bytes.len() {
         match machine.step(bytes[next]) {
             Step::On => {
-                writer.put(alloc, bytes[next])?;
+                writer.put(alloc, bytes, next)?;
                 next = pass(&machine, &mut writer, bytes, next + 1)?;
             }
-            Step::Ended => return Ok((writer.into_text(), next)),
+            Step::Ended => return Ok((writer.into_text(bytes, next)?, next)),
             Step::Refused => return Err(Stop::Fault(machine.fault(Some(bytes[next]), next))),
         }
     }
     if machine.is_done() {
-        Ok((writer.into_text(), bytes.len()))
+        Ok((writer.into_text(bytes, next)?, next))
     } else {
         Err(Stop::Fault(machine.fault(None, bytes.len())))
     }
@@ -80,14 +80,16 @@ fn pass(
     at: usize,
 ) -> Result<usize, AllocError>
     requires within { at ≤ length bytes.now }
-    requires place { place_in machine.now.mode ≡ (writing_of writer.old).place }
+    requires place { place_in machine.now.mode ≡ (writing_at bytes.now at writer.old).place }
+    requires fits { Fits at writer.old }
     ensures within { IfOk result (λ end. (at ≤ end) × (end ≤ length bytes.now)) }
     ensures stays { IfOk result (λ end. AllByRecursion (λ b. moved machine.now.mode (top machine.now.brackets) b ≡ To machine.now.mode) (take (end - at) (drop at bytes.now))) }
-    ensures ready { IfOk result (λ end. (text more : List ℕ) → Ready text (writing_of writer.old) (take (end - at) (drop at bytes.now) ++ more)
-        → Ready text (writing_of writer.new) more) }
-    ensures place { OnOk result ((writing_of writer.new).place ≡ (writing_of writer.old).place) }
+    ensures ready { IfOk result (λ end. (text more : List ℕ) → Ready text (writing_at bytes.now at writer.old) (take (end - at) (drop at bytes.now) ++ more)
+        → Ready text (writing_at bytes.now end writer.new) more) }
+    ensures place { IfOk result (λ end. (writing_at bytes.now end writer.new).place ≡ (writing_at bytes.now at writer.old).place) }
+    ensures fits { IfOk result (λ end. Fits end writer.new) }
 {
     let end = machine.stay_end(bytes, at);
-    writer.put_all(&bytes[at..end])?;
+    writer.put_all(bytes, at, end)?;
     Ok(end)
 }

@@ -3,13 +3,11 @@
 //! The writer looks at no more than a byte at a time, and takes what the machine has taken: white space outside strings is
 //! dropped, strings are quoted anew where they have escapes, and of equal names in an object the last value is kept.
 
-ghost use Rattle.std.specs.Prelude.{◌≡◌, ℕ, List, [], ◌++◌, true, false, OnOk};
+ghost use Rattle.std.specs.Prelude.{◌≡◌, ℕ, ◌+◌, ◌<◌, ◌≤◌, List, [], ◌++◌, true, false, length, slice_index, IfOk, OnOk};
 ghost use Rattle.scene_json.specs.Drafts.{fresh, grown};
-ghost use Rattle.scene_json.specs.Characters.{quote};
 ghost use Rattle.scene_json.specs.Lines.{outside, inside};
-ghost use Rattle.scene_json.specs.Walk.{Quoted};
-ghost use Rattle.scene_json.specs.Writing.{between, deed, deed_at, writing_of, AreAlike, Can, Done, Ready};
-ghost use Rattle.scene_json.specs.declared.writing.Deed.TheVariants.{Begin, Keep, Slash, Finish, Open, Shut};
+ghost use Rattle.scene_json.specs.Writing.{between, deed, deed_at, stretch, copied, writing_at, AreAlike, Can, CanPut, Fits, HasPut, Ready};
+ghost use Rattle.scene_json.specs.declared.writing.Deed.TheVariants.{Skip, Begin, Finish, Open, Shut, Name, Part, Deepen, Rise, Push};
 
 use crate::content::content_of;
 use crate::draft::Draft;
@@ -46,7 +44,8 @@ pub(crate) enum Deed {
     Push,
 }
 
-/// The writer of one value's compact text.
+/// The writer of one value's compact text. What is to be written as it stands is copied from the bytes that are read, as
+/// late as can be.
 #[derive(Drop)]
 pub(crate) struct Writer {
     /// A string is open.
@@ -55,8 +54,10 @@ pub(crate) struct Writer {
     escaped: bool,
     /// An escape came in that string.
     escapes: bool,
-    /// That string up to here, as it stands.
-    string: Vec<u8>,
+    /// Where that string begins.
+    start: usize,
+    /// From where on nothing is copied yet.
+    from: usize,
     /// The innermost object that is open.
     here: Draft,
     /// The objects around it, the outermost first.
@@ -64,174 +65,272 @@ pub(crate) struct Writer {
 }
 
 impl Writer {
-    /// Nothing is written.
-    pub(crate) fn new(alloc: Global) -> Writer
-        ensures { writing_of result ≡ between fresh [] }
+    /// Nothing is written. The bytes from an offset on are to be taken.
+    pub(crate) fn new(alloc: Global, at: usize) -> Writer
+        ensures written { (bytes : List ℕ) → writing_at bytes at result ≡ between fresh [] }
+        ensures fits { Fits at result }
     {
         Writer {
             quoted: false,
             escaped: false,
             escapes: false,
-            string: Vec::new(alloc),
+            start: at,
+            from: at,
             here: Draft::new(alloc),
             around: Vec::new(alloc),
         }
     }
 
-    /// Takes the next byte.
-    pub(crate) fn put(&mut self, alloc: Global, byte: u8) -> Result<(), AllocError>
-        requires { Can (deed_at (writing_of self.old) byte) (writing_of self.old) byte }
-        ensures { OnOk result (Done (deed_at (writing_of self.old) byte) (writing_of self.old) byte (writing_of self.new)) }
+    /// Takes the byte at an offset.
+    pub(crate) fn put(&mut self, alloc: Global, bytes: &[u8], next: usize) -> Result<(), AllocError>
+        requires within { next < length bytes.now }
+        requires fits { Fits next self.old }
+        requires can { CanPut bytes.now next self.old }
+        ensures { OnOk result (HasPut (deed_at (writing_at bytes.now next self.old) (slice_index bytes.now next)) bytes.now next self.old self.new) }
     {
         if self.quoted {
-            self.put_quoted(alloc, byte)
+            self.put_quoted(alloc, bytes, next)
         } else {
-            self.put_between(alloc, byte)
+            self.put_between(alloc, bytes, next)
         }
     }
 
-    /// Takes the next byte in a string.
-    fn put_quoted(&mut self, alloc: Global, byte: u8) -> Result<(), AllocError>
-        requires quoted { self.old.quoted ≡ true }
-        requires can { Can (deed (inside self.old.escaped) self.old.here.level byte) (writing_of self.old) byte }
-        ensures { OnOk result (Done (deed (inside self.old.escaped) self.old.here.level byte) (writing_of self.old) byte (writing_of self.new)) }
+    /// Takes the stretch between two offsets: bytes that stand in a string as they are, or bytes outside strings that are
+    /// appended as they are or are all white space.
+    pub(crate) fn put_all(&mut self, bytes: &[u8], at: usize, end: usize) -> Result<(), AllocError>
+        requires within { (at ≤ end) × (end ≤ length bytes.now) }
+        requires fits { Fits at self.old }
+        requires alike { AreAlike (writing_at bytes.now at self.old).place (stretch bytes.now at end) }
+        ensures ready { OnOk result ((text more : List ℕ) → Ready text (writing_at bytes.now at self.old) (stretch bytes.now at end ++ more)
+            → Ready text (writing_at bytes.now end self.new) more) }
+        ensures place { OnOk result ((writing_at bytes.now end self.new).place ≡ (writing_at bytes.now at self.old).place) }
+        ensures fits { OnOk result (Fits end self.new) }
     {
-        match byte {
-            b'"' if !self.escaped => self.finish(alloc, byte),
-            b'\\' if !self.escaped => self.slash(byte),
-            _ => self.keep(byte),
-        }
-    }
-
-    /// Takes the next byte outside strings.
-    fn put_between(&mut self, alloc: Global, byte: u8) -> Result<(), AllocError>
-        requires { Can (deed outside self.old.here.level byte) (writing_of self.old) byte }
-        ensures { OnOk result (Done (deed outside self.old.here.level byte) (writing_of self.old) byte (writing_of self.new)) }
-    {
-        match deed_between(self.here.level(), byte) {
-            Deed::Begin => self.begin(byte),
-            Deed::Open => self.open(alloc, byte),
-            Deed::Shut => self.shut(alloc, byte),
-            Deed::Name => self.here.end_name(),
-            Deed::Part => self.here.end_member(),
-            Deed::Deepen => self.here.deepen(byte),
-            Deed::Rise => self.here.rise(byte),
-            Deed::Push => self.here.push(byte),
-            _ => Ok(()),
-        }
-    }
-
-    /// Takes bytes that stand in a string as they are, or bytes outside strings that are appended as they are or are all
-    /// white space.
-    pub(crate) fn put_all(&mut self, bytes: &[u8]) -> Result<(), AllocError>
-        requires { AreAlike (writing_of self.old).place bytes.now }
-        ensures ready { OnOk result ((text more : List ℕ) → Ready text (writing_of self.old) (bytes.now ++ more) → Ready text (writing_of self.new) more) }
-        ensures place { OnOk result ((writing_of self.new).place ≡ (writing_of self.old).place) }
-    {
-        if self.quoted {
-            self.string.extend_from_slice(bytes)?;
-            return Ok(());
-        }
-        match bytes.first() {
-            Some(first) if !is_space(*first) => self.here.extend(bytes)?,
-            _ => {}
+        if !self.quoted && at < end && is_space(bytes[at]) {
+            self.copy(bytes, at)?;
+            self.from = end;
         }
         Ok(())
     }
 
-    /// The text, where the value is whole.
-    pub(crate) fn into_text(self) -> Vec<u8>
-        requires { (text : List ℕ) × (writing_of self ≡ between (grown fresh text) []) }
-        ensures { (text : List ℕ) → writing_of self ≡ between (grown fresh text) [] → result.items ≡ text }
+    /// The text, where the value is whole that ends before an offset.
+    pub(crate) fn into_text(self, bytes: &[u8], end: usize) -> Result<Vec<u8>, AllocError>
+        requires within { end ≤ length bytes.now }
+        requires fits { Fits end self }
+        requires whole { (text : List ℕ) × (writing_at bytes.now end self ≡ between (grown fresh text) []) }
+        ensures { IfOk result (λ written. (text : List ℕ) → writing_at bytes.now end self ≡ between (grown fresh text) [] → written.items ≡ text) }
     {
         let Writer {
             quoted: _quoted,
             escaped: _escaped,
             escapes: _escapes,
-            string: _string,
-            here,
+            start: _start,
+            from,
+            mut here,
             around: _around,
         } = self;
-        here.into_text()
+        here.extend(&bytes[from..end])?;
+        Ok(here.into_text())
     }
 
-    fn begin(&mut self, byte: u8) -> Result<(), AllocError>
-        ensures { OnOk result (Done Begin (writing_of self.old) byte (writing_of self.new)) }
+    /// Takes a byte in a string.
+    fn put_quoted(&mut self, alloc: Global, bytes: &[u8], next: usize) -> Result<(), AllocError>
+        requires quoted { self.old.quoted ≡ true }
+        requires within { next < length bytes.now }
+        requires fits { Fits next self.old }
+        requires can { Can (deed (inside self.old.escaped) self.old.here.level (slice_index bytes.now next)) (writing_at bytes.now next self.old) (slice_index bytes.now next) }
+        ensures { OnOk result (HasPut (deed (inside self.old.escaped) self.old.here.level (slice_index bytes.now next)) bytes.now next self.old self.new) }
     {
-        self.string.push(byte)?;
+        if self.escaped {
+            self.escaped = false;
+            return Ok(());
+        }
+        match bytes[next] {
+            b'"' => self.finish(alloc, bytes, next)?,
+            b'\\' => {
+                self.escaped = true;
+                self.escapes = true;
+            }
+            _ => {}
+        }
+        Ok(())
+    }
+
+    /// Takes a byte outside strings.
+    fn put_between(&mut self, alloc: Global, bytes: &[u8], next: usize) -> Result<(), AllocError>
+        requires apart { self.old.quoted ≡ false }
+        requires within { next < length bytes.now }
+        requires fits { Fits next self.old }
+        requires can { Can (deed outside self.old.here.level (slice_index bytes.now next)) (writing_at bytes.now next self.old) (slice_index bytes.now next) }
+        ensures { OnOk result (HasPut (deed outside self.old.here.level (slice_index bytes.now next)) bytes.now next self.old self.new) }
+    {
+        match deed_between(self.here.level(), bytes[next]) {
+            Deed::Begin => {
+                self.begin(next);
+                Ok(())
+            }
+            Deed::Open => self.open(alloc, bytes, next),
+            Deed::Shut => self.shut(alloc, bytes, next),
+            Deed::Name => self.end_name(bytes, next),
+            Deed::Part => self.end_member(bytes, next),
+            Deed::Deepen => self.deepen(),
+            Deed::Rise => {
+                self.rise();
+                Ok(())
+            }
+            Deed::Push => {
+                self.push();
+                Ok(())
+            }
+            _ => self.skip(bytes, next),
+        }
+    }
+
+    /// White space is dropped.
+    fn skip(&mut self, bytes: &[u8], next: usize) -> Result<(), AllocError>
+        requires apart { self.old.quoted ≡ false }
+        requires within { next < length bytes.now }
+        requires fits { Fits next self.old }
+        ensures { OnOk result (HasPut Skip bytes.now next self.old self.new) }
+    {
+        self.copy(bytes, next)?;
+        self.from = next + 1;
+        Ok(())
+    }
+
+    /// A string begins.
+    fn begin(&mut self, next: usize)
+        requires apart { self.old.quoted ≡ false }
+        requires fits { Fits next self.old }
+        ensures { (bytes : List ℕ) → next < length bytes → HasPut Begin bytes next self.old self.new }
+    {
         self.quoted = true;
         self.escaped = false;
         self.escapes = false;
-        Ok(())
+        self.start = next;
     }
 
-    fn keep(&mut self, byte: u8) -> Result<(), AllocError>
-        requires { self.old.quoted ≡ true }
-        ensures { OnOk result (Done Keep (writing_of self.old) byte (writing_of self.new)) }
+    /// A string ends. It is appended as it stands, or quoted anew where it has an escape.
+    fn finish(&mut self, alloc: Global, bytes: &[u8], next: usize) -> Result<(), AllocError>
+        requires quoted { self.old.quoted ≡ true }
+        requires within { next < length bytes.now }
+        requires fits { Fits next self.old }
+        requires can { Can Finish (writing_at bytes.now next self.old) (slice_index bytes.now next) }
+        ensures { OnOk result (HasPut Finish bytes.now next self.old self.new) }
     {
-        self.string.push(byte)?;
-        self.escaped = false;
-        Ok(())
+        if self.escapes {
+            self.quote(alloc, bytes, next)
+        } else {
+            self.quoted = false;
+            Ok(())
+        }
     }
 
-    fn slash(&mut self, byte: u8) -> Result<(), AllocError>
-        requires { self.old.quoted ≡ true }
-        ensures { OnOk result (Done Slash (writing_of self.old) byte (writing_of self.new)) }
+    fn quote(&mut self, alloc: Global, bytes: &[u8], next: usize) -> Result<(), AllocError>
+        requires quoted { self.old.quoted ≡ true }
+        requires within { next < length bytes.now }
+        requires fits { Fits next self.old }
+        requires can { Can Finish (writing_at bytes.now next self.old) (slice_index bytes.now next) }
+        ensures { OnOk result (HasPut Finish bytes.now next self.old self.new) }
     {
-        self.string.push(byte)?;
-        self.escaped = true;
-        self.escapes = true;
-        Ok(())
-    }
-
-    fn finish(&mut self, alloc: Global, byte: u8) -> Result<(), AllocError>
-        requires { Can Finish (writing_of self.old) byte }
-        ensures { OnOk result (Done Finish (writing_of self.old) byte (writing_of self.new)) }
-    {
-        self.string.push(byte)?;
-        self.take_string(alloc)?;
-        self.string.clear();
+        self.copy(bytes, self.start)?;
+        let (text, _end) = content_of(alloc, bytes, self.start)?;
+        self.here.push_quote(&text)?;
+        self.from = next + 1;
         self.quoted = false;
         self.escapes = false;
         Ok(())
     }
 
-    /// Appends the string as it stands, or quoted anew where it has an escape.
-    fn take_string(&mut self, alloc: Global) -> Result<(), AllocError>
-        requires quoted { (text : List ℕ) × Quoted self.old.string.items text [] }
-        requires same { (text : List ℕ) → Quoted self.old.string.items text [] → self.old.escapes ≡ false → self.old.string.items ≡ quote text }
-        ensures { OnOk result ((text : List ℕ) → Quoted self.old.string.items text []
-            → self.new ≡ record self.old { here = grown self.old.here (quote text) }) }
+    /// An object is opened.
+    fn open(&mut self, alloc: Global, bytes: &[u8], next: usize) -> Result<(), AllocError>
+        requires apart { self.old.quoted ≡ false }
+        requires within { next < length bytes.now }
+        requires fits { Fits next self.old }
+        ensures { OnOk result (HasPut Open bytes.now next self.old self.new) }
     {
-        if !self.escapes {
-            self.here.extend(self.string.as_slice())?;
-            return Ok(());
-        }
-        let (text, _end) = content_of(alloc, self.string.as_slice(), 0)?;
-        self.here.push_quote(&text)?;
-        Ok(())
-    }
-
-    fn open(&mut self, alloc: Global, byte: u8) -> Result<(), AllocError>
-        ensures { OnOk result (Done Open (writing_of self.old) byte (writing_of self.new)) }
-    {
-        self.here.push(byte)?;
-        let outer = replace(&mut self.here, Draft::new(alloc));
+        self.copy(bytes, next + 1)?;
+        let outer = replace(&mut self.here, Draft::of_object(alloc)?);
         self.around.push(outer)?;
         Ok(())
     }
 
-    fn shut(&mut self, alloc: Global, byte: u8) -> Result<(), AllocError>
-        requires { Can Shut (writing_of self.old) byte }
-        ensures { OnOk result (Done Shut (writing_of self.old) byte (writing_of self.new)) }
+    /// An object is closed.
+    fn shut(&mut self, alloc: Global, bytes: &[u8], next: usize) -> Result<(), AllocError>
+        requires apart { self.old.quoted ≡ false }
+        requires within { next < length bytes.now }
+        requires fits { Fits next self.old }
+        requires can { Can Shut (writing_at bytes.now next self.old) (slice_index bytes.now next) }
+        ensures { OnOk result (HasPut Shut bytes.now next self.old self.new) }
     {
+        self.copy(bytes, next)?;
         let Some(outer) = self.around.pop() else {
             unreachable!()
         };
         let inner = replace(&mut self.here, outer);
         let text = inner.close(alloc)?;
         self.here.extend(text.as_slice())?;
-        self.here.push(byte)?;
+        Ok(())
+    }
+
+    /// The name of a member ends.
+    fn end_name(&mut self, bytes: &[u8], next: usize) -> Result<(), AllocError>
+        requires apart { self.old.quoted ≡ false }
+        requires within { next < length bytes.now }
+        requires fits { Fits next self.old }
+        requires can { Can Name (writing_at bytes.now next self.old) (slice_index bytes.now next) }
+        ensures { OnOk result (HasPut Name bytes.now next self.old self.new) }
+    {
+        self.copy(bytes, next)?;
+        self.here.end_name()?;
+        self.from = next + 1;
+        Ok(())
+    }
+
+    /// A member ends.
+    fn end_member(&mut self, bytes: &[u8], next: usize) -> Result<(), AllocError>
+        requires apart { self.old.quoted ≡ false }
+        requires within { next < length bytes.now }
+        requires fits { Fits next self.old }
+        requires can { Can Part (writing_at bytes.now next self.old) (slice_index bytes.now next) }
+        ensures { OnOk result (HasPut Part bytes.now next self.old self.new) }
+    {
+        self.copy(bytes, next)?;
+        self.here.end_member()?;
+        self.from = next + 1;
+        Ok(())
+    }
+
+    /// An array is opened.
+    fn deepen(&mut self) -> Result<(), AllocError>
+        requires { self.old.quoted ≡ false }
+        ensures { OnOk result ((bytes : List ℕ) (next : ℕ) → next < length bytes → Fits next self.old → HasPut Deepen bytes next self.old self.new) }
+    {
+        self.here.deepen()?;
+        Ok(())
+    }
+
+    /// An array is closed.
+    fn rise(&mut self)
+        requires { self.old.quoted ≡ false }
+        ensures { (bytes : List ℕ) (next : ℕ) → next < length bytes → Fits next self.old → HasPut Rise bytes next self.old self.new }
+    {
+        self.here.rise();
+    }
+
+    /// A byte is to be appended as it stands.
+    fn push(&mut self)
+        requires { self.old.quoted ≡ false }
+        ensures { (bytes : List ℕ) (next : ℕ) → next < length bytes → Fits next self.old → HasPut Push bytes next self.old self.new }
+    {}
+
+    /// Copies the bytes before an offset that aren't copied yet.
+    fn copy(&mut self, bytes: &[u8], to: usize) -> Result<(), AllocError>
+        requires { (self.old.from ≤ to) × (to ≤ length bytes.now) }
+        ensures { OnOk result (self.new ≡ copied bytes.now to self.old) }
+    {
+        self.here.extend(&bytes[self.from..to])?;
+        self.from = to;
         Ok(())
     }
 }

@@ -1,30 +1,20 @@
-use Rattle.std.proofs.Common.{◌≡◌, List, ℕ, true, ◌++◌, sym, subst}
-use Rattle.scene_json.specs.Characters.{is_space}
-use Rattle.scene_json.specs.Drafts.{Drafted}
-use Rattle.scene_json.specs.Lines.{place_of}
-use Rattle.scene_json.specs.Writing.{Writing, Ready}
-use Rattle.scene_json.proofs.Ready.{head-of, stretch-quoted, stretch-between, stretch-dropped}
+use Rattle.std.proofs.Common.{◌≡◌, ◌++◌, List, ℕ, get_or, sym, ap, subst, ◌∙◌, arith}
+use Rattle.scene_json.proofs.Copying.{stretch-in, stretch-appended, stretch-skipped, stretch-empty}
 use Rattle.scene_json.proofs.writing.Writer.put_all.Goals as goal
+use Rattle.scene_json.proofs.writing.Writer.put_all.Goals.{else-not-self-via-then-not-self+then-at-end+else-is_space, else-not-self-via-then-not-self+else-at-end, else-not-self-via-else-not-self}
 
-pub returns-then-self-clause-ready : goal.returns-then-self-clause-ready
-returns-then-self-clause-ready c = λ text more ready.
-    let w = c.args.self.now in
-    subst (λ (s : List ℕ). let now : Writing = record { place = place_of w.quoted w.escaped; escapes = w.escapes; string = s; here = w.here; around = w.around.items } in Ready text now more)
-    (sym c.in_ok-extend_from_slice.ensures.items)
-    (stretch-quoted text w.quoted w.escaped w.escapes c.args.bytes.now more w.string.items w.here w.around.items c.if-self.true c.requires ready)
+pub returns-in_ok-copy-clause-ready : goal.returns-in_ok-copy-clause-ready
+returns-in_ok-copy-clause-ready c = λ text more ready.
+    rw c.in_ok-copy.ensures
+    (stretch-skipped c.args.bytes.now c.args.at c.args.end c.args.self.now c.requires.within.0 c.requires.within.1 c.requires.fits c.requires.alike text more ready c.if-at-end.true c.if-not-self.true (sym c.if-is_space.ensures))
 
-pub returns-in_ok-extend-in-Some-clause-ready : goal.returns-in_ok-extend-in-Some-clause-ready
-returns-in_ok-extend-in-Some-clause-ready c = λ text more ready.
-    let w = c.args.self.now in
-    let first = head-of c.args.bytes.now c.in-Some.first.now c.in-Some.ensures.value in
-    subst (λ (d : Drafted). let now : Writing = record { place = place_of w.quoted w.escaped; escapes = w.escapes; string = w.string.items; here = d; around = w.around.items } in Ready text now more)
-    (sym c.in_ok-extend-in-Some.ensures)
-    (stretch-between text w.quoted w.escaped w.escapes c.args.bytes.now more w.string.items w.here w.around.items c.if-self.false c.requires c.in-Some.first.now first.0 first.1
-    (sym c.if-not-is_space.ensures) ready)
-
-pub returns-else-not-is_space-clause-ready : goal.returns-else-not-is_space-clause-ready
-returns-else-not-is_space-clause-ready c = λ text more ready.
-    let w = c.args.self.now in
-    let first = head-of c.args.bytes.now c.in-Some.first.now c.in-Some.ensures.value in
-    stretch-dropped text w.quoted w.escaped w.escapes c.args.bytes.now more w.string.items w.here w.around.items c.if-self.false c.requires
-    (λ b others e. let same : c.in-Some.first.now ≡ b = (let f = first.1 in cc) in subst (λ (x : ℕ). is_space x ≡ true) same (sym c.if-not-is_space.ensures)) ready
+pub returns-else-not-self-clause-ready : goal.returns-else-not-self-clause-ready
+returns-else-not-self-clause-ready c = λ text more ready.
+    elim c.else-not-self.branch [
+      | else-not-self-via-then-not-self+then-at-end+else-is_space w ↦
+          stretch-appended c.args.bytes.now c.args.at c.args.end c.args.self.now c.requires.within.0 c.requires.within.1 c.requires.fits c.requires.alike text more ready w.if-at-end.true w.if-not-self.true (sym w.if-is_space.ensures)
+      | else-not-self-via-then-not-self+else-at-end w ↦
+          stretch-empty c.args.bytes.now c.args.at c.args.end c.args.self.now c.requires.within.0 c.requires.within.1 c.requires.fits c.requires.alike text more ready (let h = w.if-at-end.false in omega (arith, h, c.requires.within.0))
+      | else-not-self-via-else-not-self w ↦
+          stretch-in c.args.bytes.now c.args.at c.args.end c.args.self.now c.requires.within.0 c.requires.within.1 c.requires.fits c.requires.alike text more ready w.if-not-self.false
+    ]
