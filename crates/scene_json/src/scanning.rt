@@ -73,6 +73,7 @@ fn read(alloc: Global, bytes: &[u8], at: usize) -> Result<(Vec<u8>, usize), Stop
 }
 
 /// Takes the stretch from `at` on that leaves the machine as it is, and gives the offset after it.
+#[inline(always)]
 fn pass(
     machine: &Machine,
     writer: &mut Writer,
