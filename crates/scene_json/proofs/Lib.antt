@@ -53,6 +53,5 @@ mod Placing
 mod QuotedNames
 mod Drafting
 mod Ready
-mod Alongside
 mod Written
 mod Copying

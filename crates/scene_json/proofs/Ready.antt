@@ -10,11 +10,12 @@ use Rattle.std.proofs.lemmas.Grind.{flat_map-append}
 use Rattle.scene_json.specs.Characters.{is_space, is_blank, is_plain, is_digit, quote, quoted_byte}
 use Rattle.scene_json.specs.Compact.{Member, content, compact, members, collapsed, label_name, member_text, array_text, object_text}
 use Rattle.scene_json.specs.Drafts.{Drafted, fresh, grown, pair_text, pairs_text}
-use Rattle.scene_json.specs.Lines.{outside, inside, place_of}
+use Rattle.scene_json.specs.Lines.{outside, inside}
 use Rattle.scene_json.specs.Places.{quoted}
 use Rattle.scene_json.specs.Tree.{Piece, bare, letter, unit, IsPiece, piece_spelling, string_spelling, Container, array, object, Label, unnamed, named, IsLabel, label_spelling, Tree, scalar, text, empty, filled, Values, last, next, spelling, values_spelling, IsGood, AreGood}
 use Rattle.scene_json.specs.Walk.{Quoted}
 use Rattle.scene_json.specs.Writing.{Writing, between, AreAlike, Ready}
+use Rattle.scene_json.specs.declared.staying.Ground.TheVariants as ground
 use Rattle.scene_json.proofs.CompactLaws.{members-utf8}
 use Rattle.scene_json.proofs.Escapes.{content-bare}
 use Rattle.scene_json.proofs.Literals.{is_part_of_literal, list_all-each, literal-plain}
@@ -83,11 +84,6 @@ object-shut values good c =
 
 some-none : {A : Type 0} {name : List ℕ} → Some name ≡ None → A
 some-none e = absurd (cc)
-
--- the first of some bytes
-pub head-of : (xs : List ℕ) (b : ℕ) → Some b ≡ slice_get xs 0 → (others : List ℕ) × (xs ≡ b ∷ others)
-head-of [] b e = absurd (cc)
-head-of (x ∷ xs) b e = let same : b ≡ x = cc in (xs, ap (λ (y : ℕ). y ∷ xs) (sym same))
 
 module _ (written : List ℕ) where
   abbrev Is : Writing → List ℕ → Type 0
@@ -314,41 +310,23 @@ module _ (written : List ℕ) where
       (push-all xs more s escapes (grown d (x ∷ [])) ds digits.1
       ((rw (space, mark, comma, colon, deeper, shallower, opens, shuts) at r).1 (apart escapes s (grown d (x ∷ [])) ds) refl))
 
-  abbrev at : Bool → Bool → Bool → List ℕ → Drafted → List Drafted → Writing
-  at quoted escaped escapes string here around = record { place = place_of quoted escaped; escapes = escapes; string = string; here = here; around = around }
-
-  inside-same : {a b : Bool} → inside a ≡ inside b → a ≡ b
-  inside-same e = cc
-
   -- a stretch in a string
-  pub stretch-quoted : (q e escapes : Bool) (xs more s : List ℕ) (d : Drafted) (ds : List Drafted) → q ≡ true → AreAlike (place_of q e) xs
-      → Is (at q e escapes s d ds) (xs ++ more) → Is (at q e escapes (s ++ xs) d ds) more
-  stretch-quoted false e escapes xs more s d ds is alike r = absurd (false≢true is)
-  stretch-quoted true e escapes xs more s d ds is (inl none) r =
-      subst (λ ys. Is (within e escapes (s ++ ys) d ds) more) (sym none) (subst (λ t. Is (within e escapes t d ds) more) (sym (append-nil s)) (subst (λ ys. Is (within e escapes s d ds) (ys ++ more)) none r))
-  stretch-quoted true true escapes xs more s d ds is (inr (inl plain)) r = absurd (false≢true (sym (inside-same plain.0)))
-  stretch-quoted true false escapes xs more s d ds is (inr (inl plain)) r = keep-all xs more s escapes d ds plain.1 r
-  stretch-quoted true e escapes xs more s d ds is (inr (inr other)) r = absurd (cc)
-
-  -- a stretch outside strings is white space and dropped, or is appended, by its first byte
-  pub stretch-between : (q e escapes : Bool) (xs more s : List ℕ) (d : Drafted) (ds : List Drafted) → q ≡ false → AreAlike (place_of q e) xs → (b : ℕ) (others : List ℕ) → xs ≡ b ∷ others
-      → is_space b ≡ false → Is (at q e escapes s d ds) (xs ++ more) → Is (at q e escapes s (grown d xs) ds) more
-  stretch-between true e escapes xs more s d ds is alike b others first solid r = absurd (false≢true (sym is))
-  stretch-between false e escapes xs more s d ds is (inl none) b others first solid r = absurd (cc)
-  stretch-between false e escapes xs more s d ds is (inr (inl plain)) b others first solid r = absurd (cc)
-  stretch-between false e escapes xs more s d ds is (inr (inr (_, inl blank))) b others first solid r =
-      absurd (false≢true (sym solid ∙ (subst (AllByRecursion (λ x. is_space x ≡ true)) first blank).0))
-  stretch-between false e escapes xs more s d ds is (inr (inr (_, inr digits))) b others first solid r = push-all xs more s escapes d ds digits r
+  pub stretch-quoted : (xs more s : List ℕ) (escapes : Bool) (d : Drafted) (ds : List Drafted) → AreAlike ground.Quoted xs
+      → Is (within false escapes s d ds) (xs ++ more) → Is (within false escapes (s ++ xs) d ds) more
+  stretch-quoted xs more s escapes d ds plain r = keep-all xs more s escapes d ds plain r
 
   digit-solid : (b : ℕ) → is_digit b ≡ true → is_space b ≡ false
   digit-solid b digit = grind (arith, nat_tests)
 
-  pub stretch-dropped : (q e escapes : Bool) (xs more s : List ℕ) (d : Drafted) (ds : List Drafted) → q ≡ false → AreAlike (place_of q e) xs
-      → ((b : ℕ) (others : List ℕ) → xs ≡ b ∷ others → is_space b ≡ true) → Is (at q e escapes s d ds) (xs ++ more) → Is (at q e escapes s d ds) more
-  stretch-dropped true e escapes xs more s d ds is alike first r = absurd (false≢true (sym is))
-  stretch-dropped false e escapes xs more s d ds is (inl none) first r = subst (λ ys. Is (apart escapes s d ds) (ys ++ more)) none r
-  stretch-dropped false e escapes xs more s d ds is (inr (inl plain)) first r = absurd (cc)
-  stretch-dropped false e escapes xs more s d ds is (inr (inr (_, inl blank))) first r = drop-all xs more s escapes d ds blank r
-  stretch-dropped false e escapes [] more s d ds is (inr (inr (_, inr digits))) first r = r
-  stretch-dropped false e escapes (b ∷ xs) more s d ds is (inr (inr (_, inr digits))) first r =
-      absurd (false≢true (sym (digit-solid b digits.0) ∙ first b xs refl))
+  -- a stretch outside strings is white space and dropped, or is appended, by its first byte
+  pub stretch-between : (xs more s : List ℕ) (escapes : Bool) (d : Drafted) (ds : List Drafted) → AreAlike ground.Between xs → (b : ℕ) (others : List ℕ) → xs ≡ b ∷ others
+      → is_space b ≡ false → Is (apart escapes s d ds) (xs ++ more) → Is (apart escapes s (grown d xs) ds) more
+  stretch-between xs more s escapes d ds (inl blank) b others first solid r =
+      absurd (false≢true (sym solid ∙ (subst (AllByRecursion (λ x. is_space x ≡ true)) first blank).0))
+  stretch-between xs more s escapes d ds (inr digits) b others first solid r = push-all xs more s escapes d ds digits r
+
+  pub stretch-dropped : (xs more s : List ℕ) (escapes : Bool) (d : Drafted) (ds : List Drafted) → AreAlike ground.Between xs
+      → ((b : ℕ) (others : List ℕ) → xs ≡ b ∷ others → is_space b ≡ true) → Is (apart escapes s d ds) (xs ++ more) → Is (apart escapes s d ds) more
+  stretch-dropped xs more s escapes d ds (inl blank) first r = drop-all xs more s escapes d ds blank r
+  stretch-dropped [] more s escapes d ds (inr digits) first r = r
+  stretch-dropped (b ∷ xs) more s escapes d ds (inr digits) first r = absurd (false≢true (sym (digit-solid b digits.0) ∙ first b xs refl))

@@ -13,7 +13,6 @@ use Rattle.scene_json.specs.declared.machine.Mode.TheVariants.{Fresh, Name, Colo
 use Rattle.scene_json.specs.declared.machine.Mode.TheVariants as mode
 use Rattle.scene_json.specs.declared.machine.Move.TheVariants.{To}
 use Rattle.scene_json.specs.Machine.{state, top, applied, moved, is_bare, keeps_bare, keeps_digits, keeps_space}
-use Rattle.scene_json.specs.Writing.{AreAlike, place_in}
 use Rattle.scene_json.proofs.Machines.{run}
 
 -- ---- the bytes that leave a mode as it is
@@ -62,21 +61,5 @@ stay_run m st [] all = refl
 stay_run m st (x ∷ xs) all = ap (λ move. run 128 (applied 128 st x move) xs) all.0 ∙ stay_run m st xs all.1
 
 -- ---- what is written of it
-pub bare-alike : (m : Mode) (xs : List ℕ) → keeps_bare m ≡ true → AllByRecursion (λ b. is_plain b ≡ true) xs → AreAlike (place_in m) xs
-bare-alike (Quoted r Plain) xs keeps plain = inr (inl (refl, plain))
-bare-alike m xs keeps plain = absurd (false≢true keeps)
-
-pub digits-alike : (m : Mode) (xs : List ℕ) → keeps_digits m ≡ true → AllByRecursion (λ b. is_digit b ≡ true) xs → AreAlike (place_in m) xs
-digits-alike (Number part) xs keeps digits = inr (inr (refl, inr digits))
-digits-alike m xs keeps digits = absurd (false≢true keeps)
-
-pub space-alike : (m : Mode) (top : Option Bracket) (xs : List ℕ) → keeps_space m top ≡ true → AllByRecursion (λ b. is_space b ≡ true) xs → AreAlike (place_in m) xs
-space-alike mode.Value top xs keeps blank = inr (inr (refl, inl blank))
-space-alike Name top xs keeps blank = inr (inr (refl, inl blank))
-space-alike Colon top xs keeps blank = inr (inr (refl, inl blank))
-space-alike Fresh top xs keeps blank = inr (inr (refl, inl blank))
-space-alike After top xs keeps blank = inr (inr (refl, inl blank))
-space-alike m top xs keeps blank = absurd (false≢true keeps)
-
 pub bare-plain : (b : ℕ) → is_bare b ≡ true → is_plain b ≡ true
 bare-plain b is = grind (arith, nat_tests)

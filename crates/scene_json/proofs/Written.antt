@@ -8,11 +8,10 @@ use Rattle.scene_json.specs.Value.{Value, Begins, Stands}
 use Rattle.scene_json.specs.Machine.{state, step}
 use Rattle.scene_json.specs.declared.brackets.Bracket.{Bracket}
 use Rattle.scene_json.specs.declared.machine.Mode.{Mode}
-use Rattle.scene_json.specs.Writing.{Writing, between, deed_at, Can, Done, Ready, HasWritten, place_in}
+use Rattle.scene_json.specs.Writing.{Writing, between, deed_at, Can, Done, Ready, HasWritten}
 use Rattle.scene_json.proofs.Machines.{run, start}
 use Rattle.scene_json.proofs.ValueRuns.{runs_begins}
 use Rattle.scene_json.proofs.OffsetRuns.{one_more, stretch_more, whole_value, read_on}
-use Rattle.scene_json.proofs.Alongside.{still-alongside}
 use Rattle.scene_json.proofs.Ready.{blank-ready, tree-ready}
 
 -- of no bytes
@@ -64,9 +63,6 @@ module _ (bytes : List ℕ) (at i : ℕ) (low : at ≤ i) (m : Mode) (st : List 
     can-put = can-write (take (i - at) (drop at bytes)) byte w written (runs_begins 128 (take (i - at) (drop at bytes) ++ byte ∷ []) (record { mode = next; brackets = brackets; reached = ran }))
 
     module _ (put : Writing) (done : Done (deed_at w byte) w byte put) where
-      pub put-alongside : place_in m ≡ w.place → place_in next ≡ put.place
-      put-alongside same = still-alongside m st byte next brackets w put same goes can-put done
-
       pub put-written : HasWritten (take (i + 1 - at) (drop at bytes)) put
       put-written = subst (λ xs. HasWritten xs put) (sym (one_more bytes at i low high)) (written-one (take (i - at) (drop at bytes)) byte w put written done)
 

@@ -8,12 +8,11 @@ use Rattle.scene_json.specs.Drafts.{Drafted, fresh, grown, closed}
 use Rattle.scene_json.specs.Lines.{Place, outside, inside, place_of}
 use Rattle.scene_json.specs.Tree.{Tree, IsGood, spelling}
 use Rattle.scene_json.specs.Walk.{Quoted}
+use Rattle.scene_json.specs.declared.staying.Ground.{Ground}
+use Rattle.scene_json.specs.declared.staying.Ground.TheVariants as ground
 use Rattle.scene_json.specs.declared.writing.Deed.{Deed}
 use Rattle.scene_json.specs.declared.writing.Deed.TheVariants.{Skip, Begin, Keep, Slash, Finish, Open, Shut, Name, Part, Deepen, Rise, Push}
 use Rattle.scene_json.specs.declared.writing.Writer.{Writer}
-use Rattle.scene_json.specs.declared.machine.Place.TheVariants.{Escape}
-use Rattle.scene_json.specs.declared.machine.Mode.{Mode}
-use Rattle.scene_json.specs.declared.machine.Mode.TheVariants.{Quoted as Within}
 
 -- Where a writer stands: in a string, of which these bytes came, an escape among them; in the innermost object that is open,
 -- and in those around it, the outermost first.
@@ -107,17 +106,15 @@ Done Push w b new = new ≡ record w { here = grown w.here (b ∷ []) }
 abbrev pub deed_at : Writing → ℕ → Deed
 deed_at w b = deed w.place w.here.level b
 
--- These bytes are taken together: those of a stretch that leaves the machine as it is.
-abbrev pub AreAlike : Place → List ℕ → Type 0
-AreAlike place bytes =
-    (bytes ≡ []) ⊎ (((place ≡ inside false) × AllByRecursion (λ b. is_plain b ≡ true) bytes)
-    ⊎ ((place ≡ outside) × (AllByRecursion (λ b. is_space b ≡ true) bytes ⊎ AllByRecursion (λ b. is_digit b ≡ true) bytes)))
+-- the ground on which the writer stands
+abbrev pub ground_of : Writer → Ground
+ground_of w = if w.quoted then (if w.escaped then ground.Escaped else ground.Quoted) else ground.Between
 
--- whether the machine stands in a string
-abbrev pub place_in : Mode → Place
-place_in (Within role Escape) = inside true
-place_in (Within role at) = inside false
-place_in mode = outside
+-- These bytes are taken together on this ground.
+abbrev pub AreAlike : Ground → List ℕ → Type 0
+AreAlike ground.Quoted bytes = AllByRecursion (λ b. is_plain b ≡ true) bytes
+AreAlike ground.Between bytes = AllByRecursion (λ b. is_space b ≡ true) bytes ⊎ AllByRecursion (λ b. is_digit b ≡ true) bytes
+AreAlike ground.Escaped bytes = bytes ≡ []
 
 -- the writer with the bytes before an offset copied
 abbrev pub copied : List ℕ → ℕ → Writer → Writer

@@ -7,14 +7,14 @@ ghost use Rattle.std.specs.List.{AllByRecursion};
 ghost use Rattle.scene_json.specs.Characters.{is_space, is_hex};
 ghost use Rattle.scene_json.specs.Machine.{closes_bracket, after_comma, after_string, value_begun, value_move, fresh_move, name_begun, name_move, colon_move, after_move, plain_move, led_move, escape_move, hex_move, sequence_move, string_move, number_move, first_letter, letters_after, word_move, moved, string_fault, bracket_fault, fault_of, top, step, ended, Stepped};
 ghost use Rattle.scene_json.specs.Runs.{is_over};
-ghost use Rattle.scene_json.specs.Writing.{place_in, AreAlike};
+ghost use Rattle.scene_json.specs.Writing.{AreAlike};
 ghost use Rattle.scene_json.specs.declared.machine.Move.TheVariants.{To};
 
 use crate::brackets::{Bracket, Brackets};
 use crate::fault::JsonFault;
 use crate::number::{Part, extends_number};
 use crate::sequence::Tail;
-use crate::staying::stay_end;
+use crate::staying::{Ground, stay_end};
 
 /// What a string is for.
 #[derive(Clone, Copy)]
@@ -143,14 +143,22 @@ impl Machine {
         Step::On
     }
 
-    /// Where a stretch from `at` on ends whose bytes all leave the machine as it is.
-    pub(crate) fn stay_end(&self, bytes: &[u8], at: usize) -> usize
+    /// Where a stretch from `at` on ends whose bytes all leave the machine as it is, on this ground.
+    pub(crate) fn stay_end(&self, ground: Ground, bytes: &[u8], at: usize) -> usize
         requires { at ≤ length bytes.now }
         ensures within { (at ≤ result) × (result ≤ length bytes.now) }
         ensures stays { AllByRecursion (λ b. moved self.now.mode (top self.now.brackets) b ≡ To self.now.mode) (take (result - at) (drop at bytes.now)) }
-        ensures alike { AreAlike (place_in self.now.mode) (take (result - at) (drop at bytes.now)) }
+        ensures alike { AreAlike ground (take (result - at) (drop at bytes.now)) }
     {
-        stay_end(self.mode, self.brackets.top(), bytes, at)
+        stay_end(self.mode, self.brackets.top(), ground, bytes, at)
+    }
+
+    /// The ground on which it stands.
+    pub(crate) fn ground(&self) -> Ground {
+        match self.mode {
+            Mode::Quoted(_, _) => Ground::Quoted,
+            _ => Ground::Between,
+        }
     }
 
     /// The value may end here: white space would end it too.

@@ -5,7 +5,7 @@ ghost use Rattle.std.specs.List.{AllByRecursion};
 ghost use Rattle.scene_json.specs.Value.{Stands};
 ghost use Rattle.scene_json.specs.Faults.{IsFirstFault};
 ghost use Rattle.scene_json.specs.Machine.{moved, top};
-ghost use Rattle.scene_json.specs.Writing.{place_in, writing_at, Fits, Ready};
+ghost use Rattle.scene_json.specs.Writing.{writing_at, Fits, Ready};
 ghost use Rattle.scene_json.specs.declared.fault.JsonFault.{JsonFault};
 ghost use Rattle.scene_json.specs.declared.machine.Move.TheVariants.{To};
 
@@ -81,16 +81,14 @@ fn pass(
     at: usize,
 ) -> Result<usize, AllocError>
     requires within { at ≤ length bytes.now }
-    requires place { place_in machine.now.mode ≡ (writing_at bytes.now at writer.old).place }
     requires fits { Fits at writer.old }
     ensures within { IfOk result (λ end. (at ≤ end) × (end ≤ length bytes.now)) }
     ensures stays { IfOk result (λ end. AllByRecursion (λ b. moved machine.now.mode (top machine.now.brackets) b ≡ To machine.now.mode) (take (end - at) (drop at bytes.now))) }
     ensures ready { IfOk result (λ end. (text more : List ℕ) → Ready text (writing_at bytes.now at writer.old) (take (end - at) (drop at bytes.now) ++ more)
         → Ready text (writing_at bytes.now end writer.new) more) }
-    ensures place { IfOk result (λ end. (writing_at bytes.now end writer.new).place ≡ (writing_at bytes.now at writer.old).place) }
     ensures fits { IfOk result (λ end. Fits end writer.new) }
 {
-    let end = machine.stay_end(bytes, at);
+    let end = machine.stay_end(writer.ground(), bytes, at);
     writer.put_all(bytes, at, end)?;
     Ok(end)
 }

@@ -4,7 +4,7 @@ ghost use Rattle.std.specs.Prelude.{◌≡◌, ◌+◌, ◌-◌, ◌≤◌, take
 ghost use Rattle.std.specs.List.{AllByRecursion, prefix_len};
 ghost use Rattle.scene_json.specs.Characters.{is_digit};
 ghost use Rattle.scene_json.specs.Machine.{is_bare, keeps_bare, keeps_digits, keeps_space, moved};
-ghost use Rattle.scene_json.specs.Writing.{place_in, AreAlike};
+ghost use Rattle.scene_json.specs.Writing.{AreAlike};
 ghost use Rattle.scene_json.specs.declared.machine.Move.TheVariants.{To};
 
 use crate::brackets::Bracket;
@@ -12,22 +12,36 @@ use crate::end::skip_space;
 use crate::machine::{Mode, Place};
 use crate::number::Part;
 
-/// Where a stretch from `at` on ends whose bytes all leave the mode as it is: plain characters of a string, digits of a
-/// number, white space.
-pub(crate) fn stay_end(mode: Mode, top: Option<Bracket>, bytes: &[u8], at: usize) -> usize
+/// What stands around a stretch.
+#[derive(Clone, Copy)]
+pub(crate) enum Ground {
+    /// A string, and no `\` just before.
+    Quoted,
+    /// No string.
+    Between,
+    /// A `\` in a string, just before.
+    Escaped,
+}
+
+/// Where a stretch from `at` on ends whose bytes all leave the mode as it is: plain characters of a string, or digits of a
+/// number or white space outside strings.
+pub(crate) fn stay_end(
+    mode: Mode,
+    top: Option<Bracket>,
+    ground: Ground,
+    bytes: &[u8],
+    at: usize,
+) -> usize
     requires { at ≤ length bytes.now }
     ensures within { (at ≤ result) × (result ≤ length bytes.now) }
     ensures stays { AllByRecursion (λ b. moved mode top b ≡ To mode) (take (result - at) (drop at bytes.now)) }
-    ensures alike { AreAlike (place_in mode) (take (result - at) (drop at bytes.now)) }
+    ensures alike { AreAlike ground (take (result - at) (drop at bytes.now)) }
 {
-    if keeps_bare(mode) {
-        skip_bare(bytes, at)
-    } else if keeps_digits(mode) {
-        skip_digits(bytes, at)
-    } else if keeps_space(mode, top) {
-        skip_space(bytes, at)
-    } else {
-        at
+    match ground {
+        Ground::Quoted if keeps_bare(mode) => skip_bare(bytes, at),
+        Ground::Between if keeps_digits(mode) => skip_digits(bytes, at),
+        Ground::Between if keeps_space(mode, top) => skip_space(bytes, at),
+        _ => at,
     }
 }
 

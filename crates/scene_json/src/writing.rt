@@ -6,12 +6,13 @@
 ghost use Rattle.std.specs.Prelude.{◌≡◌, ℕ, ◌+◌, ◌<◌, ◌≤◌, List, [], ◌++◌, true, false, length, slice_index, IfOk, OnOk};
 ghost use Rattle.scene_json.specs.Drafts.{fresh, grown};
 ghost use Rattle.scene_json.specs.Lines.{outside, inside};
-ghost use Rattle.scene_json.specs.Writing.{between, deed, deed_at, stretch, copied, writing_at, AreAlike, Can, CanPut, Fits, HasPut, Ready};
+ghost use Rattle.scene_json.specs.Writing.{between, deed, deed_at, stretch, copied, ground_of, writing_at, AreAlike, Can, CanPut, Fits, HasPut, Ready};
 ghost use Rattle.scene_json.specs.declared.writing.Deed.TheVariants.{Skip, Begin, Finish, Open, Shut, Name, Part, Deepen, Rise, Push};
 
 use crate::content::content_of;
 use crate::draft::Draft;
 use crate::machine::is_space;
+use crate::staying::Ground;
 use std::alloc::{AllocError, Global};
 use std::mem::replace;
 
@@ -95,15 +96,27 @@ impl Writer {
         }
     }
 
+    /// The ground on which it stands.
+    pub(crate) fn ground(&self) -> Ground
+        ensures { result ≡ ground_of self.now }
+    {
+        if !self.quoted {
+            Ground::Between
+        } else if self.escaped {
+            Ground::Escaped
+        } else {
+            Ground::Quoted
+        }
+    }
+
     /// Takes the stretch between two offsets: bytes that stand in a string as they are, or bytes outside strings that are
     /// appended as they are or are all white space.
     pub(crate) fn put_all(&mut self, bytes: &[u8], at: usize, end: usize) -> Result<(), AllocError>
         requires within { (at ≤ end) × (end ≤ length bytes.now) }
         requires fits { Fits at self.old }
-        requires alike { AreAlike (writing_at bytes.now at self.old).place (stretch bytes.now at end) }
+        requires alike { AreAlike (ground_of self.old) (stretch bytes.now at end) }
         ensures ready { OnOk result ((text more : List ℕ) → Ready text (writing_at bytes.now at self.old) (stretch bytes.now at end ++ more)
             → Ready text (writing_at bytes.now end self.new) more) }
-        ensures place { OnOk result ((writing_at bytes.now end self.new).place ≡ (writing_at bytes.now at self.old).place) }
         ensures fits { OnOk result (Fits end self.new) }
     {
         if !self.quoted && at < end && is_space(bytes[at]) {

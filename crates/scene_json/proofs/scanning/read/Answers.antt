@@ -4,11 +4,11 @@ use Rattle.scene_json.specs.Faults.{IsFirstFault}
 use Rattle.scene_json.specs.Machine.{state, top, fault_of}
 use Rattle.scene_json.specs.Value.{Stands}
 use Rattle.scene_json.specs.Drafts.{fresh, grown}
-use Rattle.scene_json.specs.Writing.{Writing, HasWritten, between, place_in, writing_at}
+use Rattle.scene_json.specs.Writing.{Writing, HasWritten, between, writing_at}
 use Rattle.scene_json.specs.declared.machine.Machine.{Machine}
 use Rattle.scene_json.proofs.Machines.{run, start}
 use Rattle.scene_json.proofs.OffsetRuns.{read_on, stayed, end_found, refused_fault, done_found, undone_fault}
-use Rattle.scene_json.proofs.Written.{written-starts, value-written, can-put, put-alongside, put-written, stretch-written}
+use Rattle.scene_json.proofs.Written.{written-starts, value-written, can-put, put-written, stretch-written}
 use Rattle.scene_json.proofs.scanning.read.Goals as goal
 use Rattle.scene_json.proofs.scanning.read.Goals.{In-Ended, Then-is_done}
 
@@ -25,7 +25,6 @@ loop-next-init c =
       low = pass.within.0;
       high = pass.within.1;
       runs = stayed bytes at at (omega arith) c.new-machine.result.mode c.new-machine.result.brackets begun c.in_ok-next.next pass.within.0 pass.stays;
-      place = ap place_in c.new-machine.ensures.mode ∙ sym (ap (λ (w : Writing). w.place) (c.new-writer.ensures.written bytes)) ∙ sym pass.place;
       written = stretch-written bytes at at c.in_ok-next.next (omega arith) pass.within.0 (writing_at bytes at c.new-writer.result) (writing_at bytes c.in_ok-next.next c.pass.new.writer) nothing pass.ready;
       fits = pass.fits;
     }
@@ -35,12 +34,6 @@ put-requires-clause-can c =
     let l = c.loop-next in
     can-put c.args.bytes.now c.args.at l.next l.invariant.low l.machine.mode l.machine.brackets l.invariant.runs (writing_at c.args.bytes.now l.next l.writer) l.invariant.written
     c.step.new.self.mode c.step.new.self.brackets c.loop-next-test.true c.in-On.ensures
-
-pub pass-requires-in-On-clause-place : goal.pass-requires-in-On-clause-place
-pass-requires-in-On-clause-place c =
-    let l = c.loop-next in
-    put-alongside c.args.bytes.now c.args.at l.next l.invariant.low l.machine.mode l.machine.brackets l.invariant.runs (writing_at c.args.bytes.now l.next l.writer) l.invariant.written
-    c.step.new.self.mode c.step.new.self.brackets c.loop-next-test.true c.in-On.ensures (writing_at c.args.bytes.now (l.next + 1) c.put.new.self) c.in_ok-put-in-On.ensures.done l.invariant.place
 
 pub loop-next-preserved : goal.loop-next-preserved
 loop-next-preserved c =
@@ -56,8 +49,6 @@ loop-next-preserved c =
       low = omega (arith, l.invariant.low, pass.within.0);
       high = pass.within.1;
       runs = stayed bytes at (l.next + 1) low m.mode m.brackets read c.in_ok-next-in-On.next pass.within.0 pass.stays;
-      place = put-alongside bytes at l.next l.invariant.low l.machine.mode l.machine.brackets l.invariant.runs (writing_at c.args.bytes.now l.next l.writer) l.invariant.written
-          m.mode m.brackets c.loop-next-test.true c.in-On.ensures (writing_at c.args.bytes.now (l.next + 1) c.put.new.self) c.in_ok-put-in-On.ensures.done l.invariant.place ∙ sym pass.place;
       written = stretch-written bytes at (l.next + 1) c.in_ok-next-in-On.next low pass.within.0 (writing_at bytes (l.next + 1) c.put.new.self) (writing_at bytes c.in_ok-next-in-On.next c.pass-in-On.new.writer)
           (put-written bytes at l.next l.invariant.low l.machine.mode l.machine.brackets l.invariant.runs (writing_at c.args.bytes.now l.next l.writer) l.invariant.written
           m.mode m.brackets c.loop-next-test.true c.in-On.ensures (writing_at c.args.bytes.now (l.next + 1) c.put.new.self) c.in_ok-put-in-On.ensures.done) pass.ready;

@@ -1,6 +1,6 @@
 use Rattle.std.proofs.Common.{◌≡◌, ◌-◌, ◌≤◌, length, take, drop}
 use Rattle.scene_json.specs.Machine.{state}
-use Rattle.scene_json.specs.Writing.{Fits, HasWritten, place_in, writing_at}
+use Rattle.scene_json.specs.Writing.{Fits, HasWritten, writing_at}
 use Rattle.scene_json.proofs.Machines.{run, start}
 use Rattle.scene_json.proofs.scanning.read.Given as goal
 
@@ -10,7 +10,6 @@ invariant-loop-next l = record {
   low : l.at ≤ l.next;
   high : l.next ≤ length l.bytes;
   runs : run 128 start (take (l.next - l.at) (drop l.at l.bytes)) ≡ state l.machine.mode l.machine.brackets;
-  place : place_in l.machine.mode ≡ (writing_at l.bytes l.next l.writer).place;
   fits : Fits l.next l.writer;
   written : HasWritten (take (l.next - l.at) (drop l.at l.bytes)) (writing_at l.bytes l.next l.writer);
 }
