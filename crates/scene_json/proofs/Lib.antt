@@ -50,6 +50,7 @@ pub mod Rising
 pub mod Quotes
 pub mod Appended
 mod Placing
+mod Marks
 mod QuotedNames
 mod Drafting
 mod Ready

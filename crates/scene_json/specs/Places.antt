@@ -1,5 +1,5 @@
 -- Where members stand in a text that is written. Only contracts of private functions cite this.
-use Rattle.std.specs.Prelude.{ℕ, ◌-◌, ◌≤◌, List, [], ◌∷◌, ◌++◌, map, take, drop, All}
+use Rattle.std.specs.Prelude.{ℕ, ◌+◌, ◌-◌, ◌%◌, ◌≤◌, List, map, take, drop, length, slice_index, nat_lt, if◌then◌else◌, All}
 use Rattle.scene_json.specs.Characters.{quote}
 use Rattle.scene_json.specs.Compact.{Member}
 use Rattle.scene_json.specs.declared.collapsing.Span.{Span}
@@ -14,6 +14,10 @@ entry bytes place = (cut bytes place.name, cut bytes place.value)
 
 abbrev pub entries : List ℕ → List Place → List Member
 entries bytes places = map (entry bytes) places
+
+-- a number below 256 by a name's length and two of its bytes
+abbrev pub mark_of : List ℕ → ℕ
+mark_of name = if nat_lt (length name) 3 then 0 else ((length name + slice_index name 1) + slice_index name (length name - 3)) % 256
 
 abbrev pub IsWithin : ℕ → Span → Type 0
 IsWithin size span = (span.start ≤ span.end) × (span.end ≤ size)

@@ -5,7 +5,7 @@ ghost use Rattle.std.specs.List.{IsDistinct, list_any};
 ghost use Rattle.scene_json.specs.Compact.{collapsed};
 ghost use Rattle.scene_json.specs.Parts.{names_of};
 ghost use Rattle.scene_json.specs.Drafts.{pairs_text};
-ghost use Rattle.scene_json.specs.Places.{cut, entries, IsWithin, AreWithin};
+ghost use Rattle.scene_json.specs.Places.{cut, entries, mark_of, IsWithin, AreWithin};
 
 use std::alloc::{AllocError, Global};
 use std::collections::BTreeMap;
@@ -48,19 +48,32 @@ pub(crate) fn collapse(
     Ok(())
 }
 
-/// Whether no name comes again.
+/// Whether no name comes again. Only names with one mark are compared.
 fn are_distinct(bytes: &[u8], places: &[Place]) -> bool
     requires { AreWithin (length bytes.now) places.now }
     ensures { IsTrue result → IsDistinct bytes_eq (names_of (entries bytes.now places.now)) }
 {
-    let mut rest = places;
-    while let Some((place, others)) = rest.split_first() {
-        if comes_again(bytes, bytes_at(bytes, place.name), others) {
+    let mut seen = [false; 256];
+    for (i, place) in places.iter().enumerate() {
+        let name = bytes_at(bytes, place.name);
+        let mark = mark_of(name);
+        if seen[mark] && comes_again(bytes, name, &places[..i]) {
             return false;
         }
-        rest = others;
+        seen[mark] = true;
     }
     true
+}
+
+/// A number below 256 that is the same for equal names, and mostly another one for others.
+fn mark_of(name: &[u8]) -> usize
+    ensures value { result ≡ mark_of name.now }
+    ensures small { result < 256 }
+{
+    if name.len() < 3 {
+        return 0;
+    }
+    (name.len() + usize::from(name[1]) + usize::from(name[name.len() - 3])) % 256
 }
 
 /// Whether the name is one of those at these places.
