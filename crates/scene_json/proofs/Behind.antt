@@ -125,11 +125,13 @@ module _ (bytes : List ℕ) (next : ℕ) (marked : IsMarked bytes next) where
         let front : drop next bytes ≡ 92 ∷ drop (suc next) bytes = split ∙ ap (λ b. b ∷ drop (suc next) bytes) (slash other) in
         let all : behind_string false (drop (next + 2) bytes) ≡ behind_string false bytes =
         (let two : suc next + 1 ≡ next + 2 = omega arith in
-        ap (λ j. behind_string false (drop j bytes)) (sym two) ∙ ap (behind_string false) (sym (drop-drop 1 (suc next) bytes)) ∙ passed (drop (suc next) bytes) ∙ ap (behind_string false) (sym front) ∙ marked.same) in
-        (omega (arith, is), elim (cases_lt (length bytes) (next + 2)) [
-          | inl short ↦
-              let at : k ≡ length bytes = omega (arith, is, short) in
-              ap (λ j. behind_string false (drop j bytes)) at
-              ∙ ap (behind_string false) (drop_of_length-le bytes (omega arith) ∙ sym (drop_of_length-le bytes (omega (arith, short)))) ∙ all
-          | inr long ↦ let at : k ≡ next + 2 = omega (arith, is, long) in ap (λ j. behind_string false (drop j bytes)) at ∙ all
-        ])
+        ap (λ j. behind_string false (drop j bytes)) (sym two) ∙ ap (behind_string false) (sym (drop-drop 1 (suc next) bytes)) ∙ passed (drop (suc next) bytes) ∙ ap (behind_string false) (sym front) ∙ marked.same) in (
+          omega (arith, is),
+          elim (cases_lt (length bytes) (next + 2)) [
+            | inl short ↦
+                let at : k ≡ length bytes = omega (arith, is, short) in
+                ap (λ j. behind_string false (drop j bytes)) at
+                ∙ ap (behind_string false) (drop_of_length-le bytes (omega arith) ∙ sym (drop_of_length-le bytes (omega (arith, short)))) ∙ all
+            | inr long ↦ let at : k ≡ next + 2 = omega (arith, is, long) in ap (λ j. behind_string false (drop j bytes)) at ∙ all
+          ],
+        )

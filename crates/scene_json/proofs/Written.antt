@@ -1,17 +1,19 @@
 -- What the writer has written of the bytes so far, along the machine.
-use Rattle.std.proofs.Common.{◌≡◌, ℕ, ◌+◌, ◌-◌, ◌<◌, ◌≤◌, length, take, drop, get_or, List, [], ◌∷◌, ◌++◌, true, None, refl, sym, ap, subst, ◌∙◌, append_assoc, append-nil}
+use Rattle.std.proofs.Common.{◌≡◌, ℕ, ◌+◌, ◌-◌, ◌<◌, ◌≤◌, length, take, drop, get_or, List, [], ◌∷◌, ◌++◌, true, None, refl, sym, ap, subst, ◌∙◌, arith, append_assoc, append-nil}
 use Rattle.scene_json.specs.Characters.{is_blank}
 use Rattle.scene_json.specs.Compact.{compact}
 use Rattle.scene_json.specs.Drafts.{fresh, grown}
 use Rattle.scene_json.specs.Tree.{Tree, spelling, IsGood}
 use Rattle.scene_json.specs.Value.{Value, Begins, Stands}
-use Rattle.scene_json.specs.Machine.{state, step}
-use Rattle.scene_json.specs.declared.brackets.Bracket.{Bracket}
-use Rattle.scene_json.specs.declared.machine.Mode.{Mode}
-use Rattle.scene_json.specs.Writing.{Writing, between, deed_at, Can, Done, Ready, HasWritten}
+use Rattle.scene_json.specs.Machine.{state, top, moved}
+use Rattle.std.specs.List.{AllByRecursion}
+use Rattle.scene_json.specs.declared.machine.Machine.{Machine}
+use Rattle.scene_json.specs.declared.machine.Move.TheVariants.{To}
+use Rattle.scene_json.specs.declared.writing.Writer.{Writer}
+use Rattle.scene_json.specs.Writing.{Writing, between, deed_at, Can, Done, Ready, HasWritten, stretch, writing_at, Fits, CanPut, HasPut, HasRead, GoesOn}
 use Rattle.scene_json.proofs.Machines.{run, start}
 use Rattle.scene_json.proofs.ValueRuns.{runs_begins}
-use Rattle.scene_json.proofs.OffsetRuns.{one_more, stretch_more, whole_value, read_on}
+use Rattle.scene_json.proofs.OffsetRuns.{one_more, stretch_more, whole_value, read_on, stayed}
 use Rattle.scene_json.proofs.Ready.{blank-ready, tree-ready}
 
 -- of no bytes
@@ -46,28 +48,47 @@ written-whole bytes blank value text w written parts space v =
     written.ready blank [] v.tree space v.good (ap (λ x. blank ++ x) v.spells ∙ sym parts ∙ sym (append-nil bytes))
     ∙ ap (λ t. between (grown fresh t) []) v.means
 
--- along the machine, over the bytes from an offset on
-module _ (bytes : List ℕ) (at i : ℕ) (low : at ≤ i) (m : Mode) (st : List Bracket) (is : run 128 start (take (i - at) (drop at bytes)) ≡ state m st)
-    (w : Writing) (written : HasWritten (take (i - at) (drop at bytes)) w) where
-  pub value-written : (text : List ℕ) → Stands (drop at bytes) text (drop i bytes) → w ≡ between (grown fresh text) []
-  value-written text s = written-whole (take (i - at) (drop at bytes)) s.blank s.value text w written (whole_value bytes at i low text s) s.space s.reads
-
-  module _ (next : Mode) (brackets : List Bracket) (high : i < length bytes) (goes : step 128 m st (get_or bytes i 0) ≡ state next brackets) where
-    abbrev byte : ℕ
-    byte = get_or bytes i 0
-
-    ran : run 128 start (take (i - at) (drop at bytes) ++ byte ∷ []) ≡ state next brackets
-    ran = ap (run 128 start) (sym (one_more bytes at i low high)) ∙ read_on bytes at i low m st is (state next brackets) high goes
-
-    pub can-put : Can (deed_at w byte) w byte
-    can-put = can-write (take (i - at) (drop at bytes)) byte w written (runs_begins 128 (take (i - at) (drop at bytes) ++ byte ∷ []) (record { mode = next; brackets = brackets; reached = ran }))
-
-    module _ (put : Writing) (done : Done (deed_at w byte) w byte put) where
-      pub put-written : HasWritten (take (i + 1 - at) (drop at bytes)) put
-      put-written = subst (λ xs. HasWritten xs put) (sym (one_more bytes at i low high)) (written-one (take (i - at) (drop at bytes)) byte w put written done)
-
 -- behind a stretch
-pub stretch-written : (bytes : List ℕ) (at i j : ℕ) → at ≤ i → i ≤ j → (w new : Writing) → HasWritten (take (i - at) (drop at bytes)) w
-    → ((text more : List ℕ) → Ready text w (take (j - i) (drop i bytes) ++ more) → Ready text new more) → HasWritten (take (j - at) (drop at bytes)) new
+stretch-written : (bytes : List ℕ) (at i j : ℕ) → at ≤ i → i ≤ j → (w new : Writing) → HasWritten (stretch bytes at i) w
+    → ((text more : List ℕ) → Ready text w (stretch bytes i j ++ more) → Ready text new more) → HasWritten (stretch bytes at j) new
 stretch-written bytes at i j low up w new written takes =
-    subst (λ xs. HasWritten xs new) (sym (stretch_more bytes at i low j up)) (written-all (take (i - at) (drop at bytes)) (take (j - i) (drop i bytes)) w new written takes)
+    subst (λ xs. HasWritten xs new) (sym (stretch_more bytes at i low j up)) (written-all (stretch bytes at i) (stretch bytes i j) w new written takes)
+
+-- along the machine
+module _ (bytes : List ℕ) (at next : ℕ) (machine : Machine) (writer : Writer) (read : HasRead bytes at next machine writer) where
+  pub value-written : (text : List ℕ) → Stands (drop at bytes) text (drop next bytes) → writing_at bytes next writer ≡ between (grown fresh text) []
+  value-written text s =
+      written-whole (stretch bytes at next) s.blank s.value text (writing_at bytes next writer) read.written (whole_value bytes at next read.low text s) s.space s.reads
+
+  -- a byte that the machine takes can be written, and is read then
+  module _ (after : Machine) (high : next < length bytes) (goes : GoesOn machine (get_or bytes next 0) after) where
+    ran : run 128 start (stretch bytes at (next + 1)) ≡ state after.mode after.brackets
+    ran = read_on bytes at next read.low machine.mode machine.brackets read.runs (state after.mode after.brackets) high goes
+
+    pub can-put : CanPut bytes next writer
+    can-put =
+        can-write (stretch bytes at next) (get_or bytes next 0) (writing_at bytes next writer) read.written
+        (runs_begins 128 (stretch bytes at next ++ get_or bytes next 0 ∷ [])
+        (record { mode = after.mode; brackets = after.brackets; reached = ap (run 128 start) (sym (one_more bytes at next read.low high)) ∙ ran }))
+
+    pub has-put : (new : Writer) → HasPut (deed_at (writing_at bytes next writer) (get_or bytes next 0)) bytes next writer new → HasRead bytes at (next + 1) after new
+    has-put new put = record {
+      low = omega (arith, read.low);
+      high = omega (arith, high);
+      runs = ran;
+      fits = put.fits;
+      written = subst (λ xs. HasWritten xs (writing_at bytes (next + 1) new)) (sym (one_more bytes at next read.low high))
+          (written-one (stretch bytes at next) (get_or bytes next 0) (writing_at bytes next writer) (writing_at bytes (next + 1) new) read.written put.done);
+    }
+
+  -- a stretch that leaves the machine as it is
+  pub has-passed : (end : ℕ) (new : Writer) → next ≤ end → end ≤ length bytes → AllByRecursion (λ b. moved machine.mode (top machine.brackets) b ≡ To machine.mode) (stretch bytes next end)
+      → ((text more : List ℕ) → Ready text (writing_at bytes next writer) (stretch bytes next end ++ more) → Ready text (writing_at bytes end new) more) → Fits end new
+      → HasRead bytes at end machine new
+  has-passed end new up high stays ready fits = record {
+    low = omega (arith, read.low, up);
+    high = high;
+    runs = stayed bytes at next read.low machine.mode machine.brackets read.runs end up stays;
+    fits = fits;
+    written = stretch-written bytes at next end read.low up (writing_at bytes next writer) (writing_at bytes end new) read.written ready;
+  }

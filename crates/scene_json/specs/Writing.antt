@@ -1,13 +1,16 @@
 -- What each byte of a value makes of what was written of the value. Only contracts of private functions cite this.
 -- This project's own, over RFC 8259, sections 2 to 7.
-use Rattle.std.specs.Prelude.{◌≡◌, ℕ, ◌+◌, ◌-◌, ◌≤◌, take, drop, slice_index, List, [], ◌∷◌, ◌++◌, Option, None, Some, Bool, true, false, ◌==◌, ◌⊎◌, if◌then◌else◌}
+use Rattle.std.specs.Prelude.{◌≡◌, ℕ, ◌+◌, ◌-◌, ◌≤◌, length, take, drop, slice_index, List, [], ◌∷◌, ◌++◌, Option, None, Some, Bool, true, false, ◌==◌, ◌⊎◌, if◌then◌else◌}
 use Rattle.std.specs.List.{AllByRecursion}
 use Rattle.scene_json.specs.Characters.{is_space, is_blank, is_plain, is_digit, quote}
 use Rattle.scene_json.specs.Compact.{compact}
 use Rattle.scene_json.specs.Drafts.{Drafted, fresh, grown, closed}
+use Rattle.scene_json.specs.Machine.{state, step}
+use Rattle.scene_json.specs.Runs.{run, start}
 use Rattle.scene_json.specs.Lines.{Place, outside, inside, place_of}
 use Rattle.scene_json.specs.Tree.{Tree, IsGood, spelling}
 use Rattle.scene_json.specs.Walk.{Quoted}
+use Rattle.scene_json.specs.declared.machine.Machine.{Machine}
 use Rattle.scene_json.specs.declared.staying.Ground.{Ground}
 use Rattle.scene_json.specs.declared.staying.Ground.TheVariants as ground
 use Rattle.scene_json.specs.declared.writing.Deed.{Deed}
@@ -137,3 +140,20 @@ Ready text w (b ∷ bytes) = Can (deed_at w b) w b × ((new : Writing) → Done 
 pub record HasWritten (bytes : List ℕ) (w : Writing) : Type 0 where
   pub ready : (blank more : List ℕ) (tree : Tree) → is_blank blank ≡ true → IsGood tree → blank ++ spelling tree ≡ bytes ++ more
       → Ready (compact tree) w more
+
+-- The machine has run over the bytes from an offset to the next one, and what they make is written.
+pub record HasRead (bytes : List ℕ) (at next : ℕ) (machine : Machine) (writer : Writer) : Type 0 where
+  pub low : at ≤ next
+  pub high : next ≤ length bytes
+  pub runs : run 128 start (stretch bytes at next) ≡ state machine.mode machine.brackets
+  pub fits : Fits next writer
+  pub written : HasWritten (stretch bytes at next) (writing_at bytes next writer)
+
+-- A step takes the machine on over this byte.
+abbrev pub GoesOn : Machine → ℕ → Machine → Type 0
+GoesOn before byte machine = step 128 before.mode before.brackets byte ≡ state machine.mode machine.brackets
+
+-- Wherever the bytes were read from on: what was read up to an offset is read up to a later one.
+abbrev pub ReadsOn : List ℕ → ℕ → Machine → Writer → ℕ → Machine → Writer → Type 0
+ReadsOn bytes next machine writer end after written =
+    (next ≤ end) × (end ≤ length bytes) × ((at : ℕ) → HasRead bytes at next machine writer → HasRead bytes at end after written)

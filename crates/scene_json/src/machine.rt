@@ -2,10 +2,10 @@
 //!
 //! Its state is a mode and the brackets that are open. It takes no memory and can be kept between calls.
 
-ghost use Rattle.std.specs.Prelude.{◌≡◌, ◌↔◌, ◌-◌, ◌≤◌, IsTrue, [], take, drop, length};
+ghost use Rattle.std.specs.Prelude.{◌≡◌, ◌↔◌, ◌-◌, ◌≤◌, IsTrue, [], false, take, drop, length};
 ghost use Rattle.std.specs.List.{AllByRecursion};
 ghost use Rattle.scene_json.specs.Characters.{is_space, is_hex};
-ghost use Rattle.scene_json.specs.Machine.{closes_bracket, after_comma, after_string, value_begun, value_move, fresh_move, name_begun, name_move, colon_move, after_move, plain_move, led_move, escape_move, hex_move, sequence_move, string_move, number_move, first_letter, letters_after, word_move, moved, string_fault, bracket_fault, fault_of, top, step, ended, Stepped};
+ghost use Rattle.scene_json.specs.Machine.{closes_bracket, after_comma, after_string, value_begun, value_move, fresh_move, name_begun, name_move, colon_move, after_move, plain_move, led_move, escape_move, hex_move, sequence_move, string_move, number_move, first_letter, letters_after, word_move, moved, string_fault, bracket_fault, fault_of, top, step, state, ended, Stepped};
 ghost use Rattle.scene_json.specs.Runs.{is_over};
 ghost use Rattle.scene_json.specs.Writing.{AreAlike};
 ghost use Rattle.scene_json.specs.declared.machine.Move.TheVariants.{To};
@@ -151,6 +151,22 @@ impl Machine {
         ensures alike { AreAlike ground (take (result - at) (drop at bytes.now)) }
     {
         stay_end(self.mode, self.brackets.top(), ground, bytes, at)
+    }
+
+    /// Takes the end of a string between two characters, the colon behind a name, and a space where a value must come;
+    /// other bytes it leaves.
+    #[inline(always)]
+    pub(crate) fn end_string(&mut self, byte: u8) -> bool
+        ensures taken { IsTrue result → step 128 self.old.mode self.old.brackets byte ≡ state self.new.mode self.new.brackets }
+        ensures left { result ≡ false → self.new ≡ self.old }
+    {
+        match (self.mode, byte) {
+            (Mode::Quoted(role, Place::Plain), b'"') => self.mode = after_string(role),
+            (Mode::Colon, b':') => self.mode = Mode::Value,
+            (Mode::Value, b' ') => {}
+            _ => return false,
+        }
+        true
     }
 
     /// The ground on which it stands.

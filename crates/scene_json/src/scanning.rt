@@ -1,13 +1,11 @@
 //! Reading one value.
 
-ghost use Rattle.std.specs.Prelude.{◌≡◌, ℕ, ◌++◌, ◌-◌, ◌<◌, ◌≤◌, List, length, take, drop, IfOk};
-ghost use Rattle.std.specs.List.{AllByRecursion};
+ghost use Rattle.std.specs.Prelude.{◌≡◌, ℕ, ◌<◌, ◌≤◌, List, length, drop, slice_index, IfOk};
 ghost use Rattle.scene_json.specs.Value.{Stands};
 ghost use Rattle.scene_json.specs.Faults.{IsFirstFault};
-ghost use Rattle.scene_json.specs.Machine.{moved, top};
-ghost use Rattle.scene_json.specs.Writing.{writing_at, Fits, Ready};
+ghost use Rattle.scene_json.specs.Writing.{Fits, GoesOn, HasRead, ReadsOn};
 ghost use Rattle.scene_json.specs.declared.fault.JsonFault.{JsonFault};
-ghost use Rattle.scene_json.specs.declared.machine.Move.TheVariants.{To};
+ghost use Rattle.scene_json.specs.declared.machine.Machine.{Machine};
 
 use crate::fault::JsonFault;
 use crate::machine::{Machine, Step};
@@ -54,13 +52,10 @@ fn read(alloc: Global, bytes: &[u8], at: usize) -> Result<(Vec<u8>, usize), Stop
 {
     let mut machine = Machine::new();
     let mut writer = Writer::new(alloc, at);
-    let mut next = pass(&machine, &mut writer, bytes, at)?;
+    let mut next = at;
     while next < bytes.len() {
         match machine.step(bytes[next]) {
-            Step::On => {
-                writer.put(alloc, bytes, next)?;
-                next = pass(&machine, &mut writer, bytes, next + 1)?;
-            }
+            Step::On => next = take(alloc, &mut machine, &mut writer, bytes, next)?,
             Step::Ended => return Ok((writer.into_text(bytes, next)?, next)),
             Step::Refused => return Err(Stop::Fault(machine.fault(Some(bytes[next]), next))),
         }
@@ -70,6 +65,51 @@ fn read(alloc: Global, bytes: &[u8], at: usize) -> Result<(Vec<u8>, usize), Stop
     } else {
         Err(Stop::Fault(machine.fault(None, bytes.len())))
     }
+}
+
+/// Writes the byte at an offset, which the machine has taken, and takes the bytes behind it that are taken together with
+/// it. It gives the offset after them.
+#[inline(always)]
+fn take(
+    alloc: Global,
+    machine: &mut Machine,
+    writer: &mut Writer,
+    bytes: &[u8],
+    next: usize,
+) -> Result<usize, AllocError>
+    requires within { next < length bytes.now }
+    requires read { (at : ℕ) × (before : Machine) × HasRead bytes.now at next before writer.old × GoesOn before (slice_index bytes.now next) machine.old }
+    ensures within { IfOk result (λ end. (next < end) × (end ≤ length bytes.now)) }
+    ensures read { IfOk result (λ end. (at : ℕ) (before : Machine) → HasRead bytes.now at next before writer.old
+        → GoesOn before (slice_index bytes.now next) machine.old → HasRead bytes.now at end machine.new writer.new) }
+{
+    writer.put(alloc, bytes, next)?;
+    let end = pass(machine, writer, bytes, next + 1)?;
+    if bytes[next] == b'"' {
+        end_string(alloc, machine, writer, bytes, end)
+    } else {
+        Ok(end)
+    }
+}
+
+/// Takes the end of a string and the colon behind a name, and a space behind that, where they stand at an offset.
+#[inline(always)]
+fn end_string(
+    alloc: Global,
+    machine: &mut Machine,
+    writer: &mut Writer,
+    bytes: &[u8],
+    at: usize,
+) -> Result<usize, AllocError>
+    requires { (from : ℕ) × HasRead bytes.now from at machine.old writer.old }
+    ensures { IfOk result (λ end. ReadsOn bytes.now at machine.old writer.old end machine.new writer.new) }
+{
+    let mut next = at;
+    while next < bytes.len() && machine.end_string(bytes[next]) {
+        writer.put(alloc, bytes, next)?;
+        next += 1;
+    }
+    Ok(next)
 }
 
 /// Takes the stretch from `at` on that leaves the machine as it is, and gives the offset after it.
@@ -82,11 +122,7 @@ fn pass(
 ) -> Result<usize, AllocError>
     requires within { at ≤ length bytes.now }
     requires fits { Fits at writer.old }
-    ensures within { IfOk result (λ end. (at ≤ end) × (end ≤ length bytes.now)) }
-    ensures stays { IfOk result (λ end. AllByRecursion (λ b. moved machine.now.mode (top machine.now.brackets) b ≡ To machine.now.mode) (take (end - at) (drop at bytes.now))) }
-    ensures ready { IfOk result (λ end. (text more : List ℕ) → Ready text (writing_at bytes.now at writer.old) (take (end - at) (drop at bytes.now) ++ more)
-        → Ready text (writing_at bytes.now end writer.new) more) }
-    ensures fits { IfOk result (λ end. Fits end writer.new) }
+    ensures { IfOk result (λ end. ReadsOn bytes.now at machine.now writer.old end machine.now writer.new) }
 {
     let end = machine.stay_end(writer.ground(), bytes, at);
     writer.put_all(bytes, at, end)?;

@@ -83,6 +83,7 @@ impl Writer {
     }
 
     /// Takes the byte at an offset.
+    #[inline(always)]
     pub(crate) fn put(&mut self, alloc: Global, bytes: &[u8], next: usize) -> Result<(), AllocError>
         requires within { next < length bytes.now }
         requires fits { Fits next self.old }
@@ -147,6 +148,7 @@ impl Writer {
     }
 
     /// Takes a byte in a string.
+    #[inline(always)]
     fn put_quoted(&mut self, alloc: Global, bytes: &[u8], next: usize) -> Result<(), AllocError>
         requires quoted { self.old.quoted ≡ true }
         requires within { next < length bytes.now }
@@ -170,6 +172,7 @@ impl Writer {
     }
 
     /// Takes a byte outside strings.
+    #[inline(always)]
     fn put_between(&mut self, alloc: Global, bytes: &[u8], next: usize) -> Result<(), AllocError>
         requires apart { self.old.quoted ≡ false }
         requires within { next < length bytes.now }
@@ -239,6 +242,7 @@ impl Writer {
         }
     }
 
+    #[inline(never)]
     fn quote(&mut self, alloc: Global, bytes: &[u8], next: usize) -> Result<(), AllocError>
         requires quoted { self.old.quoted ≡ true }
         requires within { next < length bytes.now }
@@ -256,6 +260,7 @@ impl Writer {
     }
 
     /// An object is opened.
+    #[inline(never)]
     fn open(&mut self, alloc: Global, bytes: &[u8], next: usize) -> Result<(), AllocError>
         requires apart { self.old.quoted ≡ false }
         requires within { next < length bytes.now }
@@ -269,6 +274,7 @@ impl Writer {
     }
 
     /// An object is closed.
+    #[inline(never)]
     fn shut(&mut self, alloc: Global, bytes: &[u8], next: usize) -> Result<(), AllocError>
         requires apart { self.old.quoted ≡ false }
         requires within { next < length bytes.now }
