@@ -1,6 +1,5 @@
 -- What stands behind the bytes that were there.
-use Rattle.std.proofs.Common.{◌≡◌, ℕ, List, [], ◌++◌, length, take, refl, sym, ap, ◌∙◌, append_assoc, append-nil, Result, Ok, Err, OnOk, OnErr}
-use Rattle.std.proofs.Math.Seq.{take-append_seam}
+use Rattle.std.proofs.Common.{◌≡◌, ℕ, List, [], ◌++◌, sym, ap, ◌∙◌, append_assoc, append-nil, Result, Ok, Err, OnErr}
 use Rattle.scene_json.specs.Appending.{Extends}
 
 -- bytes that are as before, and those behind which some were appended

@@ -1,10 +1,9 @@
 -- The loop that reads a string: what is read and what is left of it make its text.
-use Rattle.std.proofs.Common.{◌≡◌, ◌≢◌, ◌<◌, ◌≤◌, ℕ, suc, ◌+◌, ◌-◌, List, [], ◌∷◌, ◌++◌, false, refl, sym, ap, ap₂, ◌∙◌, subst, arith, length, get_or, take, drop, append_assoc, append-nil, flat_map, IsUtf8, get_or-drop, drop-drop, length-drop, lit<, lt_of_lt_of_le, add-zero}
+use Rattle.std.proofs.Common.{◌≡◌, ◌≢◌, ◌<◌, ◌≤◌, ℕ, suc, ◌+◌, ◌-◌, List, [], ◌∷◌, ◌++◌, false, refl, sym, ap, ◌∙◌, subst, arith, length, get_or, take, drop, append_assoc, append-nil, flat_map, IsUtf8, get_or-drop, drop-drop, length-drop, lit<, lt_of_lt_of_le, add-zero}
 use Rattle.std.proofs.lemmas.Bool.{eqb-false}
-use Rattle.std.proofs.Math.Seq.{take-suc}
 use Rattle.std.proofs.lemmas.Bool.Decides.{nat_tests}
 use Rattle.std.specs.List.{AllByRecursion, prefix_len}
-use Rattle.scene_json.specs.Characters.{is_plain, quote, quoted_byte}
+use Rattle.scene_json.specs.Characters.{is_plain}
 use Rattle.scene_json.specs.Tree.{Piece, bare, letter, unit, IsPiece, piece_spelling}
 use Rattle.scene_json.specs.Compact.{content}
 use Rattle.scene_json.specs.Walk.{Quoted, Unread, Takes}

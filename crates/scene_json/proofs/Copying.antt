@@ -1,5 +1,5 @@
 -- The writer's bytes that aren't copied yet.
-use Rattle.std.proofs.Common.{◌≡◌, Option, Some, None, ap₂, take-append-drop, drop-drop, ℕ, ◌+◌, ◌-◌, ◌<◌, ◌≤◌, List, [], ◌∷◌, ◌++◌, Bool, true, false, length, take, drop, get_or, refl, sym, ap, subst, ◌∙◌, arith, append_assoc, append-nil, length-drop, inl, inr}
+use Rattle.std.proofs.Common.{◌≡◌, Some, None, ap₂, take-append-drop, drop-drop, ℕ, ◌+◌, ◌-◌, ◌<◌, ◌≤◌, List, [], ◌∷◌, ◌++◌, Bool, true, false, length, take, drop, get_or, refl, sym, ap, subst, ◌∙◌, arith, append_assoc, append-nil, length-drop, inl, inr}
 use Rattle.scene_json.specs.Characters.{is_space, quote}
 use Rattle.std.proofs.lemmas.Bool.{ne_eqb, cases_Bool}
 use Rattle.std.proofs.lemmas.List.{same_from_push, length-take-le}

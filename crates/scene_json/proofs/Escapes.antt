@@ -3,16 +3,14 @@ use Rattle.std.proofs.Common.{◌≡◌, ◌≢◌, ◌<◌, ◌≤◌, ℕ, suc
 use Rattle.std.proofs.lemmas.Bool.{cases_Bool, and_parts, and_from, eqb-false, both_ways}
 use Rattle.std.proofs.lemmas.Bool.Decides.{nat_tests}
 use Rattle.std.proofs.lemmas.Str.{encode_ascii}
-use Rattle.std.proofs.lemmas.List.Concat.{flat_map-append}
-use Rattle.std.proofs.Math.Seq.{take-append-add}
 use Rattle.std.specs.Char.{IsScalar, encode_utf8}
 use lib.Utf8.{low_scalar}
 use Rattle.std.specs.List.{AllByRecursion, list_all, prefix_len}
-use Rattle.scene_json.specs.Characters.{is_hex, is_plain, quoted_byte}
+use Rattle.scene_json.specs.Characters.{is_hex, is_plain}
 use Rattle.scene_json.specs.Tree.{Piece, bare, letter, unit, IsPiece, letter_meaning, piece_spelling}
 use Rattle.scene_json.specs.Compact.{piece_value, is_high, is_low, paired, lone, characters, content}
 use Rattle.scene_json.specs.Walk.{Unread, Takes, StartsWithUnit}
-use Rattle.scene_json.proofs.Strings.{first_code, heads-differ, lone-same, paired-scalar, plain-bare, quoted-bare}
+use Rattle.scene_json.proofs.Strings.{first_code, heads-differ, lone-same, paired-scalar, plain-bare}
 
 -- one character that is no high surrogate stands alone
 characters-first : (u : ℕ) (us : List ℕ) → is_high u ≡ false → characters (u ∷ us) ≡ lone u ∷ characters us

@@ -1,7 +1,7 @@
 -- Finding the members that have a name among those that are kept.
-use Rattle.std.proofs.Common.{◌≡◌, ◌<◌, ℕ, suc, ◌+◌, List, [], ◌∷◌, ◌++◌, Option, Some, None, true, false, if◌then◌else◌, cond, refl, sym, ap, ◌∙◌, arith, length, get_or, take, drop, map, bytes_eq, inl, inr, ◌⊎◌}
+use Rattle.std.proofs.Common.{◌≡◌, ◌<◌, ℕ, suc, ◌+◌, List, [], ◌∷◌, ◌++◌, Option, Some, None, true, false, if◌then◌else◌, cond, refl, sym, ap, ◌∙◌, arith, length, get_or, take, map, bytes_eq, inl, inr, ◌⊎◌}
 use Rattle.std.specs.List.{join_with_byte}
-use Rattle.std.proofs.Common.{append_assoc, drop-cons, add-one}
+use Rattle.std.proofs.Common.{append_assoc}
 use Rattle.std.proofs.lemmas.Bool.{cases_Bool}
 use Rattle.std.proofs.lemmas.List.{take_more, map-append, map-set, length-map, get_or-map}
 use Rattle.std.proofs.Math.ListN.{set}

@@ -1,18 +1,16 @@
 -- A writer that is ready for the rest behind a value, whose compact text it has written, was ready for the value.
 use Rattle.std.proofs.Common.{◌≡◌, ℕ, ◌+◌, ◌-◌, List, [], ◌∷◌, ◌++◌, Bool, true, false, eqb, Option, Some, None, map, flat_map, refl, sym, ap, subst, ◌∙◌, arith, inl, inr, append_assoc, append-nil}
-use Rattle.std.specs.Prelude.{slice_get}
 use Rattle.std.specs.Char.{encode_utf8}
 use Rattle.std.specs.List.{list_all, AllByRecursion, join_with_byte}
 use Rattle.std.proofs.lemmas.Bool.{and_parts, false≢true}
 use Rattle.std.proofs.lemmas.Bool.Decides.{nat_tests}
-use Rattle.std.proofs.lemmas.List.{map-append}
 use Rattle.std.proofs.lemmas.Grind.{flat_map-append}
 use Rattle.scene_json.specs.Characters.{is_space, is_blank, is_plain, is_digit, quote, quoted_byte}
 use Rattle.scene_json.specs.Compact.{Member, content, compact, members, collapsed, label_name, member_text, array_text, object_text}
 use Rattle.scene_json.specs.Drafts.{Drafted, fresh, grown, pair_text, pairs_text}
 use Rattle.scene_json.specs.Lines.{outside, inside}
 use Rattle.scene_json.specs.Places.{quoted}
-use Rattle.scene_json.specs.Tree.{Piece, bare, letter, unit, IsPiece, piece_spelling, string_spelling, Container, array, object, Label, unnamed, named, IsLabel, label_spelling, Tree, scalar, text, empty, filled, Values, last, next, spelling, values_spelling, IsGood, AreGood}
+use Rattle.scene_json.specs.Tree.{Piece, bare, letter, unit, IsPiece, piece_spelling, string_spelling, array, object, Label, unnamed, named, IsLabel, label_spelling, Tree, scalar, text, empty, filled, Values, last, next, spelling, values_spelling, IsGood, AreGood}
 use Rattle.scene_json.specs.Walk.{Quoted}
 use Rattle.scene_json.specs.Writing.{Writing, between, AreAlike, Ready}
 use Rattle.scene_json.specs.declared.staying.Ground.TheVariants as ground

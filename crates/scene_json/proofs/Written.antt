@@ -1,9 +1,9 @@
 -- What the writer has written of the bytes so far, along the machine.
-use Rattle.std.proofs.Common.{◌≡◌, ℕ, ◌+◌, ◌-◌, ◌<◌, ◌≤◌, length, take, drop, get_or, List, [], ◌∷◌, ◌++◌, true, None, refl, sym, ap, subst, ◌∙◌, arith, append_assoc, append-nil}
+use Rattle.std.proofs.Common.{◌≡◌, ℕ, ◌+◌, ◌<◌, ◌≤◌, length, drop, get_or, List, [], ◌∷◌, ◌++◌, true, None, refl, sym, ap, subst, ◌∙◌, arith, append_assoc, append-nil}
 use Rattle.scene_json.specs.Characters.{is_blank}
 use Rattle.scene_json.specs.Compact.{compact}
 use Rattle.scene_json.specs.Drafts.{fresh, grown}
-use Rattle.scene_json.specs.Tree.{Tree, spelling, IsGood}
+use Rattle.scene_json.specs.Tree.{spelling}
 use Rattle.scene_json.specs.Value.{Value, Begins, Stands}
 use Rattle.scene_json.specs.Machine.{state, top, moved}
 use Rattle.std.specs.List.{AllByRecursion}

@@ -1,6 +1,6 @@
 -- What each byte of a value makes of what was written of the value. Only contracts of private functions cite this.
 -- This project's own, over RFC 8259, sections 2 to 7.
-use Rattle.std.specs.Prelude.{◌≡◌, ℕ, ◌+◌, ◌-◌, ◌≤◌, length, take, drop, slice_index, List, [], ◌∷◌, ◌++◌, Option, None, Some, Bool, true, false, ◌==◌, ◌⊎◌, if◌then◌else◌}
+use Rattle.std.specs.Prelude.{◌≡◌, ℕ, ◌+◌, ◌-◌, ◌≤◌, length, take, drop, slice_index, List, [], ◌∷◌, ◌++◌, None, Some, Bool, true, false, ◌==◌, ◌⊎◌, if◌then◌else◌}
 use Rattle.std.specs.List.{AllByRecursion}
 use Rattle.scene_json.specs.Characters.{is_space, is_blank, is_plain, is_digit, quote}
 use Rattle.scene_json.specs.Compact.{compact}

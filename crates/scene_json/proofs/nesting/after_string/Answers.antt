@@ -1,4 +1,4 @@
-use Rattle.std.proofs.Common.{refl, arith, ◌∙◌}
+use Rattle.std.proofs.Common.{refl, arith}
 use Rattle.scene_json.proofs.Behind.{marked-run, marked-escape, marked-past}
 use Rattle.scene_json.proofs.nesting.after_string.Goals as goal
 

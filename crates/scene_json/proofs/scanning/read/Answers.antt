@@ -1,10 +1,10 @@
-use Rattle.std.proofs.Common.{◌≡◌, ◌+◌, ◌-◌, ◌<◌, ◌≤◌, List, ℕ, [], ◌++◌, length, take, drop, arith, refl, sym, ap, subst, ◌∙◌, Some, get_or}
+use Rattle.std.proofs.Common.{◌≡◌, List, ℕ, [], length, drop, arith, refl, sym, ap, subst, ◌∙◌, Some, get_or}
 use Rattle.std.proofs.lemmas.Bool.{both_ways}
 use Rattle.scene_json.specs.Drafts.{fresh, grown}
 use Rattle.scene_json.specs.Faults.{IsFirstFault}
-use Rattle.scene_json.specs.Machine.{state, top, fault_of}
+use Rattle.scene_json.specs.Machine.{top, fault_of}
 use Rattle.scene_json.specs.Value.{Stands}
-use Rattle.scene_json.specs.Writing.{HasRead, between, stretch, writing_at}
+use Rattle.scene_json.specs.Writing.{between, writing_at}
 use Rattle.scene_json.specs.declared.machine.Machine.{Machine}
 use Rattle.scene_json.proofs.Copying.{stretch-none}
 use Rattle.scene_json.proofs.OffsetRuns.{end_found, refused_fault, done_found, undone_fault}

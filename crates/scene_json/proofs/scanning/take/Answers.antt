@@ -1,4 +1,4 @@
-use Rattle.std.proofs.Common.{◌≡◌, ℕ, ◌+◌, get_or, IfOk}
+use Rattle.std.proofs.Common.{ℕ, get_or}
 use Rattle.std.proofs.lemmas.Result.{IfOk-weaker}
 use Rattle.scene_json.specs.Writing.{HasRead, GoesOn}
 use Rattle.scene_json.specs.declared.machine.Machine.{Machine}

@@ -1,7 +1,6 @@
-use Rattle.std.proofs.Common.{vec_len, ◌≡◌, ◌++◌, List, ℕ, [], ◌∷◌, Option, Some, None, length, refl, ◌∙◌, sym, ap, ap₂, subst, arith}
-use Rattle.std.proofs.lemmas.Result.{IfOk-weaker}
-use Rattle.scene_json.specs.Compact.{Member, collapsed}
-use Rattle.scene_json.specs.Drafts.{Drafted, IsDraft, named_there, pairs_text, with_last, closed}
+use Rattle.std.proofs.Common.{vec_len, ◌≡◌, ◌++◌, List, ℕ, [], ◌∷◌, Option, Some, None, length, ◌∙◌, sym, ap, subst, arith}
+use Rattle.scene_json.specs.Compact.{collapsed}
+use Rattle.scene_json.specs.Drafts.{Drafted, IsDraft, named_there, pairs_text, with_last}
 use Rattle.scene_json.specs.Places.{entries, AreWithin}
 use Rattle.scene_json.specs.declared.collapsing.Span.{Span}
 use Rattle.scene_json.specs.declared.collapsing.Place.{Place}

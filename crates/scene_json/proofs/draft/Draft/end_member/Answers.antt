@@ -3,7 +3,7 @@ use Rattle.scene_json.specs.Drafts.{Drafted, IsDraft, named_there}
 use Rattle.scene_json.specs.Places.{cut}
 use Rattle.scene_json.specs.declared.collapsing.Span.{Span}
 use Rattle.scene_json.specs.declared.collapsing.Place.{Place}
-use Rattle.scene_json.proofs.Drafting.{drafted, grown-is, parted-is, parted-view, with_place}
+use Rattle.scene_json.proofs.Drafting.{grown-is, parted-is, parted-view, with_place}
 use Rattle.scene_json.proofs.draft.Draft.end_member.Goals as goal
 use Rattle.scene_json.proofs.draft.Draft.end_member.Goals.{In_ok-push-2}
 

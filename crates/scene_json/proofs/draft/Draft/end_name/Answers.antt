@@ -1,4 +1,4 @@
-use Rattle.std.proofs.Common.{vec_len, ◌≡◌, ◌++◌, List, ℕ, [], ◌∷◌, Option, Some, None, length, ◌∙◌, sym, ap, subst, arith}
+use Rattle.std.proofs.Common.{vec_len, ◌≡◌, ◌++◌, ℕ, [], ◌∷◌, Option, Some, None, length, ◌∙◌, sym, ap, subst, arith}
 use Rattle.scene_json.specs.Drafts.{Drafted, IsDraft}
 use Rattle.scene_json.specs.declared.collapsing.Span.{Span}
 use Rattle.scene_json.proofs.Drafting.{drafted, unnamed, named-is, named-view}

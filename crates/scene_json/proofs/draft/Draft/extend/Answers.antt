@@ -1,4 +1,4 @@
-use Rattle.std.proofs.Common.{◌≡◌, List, ℕ, ◌∙◌, sym, ap, subst}
+use Rattle.std.proofs.Common.{List, ℕ, ◌∙◌, sym, ap, subst}
 use Rattle.scene_json.specs.Drafts.{IsDraft, grown}
 use Rattle.scene_json.proofs.Drafting.{drafted, grown-is, grown-view}
 use Rattle.scene_json.proofs.draft.Draft.extend.Goals as goal

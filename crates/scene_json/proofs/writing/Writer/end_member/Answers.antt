@@ -1,4 +1,4 @@
-use Rattle.std.proofs.Common.{◌≡◌, ◌++◌, [], ◌∷◌, None, sym, ap, ◌∙◌, refl}
+use Rattle.std.proofs.Common.{◌++◌, [], ◌∷◌, None, ap, ◌∙◌, refl}
 use Rattle.scene_json.specs.Drafts.{Drafted}
 use Rattle.scene_json.specs.declared.writing.Writer.{Writer}
 use Rattle.scene_json.proofs.Copying.{parted}

@@ -1,4 +1,4 @@
-use Rattle.std.proofs.Common.{◌≡◌, ◌++◌, [], ◌∷◌, List, sym, ap, ap₂, ◌∙◌}
+use Rattle.std.proofs.Common.{◌++◌, [], ◌∷◌, List, ap, ap₂, ◌∙◌}
 use Rattle.scene_json.specs.Drafts.{Drafted}
 use Rattle.scene_json.specs.declared.writing.Writer.{Writer}
 use Rattle.scene_json.proofs.Copying.{opened}

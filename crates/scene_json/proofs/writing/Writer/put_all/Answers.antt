@@ -1,4 +1,4 @@
-use Rattle.std.proofs.Common.{◌≡◌, ◌++◌, List, ℕ, get_or, sym, ap, subst, ◌∙◌, arith}
+use Rattle.std.proofs.Common.{sym, arith}
 use Rattle.scene_json.proofs.Copying.{stretch-in, stretch-appended, stretch-skipped, stretch-empty}
 use Rattle.scene_json.proofs.writing.Writer.put_all.Goals as goal
 use Rattle.scene_json.proofs.writing.Writer.put_all.Goals.{else-not-self-via-then-not-self+then-at-end+else-is_space, else-not-self-via-then-not-self+else-at-end, else-not-self-via-else-not-self}

@@ -1,6 +1,6 @@
 use Rattle.std.proofs.Common.{◌≡◌, ◌+◌, [], ◌∷◌, ◌++◌, get_or, drop, ℕ, List, sym, ap, subst}
 use Rattle.scene_json.specs.Walk.{Quoted}
-use Rattle.scene_json.specs.Writing.{copied, writing_at}
+use Rattle.scene_json.specs.Writing.{writing_at}
 use Rattle.scene_json.specs.declared.writing.Writer.{Writer}
 use Rattle.scene_json.proofs.Copying.{string-there, quoted-anew}
 use Rattle.scene_json.proofs.writing.Writer.quote.Goals as goal

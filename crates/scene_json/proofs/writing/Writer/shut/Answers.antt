@@ -1,5 +1,4 @@
-use Rattle.std.proofs.Common.{◌≡◌, ◌++◌, [], ◌∷◌, List, refl, sym, ap, ◌∙◌}
-use Rattle.scene_json.specs.Drafts.{Drafted, grown, closed}
+use Rattle.std.proofs.Common.{refl, sym, ap, ◌∙◌}
 use Rattle.scene_json.specs.declared.writing.Writer.{Writer}
 use Rattle.scene_json.proofs.Copying.{shut}
 use Rattle.scene_json.proofs.writing.Writer.shut.Goals as goal
