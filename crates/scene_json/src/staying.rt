@@ -76,7 +76,8 @@ fn skip_bare(bytes: &[u8], at: usize) -> usize
     ensures { result ≡ at + prefix_len is_bare (drop at bytes.now) }
 {
     for i in at..bytes.len() {
-        if !matches!(bytes[i], b' ' | b'!' | b'#'..=b'[' | b']'..=0x7f) {
+        let byte = bytes[i];
+        if !(matches!(byte, b']'..=0x7f) || matches!(byte, b' ' | b'!' | b'#'..=b'[')) {
             return i;
         }
     }
