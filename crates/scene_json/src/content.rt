@@ -67,10 +67,17 @@ pub(crate) fn run_end(bytes: &[u8], at: usize) -> usize
     ensures within { (at ≤ result) × (result ≤ length bytes.now) }
 {
     let mut next = at;
-    while next < bytes.len() && bytes[next] != b'"' && bytes[next] != b'\\' {
+    while next < bytes.len() && is_plain(bytes[next]) {
         next += 1;
     }
     next
+}
+
+/// A byte that stands in a string as it is. Most are letters.
+fn is_plain(byte: u8) -> bool
+    ensures { result ≡ is_plain byte }
+{
+    matches!(byte, b']'..) || !matches!(byte, b'"' | b'\\')
 }
 
 /// Appends the character of the escape at the front, or of a pair of surrogates, and tells how many bytes that takes.
