@@ -1,8 +1,8 @@
 -- The writer's bytes that aren't copied yet.
-use Rattle.std.proofs.Common.{◌≡◌, Some, None, ap₂, take-append-drop, drop-drop, ℕ, ◌+◌, ◌-◌, ◌<◌, ◌≤◌, List, [], ◌∷◌, ◌++◌, Bool, true, false, length, take, drop, get_or, refl, sym, ap, subst, ◌∙◌, arith, append_assoc, append-nil, length-drop, inl, inr}
+use Rattle.std.proofs.Common.{◌≡◌, Some, None, ap₂, take-append-drop, drop-drop, ℕ, ◌+◌, ◌-◌, ◌<◌, ◌≤◌, List, [], ◌∷◌, ◌++◌, Bool, true, false, length, take, drop, get_or, refl, sym, ap, subst, ◌∙◌, arith, append_assoc, append-nil}
 use Rattle.scene_json.specs.Characters.{is_space, quote}
-use Rattle.std.proofs.lemmas.Bool.{ne_eqb, cases_Bool}
-use Rattle.std.proofs.lemmas.List.{same_from_push, length-take-le}
+use Rattle.std.proofs.lemmas.Bool.{ne_eqb}
+use Rattle.std.proofs.lemmas.List.{same_from_push}
 use Rattle.scene_json.specs.Drafts.{Drafted, fresh, grown, closed}
 use Rattle.scene_json.specs.Lines.{outside, inside, place_of}
 use Rattle.scene_json.specs.Tree.{string_spelling}
@@ -157,42 +157,32 @@ module _ (bytes : List ℕ) (at end : ℕ) (w : Writer) (up : at ≤ end) (high 
   ReadyFor quoted escaped here string rest =
       Ready text (let x : Writing = record { place = place_of quoted escaped; escapes = w.escapes; string = string; here = here; around = w.around.items } in x) rest
 
-  pub stretch-empty : at ≡ end → Ready text (writing_at bytes end w) more
-  stretch-empty same =
-      subst (λ k. Ready text (writing_at bytes k w) more) same
-      (subst (λ xs. Ready text (writing_at bytes at w) (xs ++ more)) (ap (stretch bytes at) (sym same) ∙ stretch-none bytes at) ready)
-
-  pub stretch-in : w.quoted ≡ true → Ready text (writing_at bytes end w) more
-  stretch-in quoted = elim (cases_Bool w.escaped) [
-    | inl escaped ↦
-        let none : stretch bytes at end ≡ [] = rw (quoted, escaped) at alike in
-        let count : end - at ≡ 0 = omega (arith, ap length none, length-take-le (end - at) (drop at bytes) (omega (arith, length-drop at bytes))) in
-        stretch-empty (omega (arith, count))
-    | inr plain ↦
-        let begun : w.start ≤ at = rw quoted at fits.to in
-        let are : AreAlike ground.Quoted (stretch bytes at end) = rw (quoted, plain) at alike in
-        let now = stretch-quoted text (stretch bytes at end) more (stretch bytes w.start at) w.escapes (grown w.here (stretch bytes w.from w.start)) w.around.items are (rw (quoted, plain) at ready) in
-        rw (quoted, plain, stretch_more bytes w.start at begun end up) now
-  ]
-
   -- the first byte of the stretch
-  module _ (some : at < end) (apart : w.quoted ≡ false) where
-    first : stretch bytes at end ≡ get_or bytes at 0 ∷ stretch bytes (at + 1) end
-    first =
-        stretch_more bytes at (at + 1) (omega arith) end (omega arith)
-        ∙ ap (λ x. x ++ stretch bytes (at + 1) end) (one_more bytes at at (omega arith) (omega arith) ∙ ap (λ x. x ++ get_or bytes at 0 ∷ []) (stretch-none bytes at))
+  first : at < end → stretch bytes at end ≡ get_or bytes at 0 ∷ stretch bytes (at + 1) end
+  first some =
+      stretch_more bytes at (at + 1) (omega arith) end (omega arith)
+      ∙ ap (λ x. x ++ stretch bytes (at + 1) end) (one_more bytes at at (omega arith) (omega arith) ∙ ap (λ x. x ++ get_or bytes at 0 ∷ []) (stretch-none bytes at))
 
+  pub stretch-in : at < end → w.quoted ≡ true → Ready text (writing_at bytes end (record w { escaped = false })) more
+  stretch-in some quoted =
+      let begun : w.start ≤ at = rw quoted at fits.to in
+      let are : AreAlike ground.Quoted (stretch bytes at end) = rw quoted at alike in
+      let now = stretch-quoted text (stretch bytes at end) more (stretch bytes w.start at) w.escaped w.escapes (grown w.here (stretch bytes w.from w.start)) w.around.items are
+      (get_or bytes at 0) (stretch bytes (at + 1) end) (first some) (rw quoted at ready) in
+      rw (quoted, stretch_more bytes w.start at begun end up) now
+
+  module _ (some : at < end) (apart : w.quoted ≡ false) where
     are-between : AreAlike ground.Between (stretch bytes at end)
     are-between = rw apart at alike
 
     pub stretch-appended : is_space (get_or bytes at 0) ≡ false → Ready text (writing_at bytes end w) more
     stretch-appended solid =
         let low : w.from ≤ at = rw apart at fits.from in
-        let now = stretch-between text (stretch bytes at end) more [] w.escapes (grown w.here (stretch bytes w.from at)) w.around.items are-between (get_or bytes at 0) (stretch bytes (at + 1) end) first solid (rw apart at ready) in
+        let now = stretch-between text (stretch bytes at end) more [] w.escapes (grown w.here (stretch bytes w.from at)) w.around.items are-between (get_or bytes at 0) (stretch bytes (at + 1) end) (first some) solid (rw apart at ready) in
         rw (apart, stretch_more bytes w.from at low end up) (subst (λ d. ReadyFor false false d [] more) (grown-twice w.here (stretch bytes w.from at) (stretch bytes at end)) now)
 
     pub stretch-skipped : is_space (get_or bytes at 0) ≡ true → Ready text (writing_at bytes end (record (copied bytes at w) { from = end })) more
     stretch-skipped space =
         let now = stretch-dropped text (stretch bytes at end) more [] w.escapes (grown w.here (stretch bytes w.from at)) w.around.items are-between
-        (λ b others e. let one : get_or bytes at 0 ≡ b = (let f = first in cc) in subst (λ x. is_space x ≡ true) one space) (rw apart at ready) in
+        (λ b others e. let one : get_or bytes at 0 ≡ b = (let f = first some in cc) in subst (λ x. is_space x ≡ true) one space) (rw apart at ready) in
         rw apart (subst (λ d. ReadyFor false false d [] more) (sym (grown-none bytes end (grown w.here (stretch bytes w.from at)))) now)

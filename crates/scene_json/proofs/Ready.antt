@@ -1,5 +1,5 @@
 -- A writer that is ready for the rest behind a value, whose compact text it has written, was ready for the value.
-use Rattle.std.proofs.Common.{◌≡◌, ℕ, ◌+◌, ◌-◌, List, [], ◌∷◌, ◌++◌, Bool, true, false, eqb, Option, Some, None, map, flat_map, refl, sym, ap, subst, ◌∙◌, arith, inl, inr, append_assoc, append-nil}
+use Rattle.std.proofs.Common.{◌≡◌, ℕ, ◌+◌, ◌-◌, List, [], ◌∷◌, ◌++◌, Bool, true, false, eqb, Option, Some, None, map, flat_map, length, refl, sym, ap, subst, ◌∙◌, arith, inl, inr, append_assoc, append-nil}
 use Rattle.std.specs.Char.{encode_utf8}
 use Rattle.std.specs.List.{list_all, AllByRecursion, join_with_byte}
 use Rattle.std.proofs.lemmas.Bool.{and_parts, false≢true}
@@ -309,9 +309,13 @@ module _ (written : List ℕ) where
       ((rw (space, mark, comma, colon, deeper, shallower, opens, shuts) at r).1 (apart escapes s (grown d (x ∷ [])) ds) refl))
 
   -- a stretch in a string
-  pub stretch-quoted : (xs more s : List ℕ) (escapes : Bool) (d : Drafted) (ds : List Drafted) → AreAlike ground.Quoted xs
-      → Is (within false escapes s d ds) (xs ++ more) → Is (within false escapes (s ++ xs) d ds) more
-  stretch-quoted xs more s escapes d ds plain r = keep-all xs more s escapes d ds plain r
+  pub stretch-quoted : (xs more s : List ℕ) (escaped escapes : Bool) (d : Drafted) (ds : List Drafted) → AreAlike ground.Quoted xs → (b : ℕ) (others : List ℕ) → xs ≡ b ∷ others
+      → Is (within escaped escapes s d ds) (xs ++ more) → Is (within false escapes (s ++ xs) d ds) more
+  stretch-quoted [] more s escaped escapes d ds plain b others first r = absurd (omega (arith, ap length first))
+  stretch-quoted (x ∷ xs) more s false escapes d ds plain b others first r = keep-all (x ∷ xs) more s escapes d ds plain r
+  stretch-quoted (x ∷ xs) more s true escapes d ds plain b others first r =
+      subst (λ t. Is (within false escapes t d ds) more) (one-more s x xs)
+      (keep-all xs more (s ++ x ∷ []) escapes d ds plain.1 (r.1 (within false escapes (s ++ x ∷ []) d ds) refl))
 
   digit-solid : (b : ℕ) → is_digit b ≡ true → is_space b ≡ false
   digit-solid b digit = grind (arith, nat_tests)

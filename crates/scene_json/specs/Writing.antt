@@ -111,13 +111,12 @@ deed_at w b = deed w.place w.here.level b
 
 -- the ground on which the writer stands
 abbrev pub ground_of : Writer → Ground
-ground_of w = if w.quoted then (if w.escaped then ground.Escaped else ground.Quoted) else ground.Between
+ground_of w = if w.quoted then ground.Quoted else ground.Between
 
 -- These bytes are taken together on this ground.
 abbrev pub AreAlike : Ground → List ℕ → Type 0
 AreAlike ground.Quoted bytes = AllByRecursion (λ b. is_plain b ≡ true) bytes
 AreAlike ground.Between bytes = AllByRecursion (λ b. is_space b ≡ true) bytes ⊎ AllByRecursion (λ b. is_digit b ≡ true) bytes
-AreAlike ground.Escaped bytes = bytes ≡ []
 
 -- the writer with the bytes before an offset copied
 abbrev pub copied : List ℕ → ℕ → Writer → Writer

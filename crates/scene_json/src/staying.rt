@@ -15,12 +15,10 @@ use crate::number::Part;
 /// What stands around a stretch.
 #[derive(Clone, Copy)]
 pub(crate) enum Ground {
-    /// A string, and no `\` just before.
+    /// A string.
     Quoted,
     /// No string.
     Between,
-    /// A `\` in a string, just before.
-    Escaped,
 }
 
 /// Where a stretch from `at` on ends whose bytes all leave the mode as it is: plain characters of a string, or digits of a

@@ -101,16 +101,14 @@ impl Writer {
     pub(crate) fn ground(&self) -> Ground
         ensures { result ≡ ground_of self.now }
     {
-        if !self.quoted {
-            Ground::Between
-        } else if self.escaped {
-            Ground::Escaped
-        } else {
+        if self.quoted {
             Ground::Quoted
+        } else {
+            Ground::Between
         }
     }
 
-    /// Takes the stretch between two offsets: bytes that stand in a string as they are, or bytes outside strings that are
+    /// Takes the stretch between two offsets: bytes of a string that are no `"` and no `\`, or bytes outside strings that are
     /// appended as they are or are all white space.
     pub(crate) fn put_all(&mut self, bytes: &[u8], at: usize, end: usize) -> Result<(), AllocError>
         requires within { (at ≤ end) × (end ≤ length bytes.now) }
@@ -120,7 +118,12 @@ impl Writer {
             → Ready text (writing_at bytes.now end self.new) more) }
         ensures fits { OnOk result (Fits end self.new) }
     {
-        if !self.quoted && at < end && is_space(bytes[at]) {
+        if at == end {
+            return Ok(());
+        }
+        if self.quoted {
+            self.escaped = false;
+        } else if is_space(bytes[at]) {
             self.copy(bytes, at)?;
             self.from = end;
         }
