@@ -8,6 +8,7 @@ mod Sequences
 pub mod Reading
 mod Rests
 mod Unrolled
+pub mod Digits
 mod Machines
 mod Onward
 mod Backward

@@ -1,5 +1,6 @@
 pub mod Alike
 pub mod Appending
+pub mod Brackets
 pub mod Characters
 pub mod Compact
 pub mod Drafts
