@@ -206,6 +206,7 @@ impl Writer {
     }
 
     /// White space is dropped.
+    #[inline(never)]
     fn skip(&mut self, bytes: &[u8], next: usize) -> Result<(), AllocError>
         requires apart { self.old.quoted ≡ false }
         requires within { next < length bytes.now }
@@ -296,6 +297,7 @@ impl Writer {
     }
 
     /// The name of a member ends.
+    #[inline(never)]
     fn end_name(&mut self, bytes: &[u8], next: usize) -> Result<(), AllocError>
         requires apart { self.old.quoted ≡ false }
         requires within { next < length bytes.now }
