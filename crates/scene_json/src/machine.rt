@@ -226,7 +226,7 @@ pub(crate) fn moved(mode: Mode, top: Option<Bracket>, byte: u8) -> Move
 pub(crate) fn is_space(byte: u8) -> bool
     ensures { result ≡ is_space byte }
 {
-    matches!(byte, b' ' | b'\t' | b'\n' | b'\r')
+    byte <= b' ' && matches!(byte, b' ' | b'\t' | b'\n' | b'\r')
 }
 
 fn value_move(byte: u8) -> Move
