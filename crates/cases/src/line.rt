@@ -8,8 +8,8 @@ use board_io::{Bytes, Stop};
 use scene_json::{Raw, Text, members, push_quote, push_whole, scan, shaped, skip_space};
 use std::alloc::{AllocError, Global};
 
-/// A line on each case. Behind a text that is no JSON nothing more is read.
-pub fn lines(alloc: Global, cases: &[u8]) -> Result<Bytes, AllocError> {
+/// A line on each case; `chunk` is how many bytes the ends of a run give and take at once where its case doesn't say. Behind a text that is no JSON nothing more is read.
+pub fn lines(alloc: Global, cases: &[u8], chunk: u64) -> Result<Bytes, AllocError> {
     let mut lines = Vec::new(alloc);
     let mut rest = cases;
     for number in 1..u64::MAX {
@@ -18,7 +18,7 @@ pub fn lines(alloc: Global, cases: &[u8]) -> Result<Bytes, AllocError> {
         }
         match scan(alloc, rest, 0) {
             Ok((value, after)) => {
-                push_line(alloc, &mut lines, number, &value)?;
+                push_line(alloc, &mut lines, number, (&value, chunk))?;
                 rest = &rest[after..];
             }
             Err(Stop::Fault(fault)) => {
@@ -32,12 +32,12 @@ pub fn lines(alloc: Global, cases: &[u8]) -> Result<Bytes, AllocError> {
     Ok(Bytes::from_vec(lines))
 }
 
-/// Appends the line on a case, or the one on its first fault.
+/// Appends the line on a case with its chunk, or the one on its first fault.
 fn push_line(
     alloc: Global,
     lines: &mut Vec<u8>,
     number: u64,
-    case: &Raw,
+    case: (&Raw, u64),
 ) -> Result<(), AllocError> {
     let mut line = Vec::new(alloc);
     match push_answer(alloc, &mut line, case) {
@@ -62,15 +62,19 @@ fn push_fault(lines: &mut Vec<u8>, number: u64, fault: &Text) -> Result<(), Allo
 }
 
 /// Appends what a case is answered with: its name, and what its run or its call gave.
-fn push_answer(alloc: Global, line: &mut Vec<u8>, case: &Raw) -> Result<(), Stop<Text>> {
+fn push_answer(
+    alloc: Global,
+    line: &mut Vec<u8>,
+    (case, chunk): (&Raw, u64),
+) -> Result<(), Stop<Text>> {
     let case = given(shaped(members(alloc, case))?, "not an object")?;
     let name = given(name_of(alloc, &case)?, "member name")?;
     line.extend_from_slice(b"{\"name\":")?;
     push_quote(line, &name)?;
     if is_given(&case, "sure") {
-        push_sure_run(alloc, line, &case)?;
+        push_sure_run(alloc, line, &case, chunk)?;
     } else if is_given(&case, "words") {
-        push_run(alloc, line, &case)?;
+        push_run(alloc, line, &case, chunk)?;
     } else {
         push_call(alloc, line, &case)?;
     }

@@ -16,6 +16,7 @@ mod run;
 mod sure;
 mod told;
 mod values;
+mod words;
 
 use board_io::{StdSink, StdSource, read_all, write_all};
 use std::process::ExitCode;
@@ -23,13 +24,17 @@ use std::process::ExitCode;
 /// How many bytes the cases have at most.
 const LIMIT: usize = 67108864;
 
-/// Reads the cases, runs each, and writes the lines on them.
+/// Reads the cases, runs each, and writes the lines on them. The first word, if there is one, is how many bytes the ends of a
+/// run give and take at once where its case doesn't say.
 fn main(rt: HostRuntime) -> ExitCode {
     let alloc = rt.alloc();
+    let Some(chunk) = words::chunk_asked(&rt) else {
+        return ExitCode::FAILURE;
+    };
     let Ok(cases) = read_all(alloc, &mut StdSource::new(rt.stdin()), LIMIT) else {
         return ExitCode::FAILURE;
     };
-    let Ok(lines) = line::lines(alloc, cases.as_slice()) else {
+    let Ok(lines) = line::lines(alloc, cases.as_slice(), chunk) else {
         return ExitCode::FAILURE;
     };
     match write_all(&mut StdSink::new(rt.stdout()), lines.as_slice()) {

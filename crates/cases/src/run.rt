@@ -8,9 +8,6 @@ use commands::{Status, board};
 use scene_json::{Member, Text, push_comma, push_whole};
 use std::alloc::{AllocError, Global};
 
-/// How many bytes a source and a sink give and take at once, where the case doesn't say.
-const CHUNK: u64 = 7;
-
 /// How many bytes the output has room for, where the case doesn't say.
 const ROOM: u64 = 1000000;
 
@@ -29,10 +26,15 @@ struct Ends {
     links: ScriptLinks,
 }
 
-/// Appends how the run of a case ended: its status, output and notes, the port that was listened on, and what was sent.
-pub fn push_run(alloc: Global, line: &mut Vec<u8>, case: &List<Member>) -> Result<(), Stop<Text>> {
+/// Appends how the run of a case with its chunk ended: its status, output and notes, the port that was listened on, and what was sent.
+pub fn push_run(
+    alloc: Global,
+    line: &mut Vec<u8>,
+    case: &List<Member>,
+    chunk: u64,
+) -> Result<(), Stop<Text>> {
     let words = given(words_of(alloc, case)?, "member words")?;
-    let mut ends = ends_of(alloc, case)?;
+    let mut ends = ends_of(alloc, case, chunk)?;
     let status = run(alloc, words.as_slice(), &mut ends);
     push_ended(alloc, line, status, &ends)?;
     Ok(())
@@ -67,8 +69,8 @@ fn push_ended(
 }
 
 /// The ends that the case tells.
-fn ends_of(alloc: Global, case: &List<Member>) -> Result<Ends, Stop<Text>> {
-    let chunk = given(chunk_of(case), "member chunk")?;
+fn ends_of(alloc: Global, case: &List<Member>, chunk: u64) -> Result<Ends, Stop<Text>> {
+    let chunk = given(chunk_of(case, chunk), "member chunk")?;
     Ok(Ends {
         input: input_of(alloc, case, chunk)?,
         output: output_of(alloc, case, chunk)?,
@@ -77,9 +79,9 @@ fn ends_of(alloc: Global, case: &List<Member>) -> Result<Ends, Stop<Text>> {
     })
 }
 
-/// How many bytes are given and taken at once.
-pub fn chunk_of(case: &List<Member>) -> Option<usize> {
-    match number_or(case, "chunk", CHUNK) {
+/// How many bytes are given and taken at once, so many where the case doesn't say.
+pub fn chunk_of(case: &List<Member>, default: u64) -> Option<usize> {
+    match number_or(case, "chunk", default) {
         Some(chunk) if 1 <= chunk && chunk <= GREATEST => Some(chunk as usize),
         _ => None,
     }

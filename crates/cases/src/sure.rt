@@ -13,9 +13,10 @@ pub fn push_sure_run(
     alloc: Global,
     line: &mut Vec<u8>,
     case: &List<Member>,
+    chunk: u64,
 ) -> Result<(), Stop<Text>> {
     let words = given(words_of(alloc, case)?, "member words")?;
-    let chunk = given(chunk_of(case), "member chunk")?;
+    let chunk = given(chunk_of(case, chunk), "member chunk")?;
     let bytes = given(bytes_named(alloc, case, "input")?, "member input")?;
     let mut input = SureSource::new(bytes, chunk.max(1));
     let mut output = SureSink::new(chunk.max(1));

@@ -1,6 +1,8 @@
 -- The texts that a reader of scenes has read, and what stops it.
-use Rattle.std.proofs.Common.{◌≡◌, ◌⊎◌, inl, inr, ℕ, ◌+◌, ◌≤◌, ◌==◌, List, [], ◌∷◌, ◌++◌, true, false, refl, sym, ap, subst, ◌∙◌, length, drop, arith, length-drop, Option, None, Some}
+use Rattle.std.proofs.Common.{◌≡◌, ◌⊎◌, inl, inr, ℕ, ◌+◌, ◌≤◌, ◌==◌, List, [], ◌∷◌, ◌++◌, true, false, refl, sym, ap, subst, ◌∙◌, length, drop, arith, length-drop, length-append, append-nil, Option, None, Some}
 use Rattle.std.specs.Prelude.{is_some}
+use Rattle.std.proofs.lemmas.List.{map-append}
+use Rattle.std.proofs.lemmas.Grind.{flat_map-append}
 use Rattle.std.proofs.lemmas.Bool.{false≢true}
 use Rattle.std.proofs.lemmas.Bool.Decides.{nat_tests}
 use Rattle.scene_json.specs.Characters.{is_blank}
@@ -8,9 +10,13 @@ use Rattle.scene_json.specs.Value.{Stands}
 use Rattle.intake.specs.Texts.{TextsLead, HasTexts, IsStopped}
 use Rattle.intake.specs.declared.reading.Stopped.{Stopped}
 use Rattle.intake.specs.declared.reading.Stopped.TheVariants.{Faulty, Refused, Extra}
-use Rattle.commands.specs.Answers.{IsOneRefusal, IsRefusal}
-use Rattle.commands.specs.Readers.{SayScenes, scenes_seen, one_seen, listed, refusal_of}
+use Rattle.elem.specs.ElementValue.{ElementValue}
+use Rattle.elem_store.specs.Updates.{AreStored, stored_of}
+use Rattle.file_table.proofs.Least.{AreLeastEntries-none}
+use Rattle.commands.specs.Answers.{IsBoardOf, IsOneRefusal, IsRefusal, heads_of, updates_of}
+use Rattle.commands.specs.Readers.{SayScenes, SayBoard, BoardSoFar, board_seen, one_seen, listed, refusal_of}
 use Rattle.commands.specs.Input.{ScenesLead, HasScenes}
+use Rattle.scene_file.specs.Heads.{Heading, IsJoinedHead}
 use Rattle.scene_file.specs.Reading.{IsSceneOf, IsSceneFault, IsSceneAt, IsSceneFaultAt}
 use Rattle.scene_file.specs.declared.scene.Scene.{Scene}
 use Rattle.scene_file.specs.declared.fault.SceneFault.{SceneFault}
@@ -29,15 +35,54 @@ scenes-lead bytes rest (text ∷ texts) [] say lead = absurd say
 scenes-lead bytes rest (text ∷ texts) (scene ∷ scenes) (is, say) (next, stands, lead) =
     (next, record { text = text; stands = stands; says = is }, scenes-lead next rest texts scenes say lead)
 
-none-listed : (scenes : List Scene) → (length scenes == 0) ≡ true → scenes ≡ []
-none-listed [] e = refl
-none-listed (scene ∷ scenes) e = absurd (omega (arith, zero-of (length (scene ∷ scenes)) e))
-  where
-    zero-of : (n : ℕ) → (n == 0) ≡ true → n ≡ 0
-    zero-of n e = grind (arith, nat_tests)
+-- ---- the board so far
+pub nothing-joined : IsJoinedHead [] (record { source = None; app_state = []; files = [] })
+nothing-joined = record { source = refl; app_state = AreLeastEntries-none; files = AreLeastEntries-none }
 
-some-listed : (scenes : List Scene) → (length scenes == 0) ≡ false → scenes ≡ [] → ⊥
-some-listed scenes e none = false≢true (sym e ∙ ap (λ (xs : List Scene). length xs == 0) none)
+nothing-stored : AreStored [] []
+unfolding stored_of
+nothing-stored = record { ordered = refl; each = λ id. refl }
+
+pub nothing-said : (head : Heading) (stored : List ElementValue) → head ≡ record { source = None; app_state = []; files = [] } → stored ≡ []
+    → SayBoard [] (record { head = head; stored = stored; next = 1 })
+nothing-said head stored none empty = record {
+  scenes = [];
+  say = tt;
+  board = record { joined = subst (IsJoinedHead []) (sym none) nothing-joined; stores = subst (AreStored []) (sym empty) nothing-stored };
+  counted = refl;
+}
+
+heads-more : (scenes : List Scene) (scene : Scene) → heads_of (scenes ++ scene ∷ []) ≡ heads_of scenes ++ scene.head ∷ []
+heads-more scenes scene = map-append (λ (s : Scene). s.head) scenes (scene ∷ [])
+
+updates-more : (scenes : List Scene) (scene : Scene) → updates_of (scenes ++ scene ∷ []) ≡ updates_of scenes ++ scene.elements
+updates-more scenes scene =
+    flat_map-append (λ (s : Scene). s.elements) scenes (scene ∷ []) ∙ ap (λ es. updates_of scenes ++ es) (append-nil scene.elements)
+
+pub board-more : (texts : List (List ℕ)) (text : List ℕ) (scene : Scene) (old new : BoardSoFar) → SayBoard texts old → IsSceneOf text scene
+    → ((heads : List Heading) → IsJoinedHead heads old.head → IsJoinedHead (heads ++ scene.head ∷ []) new.head)
+    → ((updates : List ElementValue) → AreStored updates old.stored → AreStored (updates ++ scene.elements) new.stored)
+    → new.next ≡ old.next + 1 → SayBoard (texts ++ text ∷ []) new
+board-more texts text scene old new read is joins stores counted = record {
+  scenes = read.scenes ++ scene ∷ [];
+  say = say-more texts read.scenes text scene read.say is;
+  board = record {
+    joined = subst (λ hs. IsJoinedHead hs new.head) (sym (heads-more read.scenes scene)) (joins (heads_of read.scenes) read.board.joined);
+    stores = subst (λ us. AreStored us new.stored) (sym (updates-more read.scenes scene)) (stores (updates_of read.scenes) read.board.stores);
+  };
+  counted = omega (arith, counted, read.counted, length-append read.scenes (scene ∷ []));
+}
+
+none-listed : (scenes : List Scene) (next : ℕ) → next ≡ length scenes + 1 → (next == 1) ≡ true → scenes ≡ []
+none-listed [] next counted first = refl
+none-listed (scene ∷ scenes) next counted first = absurd (omega (arith, counted, one-of next first))
+  where
+    one-of : (n : ℕ) → (n == 1) ≡ true → n ≡ 1
+    one-of n e = grind (arith, nat_tests)
+
+some-listed : (scenes : List Scene) (next : ℕ) → next ≡ length scenes + 1 → (next == 1) ≡ false → scenes ≡ [] → ⊥
+some-listed scenes next counted later none =
+    false≢true (sym later ∙ ap (λ n. n == 1) (counted ∙ ap (λ (xs : List Scene). length xs + 1) none))
 
 -- a text that is refused has the fault
 fault-at : (bytes : List ℕ) (at : ℕ) (text rest : List ℕ) (fault : SceneFault) → Stands (drop at bytes) text rest → IsSceneFault text fault → IsSceneFaultAt bytes at fault
@@ -55,39 +100,50 @@ one-open None [] takes say = refl
 one-open None (text ∷ texts) takes say = absurd say
 one-open (Some scene) texts takes say = absurd (false≢true (sym takes))
 
--- ---- scenes, one at least
-pub scenes-read : (bytes : List ℕ) (scenes : List Scene) → HasTexts bytes (scenes_seen scenes) → HasScenes bytes scenes
-scenes-read bytes scenes h = record {
-  some = some-listed scenes h.enough;
-  rest = drop h.start bytes;
-  lead = scenes-lead bytes (drop h.start bytes) h.texts scenes h.behind.read h.behind.lead;
-  space = h.space;
-}
+-- ---- the board of scenes, one at least
+pub board-read : (bytes : List ℕ) (so_far : BoardSoFar) → HasTexts bytes (board_seen so_far)
+    → (scenes : List Scene) × HasScenes bytes scenes × IsBoardOf scenes so_far.head so_far.stored
+board-read bytes so_far h =
+    let read = h.behind.read in (
+      read.scenes,
+      record {
+        some = some-listed read.scenes so_far.next read.counted h.enough;
+        rest = drop h.start bytes;
+        lead = scenes-lead bytes (drop h.start bytes) h.texts read.scenes read.say h.behind.lead;
+        space = h.space;
+      },
+      read.board,
+    )
 
-begun-at : (bytes : List ℕ) (scenes : List Scene) (start : ℕ) → ((length scenes == 0) ≡ true) ⊎ (is_blank (drop start bytes) ≡ false) → (scenes ≡ []) ⊎ (is_blank (drop start bytes) ≡ false)
-begun-at bytes scenes start (inl needs) = inl (none-listed scenes needs)
-begun-at bytes scenes start (inr more) = inr more
+begun-at : (bytes : List ℕ) (scenes : List Scene) (next start : ℕ) → next ≡ length scenes + 1 → ((next == 1) ≡ true) ⊎ (is_blank (drop start bytes) ≡ false)
+    → (scenes ≡ []) ⊎ (is_blank (drop start bytes) ≡ false)
+begun-at bytes scenes next start counted (inl needs) = inl (none-listed scenes next counted needs)
+begun-at bytes scenes next start counted (inr more) = inr more
 
-pub scenes-refused : (bytes : List ℕ) (scenes : List Scene) (stopped : Stopped SceneFault) → IsStopped bytes (scenes_seen scenes) stopped → IsRefusal bytes (refusal_of (length scenes + 1) stopped)
-scenes-refused bytes scenes (Faulty fault) h = record {
-  scenes = scenes;
-  start = h.start;
-  within = h.behind.within;
-  lead = scenes-lead bytes (drop h.start bytes) h.texts scenes h.behind.read h.behind.lead;
-  counted = refl;
-  begun = begun-at bytes scenes h.start h.begun;
-  faulty = h.faulty;
-}
-scenes-refused bytes scenes (Refused fault) h = record {
-  scenes = scenes;
-  start = h.start;
-  within = h.within;
-  lead = scenes-lead bytes (drop h.start bytes) h.texts scenes h.refused.0 h.lead;
-  counted = refl;
-  begun = inr h.begun;
-  faulty = fault-at bytes h.start h.text h.rest fault h.stands h.refused.1;
-}
-scenes-refused bytes scenes (Extra place) h = absurd (false≢true h.full)
+pub board-refused : (bytes : List ℕ) (so_far : BoardSoFar) (stopped : Stopped SceneFault) → IsStopped bytes (board_seen so_far) stopped → IsRefusal bytes (refusal_of so_far.next stopped)
+board-refused bytes so_far (Faulty fault) h =
+    let read = h.behind.read in
+    record {
+      scenes = read.scenes;
+      start = h.start;
+      within = h.behind.within;
+      lead = scenes-lead bytes (drop h.start bytes) h.texts read.scenes read.say h.behind.lead;
+      counted = read.counted;
+      begun = begun-at bytes read.scenes so_far.next h.start read.counted h.begun;
+      faulty = h.faulty;
+    }
+board-refused bytes so_far (Refused fault) h =
+    let read = h.refused.0 in
+    record {
+      scenes = read.scenes;
+      start = h.start;
+      within = h.within;
+      lead = scenes-lead bytes (drop h.start bytes) h.texts read.scenes read.say h.lead;
+      counted = read.counted;
+      begun = inr h.begun;
+      faulty = fault-at bytes h.start h.text h.rest fault h.stands h.refused.1;
+    }
+board-refused bytes so_far (Extra place) h = absurd (false≢true h.full)
 
 -- ---- one scene
 pub one-read : (bytes : List ℕ) (scene : Scene) → HasTexts bytes (one_seen (Some scene)) → HasScenes bytes (scene ∷ [])

@@ -1,5 +1,5 @@
 -- Scenes, one after the other.
-use Rattle.std.proofs.Common.{◌≡◌, ℕ, List, [], ◌∷◌, ◌++◌, refl, sym, subst}
+use Rattle.std.proofs.Common.{ℕ, List, [], ◌∷◌, ◌++◌, refl, sym, subst}
 use Rattle.scene_file.specs.Reading.{IsSceneAt}
 use Rattle.scene_file.specs.declared.scene.Scene.{Scene}
 use Rattle.commands.specs.Input.{ScenesLead}

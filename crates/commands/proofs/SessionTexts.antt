@@ -11,7 +11,7 @@ use Rattle.intake.specs.declared.reading.Stopped.{Stopped}
 use Rattle.intake.specs.declared.reading.Stopped.TheVariants.{Faulty, Refused, Extra}
 use Rattle.session_text.specs.Events.{EventText, header}
 use Rattle.session_text.specs.Sessions.{most_events, messages_of, made_after, EventsLead, LeadTo, IsSessionOf}
-use Rattle.session_text.specs.Taken.{TakesText, is_full, texts_in, with_event}
+use Rattle.session_text.specs.Taken.{TakesText, is_full, texts_in}
 use Rattle.session_text.specs.declared.event.Event.{Event}
 use Rattle.session_text.specs.declared.fault.TextFault.{TextFault}
 use Rattle.session_text.specs.declared.session.Session.{Session}

@@ -1,9 +1,12 @@
 -- What the readers of an input's scenes have read. This project's own.
-use Rattle.std.specs.Prelude.{◌≡◌, ℕ, ◌==◌, List, [], ◌∷◌, false, Option, Some, None, is_some, is_none, length}
+use Rattle.std.specs.Prelude.{◌≡◌, ℕ, ◌+◌, ◌==◌, List, [], ◌∷◌, false, Option, Some, None, is_some, is_none, length}
+use Rattle.elem.specs.ElementValue.{ElementValue}
 use Rattle.intake.specs.Texts.{Reading}
 use Rattle.intake.specs.declared.reading.Stopped.{Stopped}
 use Rattle.intake.specs.declared.reading.Stopped.TheVariants.{Faulty, Refused, Extra}
+use Rattle.scene_file.specs.Heads.{Heading}
 use Rattle.scene_file.specs.Reading.{IsSceneOf, IsSceneFault}
+use Rattle.commands.specs.Answers.{IsBoardOf}
 use Rattle.commands.specs.declared.status.Refusal.{Refusal}
 use Rattle.commands.specs.declared.status.Refusal.TheVariants as refusal
 use Rattle.scene_file.specs.declared.scene.Scene.{Scene}
@@ -17,13 +20,26 @@ SayScenes [] (scene ∷ scenes) = ⊥
 SayScenes (text ∷ texts) [] = ⊥
 SayScenes (text ∷ texts) (scene ∷ scenes) = IsSceneOf text scene × SayScenes texts scenes
 
--- what is seen of a reader of scenes: it needs one at least
-abbrev pub scenes_seen : List Scene → Reading SceneFault
-scenes_seen scenes = record {
-  has_read = λ texts. SayScenes texts scenes;
-  refuses = λ texts text fault. SayScenes texts scenes × IsSceneFault text fault;
+-- The board of the scenes so far, and the number of the next text, counted from 1.
+pub record BoardSoFar : Type 0 where
+  pub head : Heading
+  pub stored : List ElementValue
+  pub next : ℕ
+
+-- The texts are those of scenes, of which this is the board.
+pub record SayBoard (texts : List (List ℕ)) (so_far : BoardSoFar) : Type 0 where
+  pub scenes : List Scene
+  pub say : SayScenes texts scenes
+  pub board : IsBoardOf scenes so_far.head so_far.stored
+  pub counted : so_far.next ≡ length scenes + 1
+
+-- what is seen of a reader of a board: it needs one scene at least
+abbrev pub board_seen : BoardSoFar → Reading SceneFault
+board_seen so_far = record {
+  has_read = λ texts. SayBoard texts so_far;
+  refuses = λ texts text fault. SayBoard texts so_far × IsSceneFault text fault;
   is_full = false;
-  needs_text = length scenes == 0;
+  needs_text = so_far.next == 1;
 }
 
 -- the scene, if there is one

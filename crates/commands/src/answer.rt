@@ -2,21 +2,20 @@
 
 ghost use Rattle.std.specs.Prelude.{◌≡◌, ◌⊎◌, ◌++◌, ℕ, [], ◌∷◌, List as Items, Ok, Err, IfOk, IfErr, OnOk, IsSome};
 ghost use Rattle.board_io.specs.Counts.{Rose};
-ghost use Rattle.scene_file.specs.Heads.{Heading, IsJoinedHead};
+ghost use Rattle.scene_file.specs.declared.scene.Scene.{Scene};
 ghost use Rattle.session.specs.Printed.{IsReportText};
 ghost use Rattle.session_text.specs.Facts.{IsSession};
-ghost use Rattle.commands.specs.Answers.{IsAnswer, IsBoardOf, IsShownAs, IsStoredAs, HasPictures, heads_of, updates_of};
+ghost use Rattle.commands.specs.Answers.{IsAnswer, IsBoardOf, IsShownAs, IsStoredAs, HasPictures};
 ghost use Rattle.commands.specs.Ends.{span, GaveWithin, GaveTooMuch, WasRead};
 ghost use Rattle.commands.specs.Faults.{newline};
 ghost use Rattle.commands.specs.declared.status.Fault.{Fault};
 ghost use Rattle.commands.specs.declared.status.Refusal.{Refusal};
 
-use crate::input::{one_scene, session, some_scenes};
+use crate::input::{one_scene, session, some_board};
 use crate::pictures::picture_lines;
 use crate::status::{Fault, Refusal};
 use crate::words::Command;
-use board_io::{Bytes, List, Source};
-use elem::Element;
+use board_io::{Bytes, Source};
 use elem_store::Store;
 use scene_file::{Head, Layout, Scene, join, scene_text, state_text};
 use session::{replay, report_text};
@@ -48,16 +47,16 @@ pub(crate) fn answer<S: Source>(
             Ok(restored_text(alloc, scene, layout)?)
         }
         Command::Merge(layout) => {
-            let scenes = some_scenes(alloc, input)?;
-            Ok(shown_text(alloc, scenes, layout)?)
+            let (head, store) = some_board(alloc, input)?;
+            Ok(shown_text(alloc, &head, store, layout)?)
         }
         Command::State => {
-            let scenes = some_scenes(alloc, input)?;
-            Ok(stored_text(alloc, scenes)?)
+            let (head, store) = some_board(alloc, input)?;
+            Ok(stored_text(alloc, &head, &store)?)
         }
         Command::Pictures => {
-            let scenes = some_scenes(alloc, input)?;
-            Ok(pictures_text(alloc, scenes)?)
+            let (head, store) = some_board(alloc, input)?;
+            Ok(pictures_text(alloc, &head, &store)?)
         }
         Command::Replay => {
             let session = session(alloc, input)?;
@@ -70,35 +69,34 @@ pub(crate) fn answer<S: Source>(
 fn restored_text(alloc: Global, scene: Scene, layout: Layout) -> Result<Bytes, AllocError>
     ensures { IfOk result (IsShownAs (scene ∷ []) layout) }
 {
-    let scenes = vec![in alloc; scene]?;
-    shown_text(alloc, List::from_vec(scenes), layout)
+    let (head, store) = board_of(alloc, scene)?;
+    shown_text(alloc, &head, store, layout)
 }
 
-/// The text of the scene that the board of these scenes shows, and a newline. The store is dropped as soon as its view is
-/// made.
-fn shown_text(alloc: Global, scenes: List<Scene>, layout: Layout) -> Result<Bytes, AllocError>
-    ensures { IfOk result (IsShownAs scenes layout) }
+/// The text of the scene that a board shows, and a newline. The store is dropped as soon as its view is made.
+fn shown_text(alloc: Global, head: &Head, store: Store, layout: Layout) -> Result<Bytes, AllocError>
+    ensures { IfOk result (λ text. (scenes : Items Scene)
+        → IsBoardOf scenes head.now store.elements → IsShownAs scenes layout text) }
 {
-    let (head, store) = board_of(alloc, scenes)?;
     let view = view_of(alloc, &store)?;
     drop(store);
-    ended(scene_text(alloc, &head, &view, layout)?)
+    ended(scene_text(alloc, head, &view, layout)?)
 }
 
-/// The text of all that the board of these scenes stores, and a newline.
-fn stored_text(alloc: Global, scenes: List<Scene>) -> Result<Bytes, AllocError>
-    ensures { IfOk result (IsStoredAs scenes) }
+/// The text of all that a board stores, and a newline.
+fn stored_text(alloc: Global, head: &Head, store: &Store) -> Result<Bytes, AllocError>
+    ensures { IfOk result (λ text. (scenes : Items Scene)
+        → IsBoardOf scenes head.now store.now.elements → IsStoredAs scenes text) }
 {
-    let (head, store) = board_of(alloc, scenes)?;
-    ended(state_text(alloc, &head, &store)?)
+    ended(state_text(alloc, head, store)?)
 }
 
-/// A line on each file that the board of these scenes shows.
-fn pictures_text(alloc: Global, scenes: List<Scene>) -> Result<Bytes, AllocError>
-    ensures { IfOk result (HasPictures scenes) }
+/// A line on each file that a board shows.
+fn pictures_text(alloc: Global, head: &Head, store: &Store) -> Result<Bytes, AllocError>
+    ensures { IfOk result (λ text. (scenes : Items Scene)
+        → IsBoardOf scenes head.now store.now.elements → HasPictures scenes text) }
 {
-    let (head, store) = board_of(alloc, scenes)?;
-    let view = view_of(alloc, &store)?;
+    let view = view_of(alloc, store)?;
     let files = head.files.referred(view.elements())?;
     picture_lines(alloc, &files)
 }
@@ -112,45 +110,18 @@ fn replayed_text(alloc: Global, session: &Session) -> Result<Bytes, AllocError>
     ended(report_text(alloc, &report)?)
 }
 
-/// The joined head of these scenes, and what is stored of their elements.
-pub(crate) fn board_of(alloc: Global, scenes: List<Scene>) -> Result<(Head, Store), AllocError>
-    ensures { IfOk result (λ board. IsBoardOf scenes board.0 board.1.elements) }
-{
-    let (head, updates) = joined(alloc, scenes)?;
-    let store = Store::from_updates(alloc, updates)?;
-    Ok((head, store))
-}
-
-/// The joined head of these scenes, and their elements, one scene after the other.
-fn joined(alloc: Global, scenes: List<Scene>) -> Result<(Head, List<Element>), AllocError>
-    ensures head { IfOk result (λ found. IsJoinedHead (heads_of scenes) found.0) }
-    ensures updates { IfOk result (λ found. found.1 ≡ updates_of scenes) }
-{
-    let mut head = Head::new(alloc);
-    let mut updates = Vec::new(alloc);
-    for scene in scenes.into_vec() {
-        join_scene(alloc, &mut head, &mut updates, scene)?;
-    }
-    Ok((head, List::from_vec(updates)))
-}
-
-/// Joins the head of one more scene, and appends its elements.
-fn join_scene(
-    alloc: Global,
-    head: &mut Head,
-    updates: &mut Vec<Element>,
-    scene: Scene,
-) -> Result<(), AllocError>
-    ensures head { OnOk result ((heads : Items Heading)
-        → IsJoinedHead heads head.old → IsJoinedHead (heads ++ scene.head ∷ []) head.new) }
-    ensures updates { OnOk result (updates.new.items ≡ updates.old.items ++ scene.elements) }
+/// The board of one scene.
+fn board_of(alloc: Global, scene: Scene) -> Result<(Head, Store), AllocError>
+    ensures { IfOk result (λ board. IsBoardOf (scene ∷ []) board.0 board.1.elements) }
 {
     let Scene {
         head: other,
         elements,
     } = scene;
-    join(alloc, head, &other)?;
-    updates.append(&mut elements.into_vec())
+    let mut head = Head::new(alloc);
+    join(alloc, &mut head, &other)?;
+    let store = Store::from_updates(alloc, elements)?;
+    Ok((head, store))
 }
 
 /// The text and a newline.

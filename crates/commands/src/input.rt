@@ -5,7 +5,8 @@ ghost use Rattle.board_io.specs.Counts.{Rose};
 ghost use Rattle.intake.specs.Texts.{AreRead};
 ghost use Rattle.session_text.specs.Facts.{IsSession};
 ghost use Rattle.session_text.specs.Sessions.{IsSessionOf};
-ghost use Rattle.commands.specs.Answers.{IsOneRefusal, IsRefusal, IsSessionRefusal};
+ghost use Rattle.scene_file.specs.declared.scene.Scene.{Scene};
+ghost use Rattle.commands.specs.Answers.{IsBoardOf, IsOneRefusal, IsRefusal, IsSessionRefusal};
 ghost use Rattle.commands.specs.Ends.{span, GaveWithin, GaveTooMuch, WasRead};
 ghost use Rattle.commands.specs.Input.{HasScenes};
 ghost use Rattle.commands.specs.Readers.{refusal_of};
@@ -13,10 +14,11 @@ ghost use Rattle.commands.specs.SessionTexts.{session_refusal_of};
 ghost use Rattle.commands.specs.declared.status.Refusal.{Refusal};
 
 use crate::status::{Fault, Refusal};
-use crate::taking::{OneScene, OneSession, Scenes};
-use board_io::{List, ReadError, Source, Stop};
+use crate::taking::{Gathered, OneScene, OneSession};
+use board_io::{ReadError, Source, Stop};
+use elem_store::Store;
 use intake::{Reader, Stopped, read_texts};
-use scene_file::{Scene, SceneFault};
+use scene_file::{Head, Scene, SceneFault};
 use session_text::{Session, SessionFeed, TextFault};
 use std::alloc::Global;
 
@@ -48,10 +50,10 @@ pub(crate) fn one_scene<S: Source>(alloc: Global, input: &mut S) -> Result<Scene
     Ok(scene)
 }
 
-/// The scenes that the input is, one at least.
-pub(crate) fn some_scenes<S: Source>(alloc: Global, input: &mut S) -> Result<List<Scene>, Fault>
-    ensures scenes { IfOk result (λ scenes. (bytes : Items ℕ) × WasRead (span (S.seen input.old) (S.seen input.new)) bytes
-        × HasScenes bytes scenes) }
+/// The board of the scenes that the input is, one at least.
+pub(crate) fn some_board<S: Source>(alloc: Global, input: &mut S) -> Result<(Head, Store), Fault>
+    ensures board { IfOk result (λ board. (bytes : Items ℕ) × WasRead (span (S.seen input.old) (S.seen input.new)) bytes
+        × ((scenes : Items Scene) × HasScenes bytes scenes × IsBoardOf scenes board.0 board.1.elements)) }
     ensures refused { (why : Refusal) → result ≡ Err (Fault.Refused why)
         → (bytes : Items ℕ) × WasRead (span (S.seen input.old) (S.seen input.new)) bytes × IsRefusal bytes why }
     ensures read_fault { result ≡ Err Fault.Read → Rose (S.seen input.old).faults (S.seen input.new).faults
@@ -62,14 +64,12 @@ pub(crate) fn some_scenes<S: Source>(alloc: Global, input: &mut S) -> Result<Lis
     ensures only { IfErr result (λ fault. (fault ≡ Fault.Memory) ⊎ ((fault ≡ Fault.Read) ⊎ ((fault ≡ Fault.TooLong)
         ⊎ ((why : Refusal) × (fault ≡ Fault.Refused why))))) }
 {
-    let mut reader = Scenes {
-        read: Vec::new(alloc),
-    };
-    let found = read_input(alloc, input, &mut reader)?;
-    let scenes = List::from_vec(reader.read);
+    let mut gathered = Gathered::new(alloc);
+    let found = read_input(alloc, input, &mut gathered)?;
+    let Gathered { head, store, next } = gathered;
     match found {
-        None => Ok(scenes),
-        Some(stopped) => Err(Fault::Refused(refused(scenes.as_slice().len() + 1, stopped))),
+        None => Ok((head, store)),
+        Some(stopped) => Err(Fault::Refused(refused(next, stopped))),
     }
 }
 

@@ -14,8 +14,8 @@ ghost use Rattle.commands.specs.Faults.{IsNoted};
 ghost use Rattle.commands.specs.declared.status.Fault.{Fault};
 ghost use Rattle.commands.specs.declared.status.Refusal.{Refusal};
 
-use crate::answer::{board_of, ended};
-use crate::input::some_scenes;
+use crate::answer::ended;
+use crate::input::some_board;
 use crate::status::{Fault, Refusal, Status};
 use crate::words::Service;
 use board_io::{Bytes, Failed, LinkError, Links, Piece, Sink, Source, write_all, write_pieces};
@@ -44,28 +44,12 @@ pub(crate) fn serve<S: Source, K: Sink, L: Links>(
     ensures output_kept { IfErr result (λ fault. fault ≢ Fault.Write → output.new ≡ output.old) }
     ensures links_kept { IfErr result (λ fault. fault ≢ Fault.Write → fault ≢ Fault.Memory → links.new ≡ links.old) }
 {
-    let (head, store) = begin(alloc, input)?;
+    let (head, store) = some_board(alloc, input)?;
     let (end, text) = hold(alloc, service, &head, store, links)?;
     match write_all(output, text.as_slice()) {
         Ok(()) => Ok(end),
         Err(Failed) => Err(Fault::Write),
     }
-}
-
-/// The joined head of the scenes of the input, and what is stored of them.
-fn begin<S: Source>(alloc: Global, input: &mut S) -> Result<(Head, Store), Fault>
-    ensures begun { IfOk result (λ begun. (bytes : Items ℕ) × WasRead (span (S.seen input.old) (S.seen input.new)) bytes
-        × ((scenes : Items Scene) × HasScenes bytes scenes × IsBoardOf scenes begun.0 begun.1.elements)) }
-    ensures refused { (why : Refusal) → result ≡ Err (Fault.Refused why)
-        → (bytes : Items ℕ) × WasRead (span (S.seen input.old) (S.seen input.new)) bytes × IsRefusal bytes why }
-    ensures read_fault { result ≡ Err Fault.Read → Rose (S.seen input.old).faults (S.seen input.new).faults
-        × GaveWithin (span (S.seen input.old) (S.seen input.new)) }
-    ensures too_long { result ≡ Err Fault.TooLong → GaveTooMuch (span (S.seen input.old) (S.seen input.new)) }
-    ensures only { IfErr result (λ fault. (fault ≡ Fault.Memory) ⊎ ((fault ≡ Fault.Read) ⊎ ((fault ≡ Fault.TooLong)
-        ⊎ ((why : Refusal) × (fault ≡ Fault.Refused why))))) }
-{
-    let scenes = some_scenes(alloc, input)?;
-    Ok(board_of(alloc, scenes)?)
 }
 
 /// Serves a room that begins with this store to its end, and gives the text of its scene then.

@@ -1,50 +1,81 @@
 //! What reads the scenes or the session of an input, text by text.
 
-ghost use Rattle.std.specs.Prelude.{Option, List as Items};
-ghost use Rattle.commands.specs.Readers.{scenes_seen, one_seen};
+ghost use Rattle.std.specs.Prelude.{◌≡◌, ◌+◌, [], Option, List as Items, IfOk};
+ghost use Rattle.commands.specs.Readers.{SayBoard, board_seen, one_seen};
 ghost use Rattle.commands.specs.SessionTexts.{session_seen};
 
 use board_io::Stop;
+use elem_store::Store;
 use intake::Reader;
-use scene_file::{Scene, SceneFault, scene_of};
+use scene_file::{Head, Scene, SceneFault, join, scene_of};
 use scene_json::Raw;
 use session_text::{SessionFeed, TextFault};
-use std::alloc::Global;
+use std::alloc::{AllocError, Global};
 use std::marker::Model;
 
-/// The scenes that are read of an input.
+/// The board of the scenes that are read of an input, each of which is dropped as soon as the board has it; and the number of
+/// the next text, counted from 1.
 #[derive(Drop)]
-pub(crate) struct Scenes {
-    pub(crate) read: Vec<Scene>,
+pub(crate) struct Gathered {
+    pub(crate) head: Head,
+    pub(crate) store: Store,
+    pub(crate) next: usize,
 }
 
-impl Model for Scenes {
-    ghost use Rattle.std.specs.Prelude.{List as Items};
-    ghost use Rattle.scene_file.specs.declared.scene.Scene.{Scene};
+impl Model for Gathered {
+    ghost use Rattle.std.specs.Prelude.{◌≤◌};
+    ghost use Rattle.commands.specs.Readers.{BoardSoFar};
 
-    ghost Value = { Items Scene };
+    ghost Value = { BoardSoFar };
 
-    ghost view = { λ s. s.read.items };
+    ghost view = { λ g. record { head = g.head; stored = g.store.elements; next = g.next } };
+
+    ghost invariant = { λ g. 1 ≤ g.next };
 }
 
-impl Reader for Scenes {
+impl Gathered {
+    /// Of no scenes. It takes no memory.
+    pub(crate) fn new(alloc: Global) -> Gathered
+        ensures { SayBoard [] result }
+    {
+        Gathered {
+            head: Head::new(alloc),
+            store: Store::new(alloc),
+            next: 1,
+        }
+    }
+}
+
+impl Reader for Gathered {
     type Fault = SceneFault;
 
-    ghost seen = { scenes_seen };
+    ghost seen = { board_seen };
 
     fn is_full(&self) -> bool {
         false
     }
 
     fn needs_text(&self) -> bool {
-        self.read.is_empty()
+        self.next == 1
     }
 
+    /// Behind as many texts as can be counted, which no input has, it wants memory.
     fn read(&mut self, alloc: Global, text: &Raw) -> Result<(), Stop<SceneFault>> {
-        let scene = scene_of(alloc, text)?;
-        self.read.push(scene)?;
+        let Scene { head, elements } = scene_of(alloc, text)?;
+        let next = number_after(self.next)?;
+        join(alloc, &mut self.head, &head)?;
+        self.store.reserve(elements.as_slice().len())?;
+        self.store.take_all(elements);
+        self.next = next;
         Ok(())
     }
+}
+
+/// The number after this one, if it can be counted.
+fn number_after(number: usize) -> Result<usize, AllocError>
+    ensures { IfOk result (λ next. next ≡ number + 1) }
+{
+    number.checked_add(1).ok_or(AllocError)
 }
 
 /// The one scene that is read of an input.

@@ -7,10 +7,10 @@ pub returns : goal.returns
 returns c =
     let live = all_as_stored c.view.inside.originals c.view.inside.shown in
     let settled = shown-settled live (HaveDistinctIds-rising live c.view.invariant.ordered) c.view.invariant.keys in
-    IfOk-weaker c.ended.result _ _ (λ text made. record {
-      head = c.in_ok-head.head;
-      stored = c.in_ok-head.store.elements;
-      board = c.in_ok-head.ensures;
+    IfOk-weaker c.ended.result _ _ (λ text made scenes board. record {
+      head = c.args.head.now;
+      stored = c.args.store.elements;
+      board = board;
       written = c.in_ok-scene_text.field-0;
       scene = rw (← c.in_ok-view.ensures) c.in_ok-scene_text.ensures.text;
       ended = made;

@@ -1,6 +1,5 @@
 use Rattle.std.proofs.Common.{◌≡◌, ◌+◌, sym, ap, subst, Some, ◌∙◌}
 use Rattle.intake.specs.Texts.{AreRead, HasTexts}
-use Rattle.session_text.specs.Sessions.{IsSessionOf}
 use Rattle.session_text.specs.Taken.{texts_in}
 use Rattle.commands.specs.Answers.{IsSessionRefusal}
 use Rattle.commands.specs.SessionTexts.{session_refusal_of, session_seen}

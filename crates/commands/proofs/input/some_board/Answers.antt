@@ -1,0 +1,30 @@
+use Rattle.std.proofs.Common.{◌≡◌, List, sym, subst, ◌∙◌}
+use Rattle.intake.specs.Texts.{AreRead}
+use Rattle.commands.specs.Answers.{IsBoardOf, IsRefusal}
+use Rattle.commands.specs.Input.{HasScenes}
+use Rattle.commands.specs.Readers.{BoardSoFar, board_seen, refusal_of}
+use Rattle.commands.proofs.Readers.{board-read, board-refused}
+use Rattle.scene_file.specs.declared.scene.Scene.{Scene}
+use Rattle.commands.proofs.input.some_board.Goals as goal
+
+pub returns-in-None-clause-board : goal.returns-in-None-clause-board
+returns-in-None-clause-board g c =
+    let read = c.in_ok-found.ensures.read in
+    let so_far = c.read_input.new.reader in (
+      read.0,
+      read.1,
+      subst (λ (seen : BoardSoFar). (scenes : List Scene) × HasScenes read.0 scenes × IsBoardOf scenes seen.head seen.stored) (sym c.gathered.view_is)
+          (board-read read.0 so_far (subst (AreRead read.0 (board_seen so_far)) c.in-None.is read.2)),
+    )
+
+pub returns-in-Some-clause-refused : goal.returns-in-Some-clause-refused
+returns-in-Some-clause-refused g c why is =
+    let read = c.in_ok-found.ensures.read in
+    let so_far = c.read_input.new.reader in
+    let told : c.refused.result ≡ why = cc in
+    let refused = board-refused read.0 so_far c.in-Some.stopped (subst (AreRead read.0 (board_seen so_far)) c.in-Some.is read.2) in (
+      read.0,
+      read.1,
+      subst (IsRefusal read.0) (sym c.refused.ensures ∙ told)
+          (subst (λ (seen : BoardSoFar). IsRefusal read.0 (refusal_of seen.next c.in-Some.stopped)) (sym c.gathered.view_is) refused),
+    )

@@ -1,0 +1,20 @@
+use Rattle.std.proofs.Common.{◌≡◌, ◌+◌, ◌==◌, ℕ, ◌≤◌, List, false, arith, sym, subst}
+use Rattle.std.proofs.lemmas.Bool.Decides.{nat_tests}
+use Rattle.elem_store.specs.Updates.{AreStored}
+use Rattle.commands.specs.Readers.{BoardSoFar, SayBoard}
+use Rattle.commands.proofs.Readers.{board-more}
+use Rattle.commands.proofs.taking.GatheredReader.read.Goals as goal
+
+pub returns-clause-read : goal.returns-clause-read
+returns-clause-read c texts say =
+    let old : BoardSoFar = record { head = c.self.inside.head; stored = c.self.inside.store.elements; next = c.self.inside.next } in
+    let new : BoardSoFar = record { head = c.join.new.head; stored = c.take_all.new.self.elements; next = c.in_ok-next.next } in
+    board-more texts c.args.text.now c.in_ok-head.field-0 old new (subst (SayBoard texts) (sym c.self.view_is) say) c.in_ok-head.ensures.scene
+    c.in_ok-join.ensures.joined (λ updates are. c.take_all.ensures updates (subst (AreStored updates) (sym c.in_ok-reserve.ensures.elements) are))
+    c.in_ok-next.ensures
+
+later-number : (n m : ℕ) → n ≡ m + 1 → 1 ≤ m → (n == 1) ≡ false
+later-number n m next some = grind (arith, nat_tests)
+
+pub returns-clause-enough : goal.returns-clause-enough
+returns-clause-enough c = later-number c.in_ok-next.next c.self.inside.next c.in_ok-next.ensures c.self.invariant
