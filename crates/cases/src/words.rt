@@ -1,23 +1,17 @@
 //! The words of the command line.
 
-use scene_json::{scan, whole_of};
 use std::env;
 use std::rt::Env;
 
-/// How many bytes the ends of a run give and take at once whose case doesn't say: the number that the first word behind the
-/// program's name is, or 7 where there is none. Nothing, where that is no number or isn't to be read.
+/// How many bytes the ends of a run give and take at once, where neither its case nor the command line says.
+const CHUNK: u64 = 7;
+
+/// How many bytes the ends of a run give and take at once whose case doesn't say: the number that is the first word behind
+/// the program's name, if there is a word. `None` where that is no number, or the words can't be read.
 pub fn chunk_asked<R: Env + AllocGlobal>(rt: &R) -> Option<u64> {
-    let Ok(words) = env::args(rt) else {
-        return None;
-    };
-    let Ok(words) = words.collect(rt.alloc()) else {
-        return None;
-    };
-    let Some(word) = words.get(1) else {
-        return Some(7);
-    };
-    match scan(rt.alloc(), word.as_bytes(), 0) {
-        Ok((value, _after)) => whole_of(&value),
-        Err(_) => None,
+    let words: Vec<String> = env::args(rt).ok()?.collect(rt.alloc()).ok()?;
+    match words.get(1) {
+        Some(word) => word.parse::<u64>().ok(),
+        None => Some(CHUNK),
     }
 }
