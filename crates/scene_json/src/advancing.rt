@@ -21,11 +21,11 @@ pub(crate) fn advance(machine: &mut Machine, piece: &[u8]) -> Progress
     requires { is_over machine.old.mode machine.old.brackets ≡ false }
     ensures { Advanced machine.old machine.new piece.now result }
 {
-    let mut next = machine.stay_end(piece, 0);
+    let mut next = machine.stay_end(machine.ground(), piece, 0);
     while next < piece.len() {
         match machine.step(piece[next]) {
             Step::On if machine.is_over() => return Progress::Ended(next + 1),
-            Step::On => next = machine.stay_end(piece, next + 1),
+            Step::On => next = machine.stay_end(machine.ground(), piece, next + 1),
             Step::Ended => return Progress::Ended(next),
             Step::Refused => return Progress::Refused(next),
         }

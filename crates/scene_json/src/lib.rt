@@ -5,8 +5,8 @@ mod advancing;
 mod brackets;
 mod build;
 mod collapsing;
-mod compacting;
 mod content;
+mod draft;
 mod end;
 mod fault;
 mod feed;
@@ -26,6 +26,7 @@ mod staying;
 mod stretch;
 mod text;
 mod texts;
+mod writing;
 
 pub use build::{
     push_comma, push_member, push_quote, push_quoted, push_whole, raw_array, raw_null, raw_object,
