@@ -57,3 +57,4 @@ mod Drafting
 mod Ready
 mod Written
 mod Copying
+mod Pieces

@@ -1,19 +1,25 @@
 -- What the writer has written of the bytes so far, along the machine.
-use Rattle.std.proofs.Common.{◌≡◌, ℕ, ◌+◌, ◌<◌, ◌≤◌, length, drop, get_or, List, [], ◌∷◌, ◌++◌, true, None, refl, sym, ap, subst, ◌∙◌, arith, append_assoc, append-nil}
+use Rattle.std.proofs.Common.{◌≡◌, ℕ, suc, ◌+◌, ◌<◌, ◌≤◌, length, drop, get_or, List, [], ◌∷◌, ◌++◌, true, None, refl, sym, ap, subst, ◌∙◌, inl, inr, arith, append_assoc, append-nil}
+use Rattle.std.proofs.lemmas.Bool.{cases_lt}
+use Rattle.std.proofs.lemmas.List.{drop_all}
+use Rattle.std.proofs.lemmas.Option.{slice_get-get_or}
 use Rattle.scene_json.specs.Characters.{is_blank}
 use Rattle.scene_json.specs.Compact.{compact}
 use Rattle.scene_json.specs.Drafts.{fresh, grown}
 use Rattle.scene_json.specs.Tree.{spelling}
 use Rattle.scene_json.specs.Value.{Value, Begins, Stands}
-use Rattle.scene_json.specs.Machine.{state, top, moved}
+use Rattle.scene_json.specs.Machine.{state, ended, top, moved, step}
+use Rattle.scene_json.specs.Runs.{EndsBefore}
 use Rattle.std.specs.List.{AllByRecursion}
 use Rattle.scene_json.specs.declared.machine.Machine.{Machine}
 use Rattle.scene_json.specs.declared.machine.Move.TheVariants.{To}
 use Rattle.scene_json.specs.declared.writing.Writer.{Writer}
-use Rattle.scene_json.specs.Writing.{Writing, between, deed_at, Can, Done, Ready, HasWritten, stretch, writing_at, Fits, CanPut, HasPut, HasRead, GoesOn}
+use Rattle.scene_json.specs.Writing.{Writing, between, deed_at, Can, Done, Ready, HasWritten, stretch, writing_at, Fits, CanPut, HasPut, HasRead, HasEnded, GoesOn}
 use Rattle.scene_json.proofs.Machines.{run, start}
 use Rattle.scene_json.proofs.ValueRuns.{runs_begins}
-use Rattle.scene_json.proofs.OffsetRuns.{one_more, stretch_more, whole_value, read_on, stayed}
+use Rattle.scene_json.proofs.Ends.{drop_one}
+use Rattle.scene_json.proofs.Feeds.{over_ends, ended_before}
+use Rattle.scene_json.proofs.OffsetRuns.{one_more, stretch_more, whole_value, read_on, stayed, end_found, done_found}
 use Rattle.scene_json.proofs.Ready.{blank-ready, tree-ready}
 
 -- of no bytes
@@ -59,6 +65,26 @@ module _ (bytes : List ℕ) (at next : ℕ) (machine : Machine) (writer : Writer
   pub value-written : (text : List ℕ) → Stands (drop at bytes) text (drop next bytes) → writing_at bytes next writer ≡ between (grown fresh text) []
   value-written text s =
       written-whole (stretch bytes at next) s.blank s.value text (writing_at bytes next writer) read.written (whole_value bytes at next read.low text s) s.space s.reads
+
+  -- where it ends, a value has ended
+  pub has-ended : EndsBefore machine.mode machine.brackets (drop next bytes) → HasEnded bytes at next
+  has-ended ends = record { mode = machine.mode; brackets = machine.brackets; low = read.low; high = read.high; ran = read.runs; ends = ends }
+
+  pub ended-found : EndsBefore machine.mode machine.brackets (drop next bytes) → (text : List ℕ) × Stands (drop at bytes) text (drop next bytes)
+  ended-found ends = elim (cases_lt next (length bytes)) [
+    | inl high ↦
+        end_found bytes at next read.low machine.mode machine.brackets read.runs high
+        (ended_before machine.mode machine.brackets (drop next bytes) ends (get_or bytes next 0) (drop (suc next) bytes)
+        (drop_one bytes next (get_or bytes next 0) (slice_get-get_or bytes next 0 high)))
+    | inr past ↦
+        let full : next ≡ length bytes = omega (arith, read.high) in
+        let found = done_found bytes at next read.low machine.mode machine.brackets read.runs full (ended-over ends (drop_all next bytes past)) in
+        (found.0, subst (λ k. Stands (drop at bytes) found.0 (drop k bytes)) (sym full) found.1)
+  ]
+    where
+      ended-over : EndsBefore machine.mode machine.brackets (drop next bytes) → drop next bytes ≡ [] → step 128 machine.mode machine.brackets 32 ≡ ended 32
+      ended-over (inl over) none = over_ends machine.mode machine.brackets over 32
+      ended-over (inr (b, more, is, e)) none = cc
 
   -- a byte that the machine takes can be written, and is read then
   module _ (after : Machine) (high : next < length bytes) (goes : GoesOn machine (get_or bytes next 0) after) where

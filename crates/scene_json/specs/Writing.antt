@@ -1,16 +1,22 @@
 -- What each byte of a value makes of what was written of the value. Only contracts of private functions cite this.
 -- This project's own, over RFC 8259, sections 2 to 7.
-use Rattle.std.specs.Prelude.{◌≡◌, ℕ, ◌+◌, ◌-◌, ◌≤◌, length, take, drop, slice_index, List, [], ◌∷◌, ◌++◌, None, Some, Bool, true, false, ◌==◌, ◌⊎◌, if◌then◌else◌}
+use Rattle.std.specs.Prelude.{◌≡◌, ℕ, ◌+◌, ◌-◌, ◌<◌, ◌≤◌, length, take, drop, slice_index, List, [], ◌∷◌, ◌++◌, None, Some, Bool, true, false, ◌==◌, ◌⊎◌, if◌then◌else◌}
 use Rattle.std.specs.List.{AllByRecursion}
 use Rattle.scene_json.specs.Characters.{is_space, is_blank, is_plain, is_digit, quote}
 use Rattle.scene_json.specs.Compact.{compact}
 use Rattle.scene_json.specs.Drafts.{Drafted, fresh, grown, closed}
-use Rattle.scene_json.specs.Machine.{state, step}
-use Rattle.scene_json.specs.Runs.{run, start}
+use Rattle.scene_json.specs.Machine.{state, refused, step}
+use Rattle.scene_json.specs.Runs.{run, start, is_over, EndsBefore}
 use Rattle.scene_json.specs.Lines.{Place, outside, inside, place_of}
 use Rattle.scene_json.specs.Tree.{Tree, IsGood, spelling}
+use Rattle.scene_json.specs.Value.{Stands}
 use Rattle.scene_json.specs.Walk.{Quoted}
+use Rattle.scene_json.specs.declared.brackets.Bracket.{Bracket}
 use Rattle.scene_json.specs.declared.machine.Machine.{Machine}
+use Rattle.scene_json.specs.declared.machine.Mode.{Mode}
+use Rattle.scene_json.specs.declared.reader.Reader.{Reader}
+use Rattle.scene_json.specs.declared.reader.Taken.{Taken}
+use Rattle.scene_json.specs.declared.reader.Taken.TheVariants as taken
 use Rattle.scene_json.specs.declared.staying.Ground.{Ground}
 use Rattle.scene_json.specs.declared.staying.Ground.TheVariants as ground
 use Rattle.scene_json.specs.declared.writing.Deed.{Deed}
@@ -156,3 +162,24 @@ GoesOn before byte machine = step 128 before.mode before.brackets byte ≡ state
 abbrev pub ReadsOn : List ℕ → ℕ → Machine → Writer → ℕ → Machine → Writer → Type 0
 ReadsOn bytes next machine writer end after written =
     (next ≤ end) × (end ≤ length bytes) × ((at : ℕ) → HasRead bytes at next machine writer → HasRead bytes at end after written)
+
+-- what a reader has read of these bytes from an offset on
+abbrev pub IsRead : List ℕ → ℕ → Reader → Type 0
+IsRead bytes at reader = HasRead bytes at reader.next reader.machine reader.writer
+
+-- The value from an offset on has ended before a later one.
+pub record HasEnded (bytes : List ℕ) (at end : ℕ) : Type 0 where
+  pub mode : Mode
+  pub brackets : List Bracket
+  pub low : at ≤ end
+  pub high : end ≤ length bytes
+  pub ran : run 128 start (stretch bytes at end) ≡ state mode brackets
+  pub ends : EndsBefore mode brackets (drop end bytes)
+
+-- what came of reading on in these bytes, which were read from an offset on
+abbrev pub Came : List ℕ → ℕ → Taken → Type 0
+Came bytes at (taken.Through reader) = IsRead bytes at reader × (reader.next ≡ length bytes) × (is_over reader.machine.mode reader.machine.brackets ≡ false)
+Came bytes at (taken.Ended value end) = HasEnded bytes at end × Stands (drop at bytes) value (drop end bytes)
+Came bytes at (taken.Refused machine next) =
+    (at ≤ next) × (next < length bytes) × (run 128 start (stretch bytes at next) ≡ state machine.mode machine.brackets)
+    × (step 128 machine.mode machine.brackets (slice_index bytes next) ≡ refused)

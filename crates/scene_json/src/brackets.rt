@@ -43,16 +43,6 @@ impl Brackets {
         }
     }
 
-    /// The same brackets.
-    pub(crate) fn copy(&self) -> Brackets
-        ensures { result ≡ self.now }
-    {
-        Brackets {
-            digits: self.digits,
-            count: self.count,
-        }
-    }
-
     /// The innermost open bracket.
     pub(crate) fn top(&self) -> Option<Bracket>
         ensures { result ≡ top self.now }

@@ -1,7 +1,6 @@
 //! JSON texts and their values.
 #![tactic(auto)]
 
-mod advancing;
 mod brackets;
 mod build;
 mod collapsing;
@@ -19,6 +18,7 @@ mod number;
 mod order;
 mod parts;
 mod quote_bytes;
+mod reader;
 mod scalar;
 mod scanning;
 mod sequence;

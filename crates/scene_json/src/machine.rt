@@ -111,17 +111,6 @@ impl Machine {
         }
     }
 
-    /// An equal machine.
-    pub(crate) fn copy(&self) -> Machine
-        ensures mode { result.mode ≡ self.now.mode }
-        ensures brackets { result.brackets ≡ self.now.brackets }
-    {
-        Machine {
-            mode: self.mode,
-            brackets: self.brackets.copy(),
-        }
-    }
-
     /// Takes one byte more, unless no value goes on with it.
     pub(crate) fn step(&mut self, byte: u8) -> Step
         ensures { Stepped self.old self.new result byte }

@@ -1,6 +1,6 @@
 use Rattle.std.proofs.Common.{arith}
 use Rattle.scene_json.proofs.Written.{can-put, has-put}
-use Rattle.scene_json.proofs.scanning.end_string.Goals as goal
+use Rattle.scene_json.proofs.reader.end_string.Goals as goal
 
 pub put-requires-clause-can : goal.put-requires-clause-can
 put-requires-clause-can c =

@@ -3,8 +3,8 @@ use Rattle.std.proofs.lemmas.Result.{IfOk-weaker}
 use Rattle.scene_json.specs.Writing.{HasRead, GoesOn}
 use Rattle.scene_json.specs.declared.machine.Machine.{Machine}
 use Rattle.scene_json.proofs.Written.{can-put, has-put}
-use Rattle.scene_json.proofs.scanning.take.Goals as goal
-use Rattle.scene_json.proofs.scanning.take.Goals.{In_ok-end}
+use Rattle.scene_json.proofs.reader.take.Goals as goal
+use Rattle.scene_json.proofs.reader.take.Goals.{In_ok-end}
 
 pub put-requires-clause-can : goal.put-requires-clause-can
 put-requires-clause-can c =

@@ -1,5 +1,5 @@
 use Rattle.scene_json.proofs.Written.{has-passed}
-use Rattle.scene_json.proofs.scanning.pass.Goals as goal
+use Rattle.scene_json.proofs.reader.pass.Goals as goal
 
 pub returns : goal.returns
 returns c =
