@@ -234,7 +234,8 @@ fn read_more(
     let alloc = *rest.allocator();
     let before = rest.len();
     rest.extend_from_slice(piece)?;
-    match replace(reader, Reader::new(alloc, 0)).read(alloc, rest.as_slice()) {
+    let bytes = rest.as_slice();
+    match replace(reader, Reader::new(alloc, 0)).read(alloc, bytes) {
         Ok(Taken::Through(read)) => {
             *reader = read;
             let used = piece.len();
@@ -248,7 +249,8 @@ fn read_more(
             })
         }
         Ok(Taken::Refused(machine, at)) => {
-            let fault = machine.fault(Some(rest[at]), used + (at - before));
+            let place = used + (at - before);
+            let fault = machine.fault(Some(bytes[at]), place);
             rest.truncate(before);
             Err(Stop::Fault(fault))
         }
@@ -274,6 +276,8 @@ fn read_end(
 {
     match replace(reader, Reader::new(alloc, 0)).read(alloc, rest)? {
         Taken::Through(read) => read.finish(rest, place),
-        Taken::Ended(_, _) | Taken::Refused(_, _) => unreachable!(),
+        // Before the end it would have come with the earlier pieces.
+        Taken::Ended(_, _) => unreachable!(),
+        Taken::Refused(_, _) => unreachable!(),
     }
 }

@@ -1,15 +1,40 @@
-use Rattle.std.proofs.Common.{Err, ◌∙◌, sym, ap}
-use Rattle.scene_json.proofs.CompactLaws.{Value-compact}
+use Rattle.std.proofs.Common.{◌≡◌, ℕ, List, Err, drop, length, sym, ap, subst, ◌∙◌}
+use Rattle.scene_json.specs.Faults.{IsFirstFault}
+use Rattle.scene_json.specs.Value.{Stands}
+use Rattle.scene_json.proofs.OffsetRuns.{refused_fault, undone_fault}
 use Rattle.scene_json.proofs.Reading.{Stands-once}
 use Rattle.scene_json.proofs.scanning.scan.Goals as goal
 
-pub returns-in_err-text-clause-fault : goal.returns-in_err-text-clause-fault
-returns-in_err-text-clause-fault c = λ fault is. let same = rw is at c.from_residual.ensures.1 in c.in_err-text.ensures.fault fault (ap Err (sym same))
+pub returns-in_err-finish-in-Through-clause-fault : goal.returns-in_err-finish-in-Through-clause-fault
+returns-in_err-finish-in-Through-clause-fault c fault is =
+    let bytes = c.args.bytes.now in
+    let r = c.in-Through.reader in
+    let came = rw c.in-Through.is at (c.in_ok-reader.ensures c.args.at (c.new.ensures bytes c.requires)) in
+    let same = rw is at c.from_residual-in_err-finish-in-Through.ensures.1 in
+    let said = c.in_err-finish-in-Through.ensures in
+    subst (IsFirstFault bytes c.args.at) (sym (said.fault fault (ap Err (sym same))))
+    (undone_fault bytes c.args.at r.next came.0.low r.machine.mode r.machine.brackets came.0.runs came.1 (said.undone fault (ap Err (sym same))))
 
-pub from_compact-requires : goal.from_compact-requires
-from_compact-requires c = Value-compact c.in_ok-text.ensures.found.reads
+pub returns-in_ok-finish-in-Through-clause-only : goal.returns-in_ok-finish-in-Through-clause-only
+returns-in_ok-finish-in-Through-clause-only c text rest stands =
+    let bytes = c.args.bytes.now in
+    let read = c.new.ensures bytes c.requires in
+    let came = rw c.in-Through.is at (c.in_ok-reader.ensures c.args.at read) in
+    let found = c.in_ok-finish-in-Through.ensures.value c.args.at came.0 in
+    let both = Stands-once stands found in
+    (both.0, both.1 ∙ ap (λ k. drop k bytes) came.1)
 
-pub returns-clause-only : goal.returns-clause-only
-returns-clause-only c = λ text rest stands.
-    let both = Stands-once stands c.in_ok-text.ensures.found in
-    (both.0 ∙ sym c.in_ok-from_compact.ensures, both.1)
+pub returns-in-Ended-clause-only : goal.returns-in-Ended-clause-only
+returns-in-Ended-clause-only c text rest stands =
+    let came = rw c.in-Ended.is at (c.in_ok-reader.ensures c.args.at (c.new.ensures c.args.bytes.now c.requires)) in
+    let both = Stands-once stands came.1 in
+    (both.0, both.1)
+
+pub returns-in-Refused-clause-fault : goal.returns-in-Refused-clause-fault
+returns-in-Refused-clause-fault c fault is =
+    let bytes = c.args.bytes.now in
+    let m = c.in-Refused.machine in
+    let came = rw c.in-Refused.is at (c.in_ok-reader.ensures c.args.at (c.new.ensures bytes c.requires)) in
+    let same : c.fault.result ≡ fault = cc in
+    subst (IsFirstFault bytes c.args.at) (sym c.fault.ensures ∙ same)
+    (refused_fault bytes c.args.at c.in-Refused.next came.0 m.mode m.brackets came.2 came.1 came.3)
