@@ -17,6 +17,7 @@ use Rattle.std.specs.Prelude.{if◌then◌else◌}
 use Rattle.scene_json.specs.declared.brackets.Bracket.{Bracket}
 use Rattle.scene_json.specs.declared.machine.Machine.{Machine}
 use Rattle.scene_json.specs.declared.machine.Mode.{Mode}
+use Rattle.scene_json.specs.declared.machine.Mode.TheVariants as mode
 use Rattle.scene_json.specs.declared.reader.Reader.{Reader}
 use Rattle.scene_json.specs.declared.reader.Taken.{Taken}
 use Rattle.scene_json.specs.declared.writing.Writer.{Writer}
@@ -85,6 +86,9 @@ kept-through bytes reader read all goes_on begun = record {
   begun = begun;
   goes_on = goes_on;
 }
+
+pub kept-none : IsKept []
+kept-none = record { mode = mode.Value; brackets = []; ran = refl; begun = refl; goes_on = refl }
 
 -- the value that ends before an offset
 front-stands : (bytes text : List ℕ) (n : ℕ) → Stands bytes text (drop n bytes) → Stands (take n bytes) text []
