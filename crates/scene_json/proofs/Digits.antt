@@ -46,10 +46,3 @@ room n d digit low bit few =
     let within : n + 1 ≤ 128 = omega (arith, few) in
     let most : 2 ^ (n + 1) ≤ 2 ^ 128 = pow-le-pow_right {n = 2} some within in
     omega (arith, one-more n d digit low bit, most)
-
-pub fewer-fit : (n d : ℕ) → d < 2 ^ n → 0 < n → d / 2 < 2 ^ (n - 1)
-fewer-fit zero d low some = absurd (omega (arith, some))
-fewer-fit (suc n) d low some =
-    let one : suc n - 1 ≡ n = omega arith in
-    let twice : d < 2 ^ n * 2 = rw (pow-suc 2 n) at low in
-    rw one (omega (arith, twice))

@@ -1,7 +1,7 @@
 -- Where the machine ends, a value stands; where it is refused, none stands.
-use Rattle.std.proofs.Common.{◌≡◌, ℕ, zero, suc, ◌<◌, ◌≤◌, List, [], ◌∷◌, ◌++◌, length, take, drop, true, Some, refl, sym, ap, subst, ◌∙◌, inl, inr, append_assoc, append-nil, take-append-drop}
+use Rattle.std.proofs.Common.{◌≡◌, ℕ, zero, suc, ◌≤◌, List, [], ◌∷◌, ◌++◌, length, take, drop, true, Some, refl, sym, ap, subst, ◌∙◌, inl, inr, append_assoc, append-nil, take-append-drop}
 use Rattle.std.specs.Prelude.{flat_map, slice_get}
-use Rattle.std.proofs.lemmas.Bool.{false≢true, cases_lt}
+use Rattle.std.proofs.lemmas.Bool.{false≢true}
 use Rattle.std.proofs.lemmas.List.{append_cancel_right, take_all, drop_all}
 use Rattle.scene_json.specs.Tree.{piece_spelling, Tree, scalar, spelling, IsGood}
 use Rattle.scene_json.specs.Value.{Stands, IsFaulty}
@@ -43,14 +43,6 @@ some_tree (scalar []) (inr (inl word)) rest e = cc
 some_tree (scalar []) (inr (inr (inl word))) rest e = cc
 some_tree (scalar []) (inr (inr (inr word))) rest e = cc
 some_tree tree good rest e = cc
-
-pub stands-inside : (bytes : List ℕ) (at : ℕ) {text rest : List ℕ} → Stands (drop at bytes) text rest → at < length bytes
-stands-inside bytes at {text} {rest} s = elim (cases_lt at (length bytes)) [
-  | inl inside ↦ inside
-  | inr past ↦
-      let none : s.value ++ rest ≡ [] = append-none s.blank (s.value ++ rest) (sym s.parts ∙ drop_all at bytes past) in
-      absurd (some_tree s.reads.tree s.reads.good rest (sym (ap (λ v. v ++ rest) s.reads.spells ∙ none)))
-]
 
 -- what is said of a state that completes a value with nothing more
 abbrev pub IsOver : Mode → List Bracket → Type 0

@@ -1,7 +1,7 @@
 -- Where a feed stands in a stream, and what the machine's run over a piece says there.
 use Rattle.std.proofs.Common.{◌≡◌, ℕ, suc, ◌+◌, ◌-◌, ◌<◌, ◌≤◌, List, [], ◌∷◌, ◌++◌, length, take, drop, get_or, true, false, Some, None, refl, sym, ap, ap₂, subst, ◌∙◌, inl, inr, arith, append_assoc, append-nil, length-append, length-drop, take-append-drop, get_or-drop}
 use Rattle.std.specs.Prelude.{slice_get}
-use Rattle.std.specs.List.{AllByRecursion, prefix_len}
+use Rattle.std.specs.List.{prefix_len}
 use Rattle.std.proofs.lemmas.Bool.{cases_Bool, false≢true, false_from_ne_true}
 use Rattle.std.proofs.lemmas.List.{append_cancel_right, take_all, drop-append-le, drop-drop, take-append-le, get_or-append-add}
 use Rattle.std.proofs.lemmas.Option.{slice_get-get_or}
@@ -21,15 +21,13 @@ use Rattle.scene_json.specs.declared.machine.Mode.{Mode}
 use Rattle.scene_json.specs.declared.machine.Mode.TheVariants.{After, Fresh, Number, Quoted, Word}
 use Rattle.scene_json.specs.declared.machine.Mode.TheVariants as mode
 use Rattle.scene_json.specs.declared.fault.JsonFault.TheVariants.{Syntax}
-use Rattle.scene_json.specs.declared.machine.Move.TheVariants.{To}
-use Rattle.scene_json.specs.Machine.{Outcome, state, ended, refused, top, moved, step, fault_of}
+use Rattle.scene_json.specs.Machine.{Outcome, state, ended, refused, top, step, fault_of}
 use Rattle.scene_json.proofs.Machines.{run-append, Reaches}
-use Rattle.scene_json.proofs.Ends.{take_one, over, ended_stands, done_stands}
+use Rattle.scene_json.proofs.Ends.{take_one, over, ended_stands}
 use Rattle.scene_json.proofs.Onward.{onward}
 use Rattle.scene_json.proofs.ValueRuns.{runs_begins, runs_onward, stands_start}
-use Rattle.scene_json.proofs.OffsetRuns.{take-plus, refused_fault, undone_fault}
+use Rattle.scene_json.proofs.OffsetRuns.{refused_fault, undone_fault}
 use Rattle.scene_json.proofs.Reading.{Stands-once}
-use Rattle.scene_json.proofs.Stays.{stay_run}
 
 -- ---- a run over a piece
 module _ (from : Outcome) (bytes : List ℕ) (i : ℕ) (m : Mode) (st : List Bracket) (is : run 128 from (take i bytes) ≡ state m st) where
@@ -183,17 +181,8 @@ under_way xs m st is goes_on = record {
       subst (λ o. Reaches 128 sign o []) (sign_refused m st ends goes_on) (onward 128 sign m st 43 [] after);
 }
 
--- what a run over the bytes since the last value and a piece is
-pub run-kept : (rest piece : List ℕ) (m0 m : Mode) (st0 st : List Bracket) → run 128 start rest ≡ state m0 st0 → run 128 (state m0 st0) piece ≡ state m st
-    → run 128 start (behind_space (rest ++ piece)) ≡ state m st
-run-kept rest piece m0 m st0 st ran on =
-    sym (run-behind (rest ++ piece)) ∙ run-append 128 start rest piece ∙ ap (λ o. run 128 o piece) ran ∙ on
-
-behind-twice : (bytes : List ℕ) → behind_space (behind_space bytes) ≡ behind_space bytes
-behind-twice bytes = ap behind_space (sym (append-nil (behind_space bytes))) ∙ sym (behind-append bytes []) ∙ ap behind_space (append-nil bytes)
-
 pub kept-begun : (bytes : List ℕ) → behind_space (behind_space bytes) ≡ behind_space bytes
-kept-begun bytes = behind-twice bytes
+kept-begun bytes = ap behind_space (sym (append-nil (behind_space bytes))) ∙ sym (behind-append bytes []) ∙ ap behind_space (append-nil bytes)
 
 blank-front : (xs ys : List ℕ) → is_blank (xs ++ ys) ≡ true → is_blank xs ≡ true
 blank-front [] ys e = refl

@@ -9,7 +9,7 @@ use Rattle.scene_json.specs.Characters.{is_space}
 use Rattle.scene_json.specs.Drafts.{grown}
 use Rattle.scene_json.specs.Feeding.{behind_space}
 use Rattle.scene_json.specs.Lines.{place_of}
-use Rattle.scene_json.specs.Machine.{Outcome, state, ended, refused, top, step, fault_of}
+use Rattle.scene_json.specs.Machine.{Outcome, state, refused, top, step, fault_of}
 use Rattle.scene_json.specs.Runs.{run, start, is_over, EndsBefore, IsKept, EndsIn, IsRefusedIn}
 use Rattle.scene_json.specs.Value.{Stands}
 use Rattle.scene_json.specs.Writing.{Writing, stretch, kept_to, writing_at, HasRead, HasWritten, HasEnded, IsRead, Came}

@@ -148,9 +148,9 @@ impl Feed {
                 self.rest.clear();
                 Ok(Some(value))
             }
-            Err(Stop::Fault(fault)) => {
-                self.fault = Some(fault);
-                Err(Stop::Fault(fault))
+            Err(Stop::Fault(cut_off)) => {
+                self.fault = Some(cut_off);
+                Err(Stop::Fault(cut_off))
             }
             Err(Stop::Memory) => Err(Stop::Memory),
         }

@@ -5,11 +5,15 @@ use Rattle.scene_json.specs.Writing.{Came, IsRead}
 use Rattle.scene_json.proofs.Feeds.{behind-on}
 use Rattle.scene_json.proofs.Pieces.{read-of, more-came, kept-through, more-ended, late-refused, more-refused}
 use Rattle.scene_json.proofs.feed.read_more.Goals as goal
-use Rattle.scene_json.proofs.feed.read_more.Goals.{In-Ok-Through, In-Ok-Ended, In-Ok-Refused}
+use Rattle.scene_json.proofs.feed.read_more.Goals.{In_ok-extend_from_slice, In-Ok-Through, In-Ok-Ended, In-Ok-Refused}
 
 pub read-requires : goal.read-requires
 read-requires c =
     (0, read-of c.args.rest.now.items c.args.piece.now c.as_slice-bytes.result.now c.args.reader.now c.replace.result (c.as_slice-bytes.ensures.value ∙ c.in_ok-extend_from_slice.ensures.items) c.replace.ensures.value c.requires.read)
+
+-- where the piece begins
+before : (c : In_ok-extend_from_slice) → c.len-before.result ≡ length c.args.rest.now.items
+before c = let count : vec_len c.args.rest.now ≡ length c.args.rest.now.items = omega arith in c.len-before.ensures ∙ count
 
 -- the value has ended
 ended : (c : In-Ok-Ended) → Came (c.args.rest.now.items ++ c.args.piece.now) 0 c.in-Ok-Ended.field-0
@@ -17,15 +21,12 @@ ended c =
     more-came c.args.rest.now.items c.args.piece.now c.as_slice-bytes.result.now c.args.reader.now c.replace.result (c.as_slice-bytes.ensures.value ∙ c.in_ok-extend_from_slice.ensures.items) c.replace.ensures.value
     c.requires.read c.in-Ok-Ended.field-0 c.in-Ok-Ended.ensures
 
-before-Ended : (c : In-Ok-Ended) → c.len-before.result ≡ length c.args.rest.now.items
-before-Ended c = let count : vec_len c.args.rest.now ≡ length c.args.rest.now.items = omega arith in c.len-before.ensures ∙ count
-
 pub overflow_sub-result : goal.overflow_sub-result
 overflow_sub-result c =
     let there = (goal.at.overflow_sub-result c).In-Ok-Ended in
     let e = rw c.in-Ok-Ended.field-0-is at (ended there) in
     let found = more-ended c.args.rest.now.items c.args.piece.now c.requires.kept c.in-Ok-Ended.end c.in-Ok-Ended.value e.0 e.1 in
-    omega (arith, found.0, before-Ended there)
+    omega (arith, found.0, before (goal.at.overflow_sub-result c).In_ok-extend_from_slice)
 
 pub returns-in-Ok-Ended-clause-fed : goal.returns-in-Ok-Ended-clause-fed
 returns-in-Ok-Ended-clause-fed c =
@@ -36,8 +37,8 @@ returns-in-Ok-Ended-clause-fed c =
     let e = rw c.in-Ok-Ended.field-0-is at (ended there) in
     let found = more-ended rest piece c.requires.kept end c.in-Ok-Ended.value e.0 e.1 in (
       c.clear.ensures.items,
-      subst (λ k. EndsIn rest piece (end - k)) (sym (before-Ended there)) found.1,
-      subst (λ k. Stands (rest ++ take (end - k) piece) c.in-Ok-Ended.value []) (sym (before-Ended there)) found.2,
+      subst (λ k. EndsIn rest piece (end - k)) (sym (before (goal.at.returns-in-Ok-Ended-clause-fed c).In_ok-extend_from_slice)) found.1,
+      subst (λ k. Stands (rest ++ take (end - k) piece) c.in-Ok-Ended.value []) (sym (before (goal.at.returns-in-Ok-Ended-clause-fed c).In_ok-extend_from_slice)) found.2,
     )
 
 -- a byte is refused
@@ -46,21 +47,18 @@ stuck c =
     more-came c.args.rest.now.items c.args.piece.now c.as_slice-bytes.result.now c.args.reader.now c.replace.result (c.as_slice-bytes.ensures.value ∙ c.in_ok-extend_from_slice.ensures.items) c.replace.ensures.value
     c.requires.read c.in-Ok-Refused.field-0 c.in-Ok-Refused.ensures
 
-before-Refused : (c : In-Ok-Refused) → c.len-before.result ≡ length c.args.rest.now.items
-before-Refused c = let count : vec_len c.args.rest.now ≡ length c.args.rest.now.items = omega arith in c.len-before.ensures ∙ count
-
 pub overflow_sub-place : goal.overflow_sub-place
 overflow_sub-place c =
     let there = (goal.at.overflow_sub-place c).In-Ok-Refused in
     let m = c.in-Ok-Refused.machine in
     let e = rw c.in-Ok-Refused.field-0-is at (stuck there) in
-    omega (arith, late-refused c.args.rest.now.items c.args.piece.now c.requires.kept c.in-Ok-Refused.at m.mode m.brackets e.2 e.1 e.3, before-Refused there)
+    omega (arith, late-refused c.args.rest.now.items c.args.piece.now c.requires.kept c.in-Ok-Refused.at m.mode m.brackets e.2 e.1 e.3, before (goal.at.overflow_sub-place c).In_ok-extend_from_slice)
 
 pub overflow_add-place : goal.overflow_add-place
 overflow_add-place c =
     let there = (goal.at.overflow_add-place c).In-Ok-Refused in
     let e = rw c.in-Ok-Refused.field-0-is at (stuck there) in
-    omega (arith, e.1, length-append c.args.rest.now.items c.args.piece.now, before-Refused there, c.requires.room)
+    omega (arith, e.1, length-append c.args.rest.now.items c.args.piece.now, before (goal.at.overflow_add-place c).In_ok-extend_from_slice, c.requires.room)
 
 pub bounds-bytes-at : goal.bounds-bytes-at
 bounds-bytes-at c =
@@ -77,7 +75,7 @@ returns-in-Ok-Refused-clause-fault c fault same =
     let e = rw c.in-Ok-Refused.field-0-is at (stuck there) in
     let told : c.fault-fault.result ≡ fault = cc in
     let up = late-refused rest piece c.requires.kept at m.mode m.brackets e.2 e.1 e.3 in
-    let place : c.args.used + (at - length rest) ≡ c.args.used + (at - c.len-before.result) = ap (λ k. c.args.used + (at - k)) (sym (before-Refused there)) in
+    let place : c.args.used + (at - length rest) ≡ c.args.used + (at - c.len-before.result) = ap (λ k. c.args.used + (at - k)) (sym (before (goal.at.returns-in-Ok-Refused-clause-fault c).In_ok-extend_from_slice)) in
     let byte : get_or (rest ++ piece) at 0 ≡ get_or c.as_slice-bytes.result.now at 0 = ap (λ (xs : List ℕ). get_or xs at 0) (sym (c.as_slice-bytes.ensures.value ∙ c.in_ok-extend_from_slice.ensures.items)) in
     subst (IsRefusedIn rest piece c.args.used) (rw (byte, place) (sym c.fault-fault.ensures) ∙ told)
     (more-refused rest piece c.requires.kept at m.mode m.brackets e.2 up e.1 e.3 c.args.used)

@@ -1,8 +1,5 @@
-use Rattle.std.proofs.Common.{◌≡◌, ℕ, List, [], drop, sym, subst, ◌∙◌}
-use Rattle.scene_json.specs.Drafts.{fresh, grown}
-use Rattle.scene_json.specs.Value.{IsCompact, Stands}
-use Rattle.scene_json.specs.Writing.{between, writing_at, HasRead}
-use Rattle.scene_json.specs.declared.machine.Machine.{Machine}
+use Rattle.std.proofs.Common.{sym, subst, ◌∙◌}
+use Rattle.scene_json.specs.Value.{IsCompact}
 use Rattle.scene_json.proofs.CompactLaws.{Value-compact}
 use Rattle.scene_json.proofs.Written.{value-written}
 use Rattle.scene_json.proofs.reader.value_of.Goals as goal

@@ -1,6 +1,5 @@
-use Rattle.std.proofs.Common.{◌≡◌, ℕ, List, Err, drop, length, sym, ap, subst, ◌∙◌}
+use Rattle.std.proofs.Common.{◌≡◌, Err, drop, sym, ap, subst, ◌∙◌}
 use Rattle.scene_json.specs.Faults.{IsFirstFault}
-use Rattle.scene_json.specs.Value.{Stands}
 use Rattle.scene_json.proofs.OffsetRuns.{refused_fault, undone_fault}
 use Rattle.scene_json.proofs.Reading.{Stands-once}
 use Rattle.scene_json.proofs.scanning.scan.Goals as goal

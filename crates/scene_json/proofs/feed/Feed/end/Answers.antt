@@ -27,8 +27,8 @@ pub returns-in-Err-Fault-clause-first : goal.returns-in-Err-Fault-clause-first
 returns-in-Err-Fault-clause-first c fault is stream begin at =
     let feed : Feeding = record { rest = c.self.inside.rest.items; used = c.self.inside.used; fault = c.self.inside.fault } in
     let here : IsAt stream begin [] feed = subst (IsAt stream begin []) (sym c.self.view_is) at in
-    let same : c.in-Err-Fault.fault ≡ fault = cc in
-    let r = c.in-Err-Fault.ensures.fault c.in-Err-Fault.fault (ap Err c.in-Err-Fault.field-0-is) in (
+    let same : c.in-Err-Fault.cut_off ≡ fault = cc in
+    let r = c.in-Err-Fault.ensures.fault c.in-Err-Fault.cut_off (ap Err c.in-Err-Fault.field-0-is) in (
       more_there stream begin feed here (λ (none : c.self.inside.rest.items ≡ []). grind (arith, common_steps, none, c.is_empty.ensures, c.if-is_empty.false)),
       subst (IsFirstFault stream begin) (sym r.told ∙ same)
           (cut_off_there stream begin feed here r.mode r.brackets (ap (run 128 start) (sym c.deref.ensures.value) ∙ r.ran) r.undone),

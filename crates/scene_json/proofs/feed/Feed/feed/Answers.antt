@@ -1,4 +1,4 @@
-use Rattle.std.proofs.Common.{◌≡◌, ℕ, ◌+◌, List, [], ◌++◌, Err, length, drop, sym, ap, subst, ◌∙◌}
+use Rattle.std.proofs.Common.{◌≡◌, ℕ, ◌+◌, List, [], ◌++◌, Err, drop, sym, ap, subst, ◌∙◌}
 use Rattle.scene_json.specs.Faults.{IsFirstFault}
 use Rattle.scene_json.specs.Feeding.{behind_space, Feeding, IsAt}
 use Rattle.scene_json.proofs.Feeds.{going_on, value_there, fault_there, fault_apart, under_way}
