@@ -1,6 +1,5 @@
 -- What stands behind the bytes that were there.
-use Rattle.std.proofs.Common.{◌≡◌, ℕ, List, [], ◌++◌, length, take, refl, sym, ap, ◌∙◌, append_assoc, append-nil, Result, Ok, Err, OnOk, OnErr}
-use Rattle.std.proofs.Math.Seq.{take-append_seam}
+use Rattle.std.proofs.Common.{◌≡◌, ℕ, List, [], ◌++◌, sym, ap, ◌∙◌, append_assoc, append-nil, Result, Ok, Err, OnErr}
 use Rattle.scene_json.specs.Appending.{Extends}
 
 -- bytes that are as before, and those behind which some were appended
@@ -12,13 +11,6 @@ extends_by a b x is = record { more = x; is = is }
 
 pub extends_then : (a b c : List ℕ) → Extends a b → Extends b c → Extends a c
 extends_then a b c one two = record { more = one.more ++ two.more; is = two.is ∙ ap (λ t. t ++ two.more) one.is ∙ append_assoc a one.more two.more }
-
-pub extends_more : (a b c x : List ℕ) → b ≡ a ++ x → Extends b c → Extends a c
-extends_more a b c x is two = extends_then a b c (extends_by a b x is) two
-
--- what is cut back is as before
-pub extends_cut : (a b c : List ℕ) (n : ℕ) → n ≡ length a → Extends a b → c ≡ take n b → c ≡ a
-extends_cut a b c n at one is = is ∙ ap (λ m. take m b) at ∙ ap (take (length a)) one.is ∙ take-append_seam a one.more
 
 -- what holds holds where a call failed
 pub on_err : {A E P : Type 0} (r : Result A E) → P → OnErr r P

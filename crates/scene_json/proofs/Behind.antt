@@ -1,9 +1,10 @@
 -- Where a string ends.
-use Rattle.std.proofs.Common.{◌≡◌, ℕ, suc, ◌≤◌, List, [], ◌∷◌, ◌++◌, Bool, true, false, not, ◌&&◌, ◌==◌, if◌then◌else◌, eqb, length, flat_map, refl, sym, ap, ◌∙◌, append_assoc, arith, inl, inr}
-use Rattle.std.specs.List.{list_all, AllByRecursion}
+use Rattle.std.proofs.Common.{◌≡◌, ℕ, suc, ◌+◌, ◌<◌, ◌≤◌, min, get_or, drop, drop-drop, drop-cons, drop_of_length-le, length-drop, subst, List, [], ◌∷◌, ◌++◌, Bool, true, false, not, ◌&&◌, ◌==◌, if◌then◌else◌, eqb, length, flat_map, refl, sym, ap, ◌∙◌, append_assoc, arith, inl, inr}
+use Rattle.std.specs.List.{list_all, AllByRecursion, prefix_len}
 use Rattle.std.specs.Char.{encode_utf8}
 use Rattle.std.proofs.lemmas.List.{append_cancel_right}
-use Rattle.std.proofs.lemmas.Bool.{cases_Bool, and_parts, cond_both}
+use Rattle.std.proofs.lemmas.List.Sums.{prefix_len-le-length}
+use Rattle.std.proofs.lemmas.Bool.{cases_Bool, cases_lt, and_parts, cond_both}
 use Rattle.std.proofs.lemmas.Bool.Decides.{nat_tests}
 use Rattle.scene_json.specs.Characters.{is_hex, is_plain}
 use Rattle.scene_json.specs.Tree.{Piece, bare, letter, unit, IsPiece, piece_spelling}
@@ -36,7 +37,7 @@ plain-quote b h = grind (arith, nat_tests)
 pub plain-slash : (b : ℕ) → is_plain b ≡ true → eqb b 92 ≡ false
 plain-slash b h = grind (arith, nat_tests)
 
-hex-plain : (b : ℕ) → is_hex b ≡ true → is_plain b ≡ true
+pub hex-plain : (b : ℕ) → is_hex b ≡ true → is_plain b ≡ true
 hex-plain b h = grind (arith, nat_tests)
 
 -- a pass inside a string goes over plain bytes
@@ -67,3 +68,70 @@ pieces-front ps bs h =
     let front = string_front false (flat_map piece_spelling ps ++ 34 ∷ bs) in
     append_cancel_right front (flat_map piece_spelling ps ++ 34 ∷ []) bs
     (ap (λ x. front ++ x) (sym (pieces-behind ps bs h)) ∙ front-behind false (flat_map piece_spelling ps ++ 34 ∷ bs) ∙ sym (append_assoc (flat_map piece_spelling ps) (34 ∷ []) bs))
+
+-- a run of plain bytes at the front, which ends at the string's end or at an escape
+pub behind-run : (bs : List ℕ) → behind_string false (drop (prefix_len is_plain bs) bs) ≡ behind_string false bs
+behind-run [] = refl
+behind-run (b ∷ bs) = elim (cases_Bool (is_plain b)) [
+  | inl e ↦ let one : 1 + prefix_len is_plain bs ≡ suc (prefix_len is_plain bs) = omega arith in rw (e, one, plain-quote b e, plain-slash b e) (behind-run bs)
+  | inr e ↦ rw e refl
+]
+
+pub run-stops : (bs : List ℕ) (b : ℕ) (others : List ℕ) → drop (prefix_len is_plain bs) bs ≡ b ∷ others → is_plain b ≡ false
+run-stops [] b others e = absurd (cc)
+run-stops (x ∷ bs) b others e = elim (cases_Bool (is_plain x)) [
+  | inl p ↦ let one : 1 + prefix_len is_plain bs ≡ suc (prefix_len is_plain bs) = omega arith in run-stops bs b others (rw (p, one) at e)
+  | inr p ↦ let front : x ∷ bs ≡ b ∷ others = rw p at e in let same : x ≡ b = cc in subst (λ y. is_plain y ≡ false) same p
+]
+
+-- the byte behind a `\` plays no part
+pub behind-escape : (b : ℕ) (bs : List ℕ) → behind_string true (b ∷ bs) ≡ behind_string false bs
+behind-escape b bs = rw (and-false (eqb b 34), and-false (eqb b 92)) refl
+
+-- Behind a run of plain bytes, what stands behind the string is still to come.
+pub record IsMarked (bytes : List ℕ) (next : ℕ) : Type 0 where
+  pub within : next ≤ length bytes
+  pub same : behind_string false (drop next bytes) ≡ behind_string false bytes
+  pub stops : (b : ℕ) (others : List ℕ) → drop next bytes ≡ b ∷ others → is_plain b ≡ false
+
+pub marked-run : (bytes : List ℕ) (at end : ℕ) → at ≤ length bytes → behind_string false (drop at bytes) ≡ behind_string false bytes → end ≡ at + prefix_len is_plain (drop at bytes)
+    → IsMarked bytes end
+marked-run bytes at end low same is =
+    let there : drop end bytes ≡ drop (prefix_len is_plain (drop at bytes)) (drop at bytes) = ap (λ k. drop k bytes) is ∙ sym (drop-drop (prefix_len is_plain (drop at bytes)) at bytes) in
+    record {
+      within = omega (arith, is, prefix_len-le-length is_plain (drop at bytes), length-drop at bytes);
+      same = ap (behind_string false) there ∙ behind-run (drop at bytes) ∙ same;
+      stops = λ b others e. run-stops (drop at bytes) b others (sym there ∙ e);
+    }
+
+module _ (bytes : List ℕ) (next : ℕ) (marked : IsMarked bytes next) where
+  pub marked-past : length bytes ≤ next → [] ≡ behind_string false bytes
+  marked-past past = ap (behind_string false) (sym (drop_of_length-le bytes past)) ∙ marked.same
+
+  module _ (high : next < length bytes) where
+    split : drop next bytes ≡ get_or bytes next 0 ∷ drop (suc next) bytes
+    split = drop-cons bytes next 0 high
+
+    slash : (get_or bytes next 0 ≡ 34 → ⊥) → get_or bytes next 0 ≡ 92
+    slash other = let solid = marked.stops (get_or bytes next 0) (drop (suc next) bytes) split in grind (arith, nat_tests)
+
+    passed : (bs : List ℕ) → behind_string false (drop 1 bs) ≡ behind_string false (92 ∷ bs)
+    passed [] = refl
+    passed (b ∷ bs) = sym (behind-escape b bs)
+
+    -- behind the escape, of which the bytes may break off
+    pub marked-escape : (get_or bytes next 0 ≡ 34 → ⊥) → (k : ℕ) → k ≡ min (length bytes) (next + 2) → (k ≤ length bytes) × (behind_string false (drop k bytes) ≡ behind_string false bytes)
+    marked-escape other k is =
+        let front : drop next bytes ≡ 92 ∷ drop (suc next) bytes = split ∙ ap (λ b. b ∷ drop (suc next) bytes) (slash other) in
+        let all : behind_string false (drop (next + 2) bytes) ≡ behind_string false bytes =
+        (let two : suc next + 1 ≡ next + 2 = omega arith in
+        ap (λ j. behind_string false (drop j bytes)) (sym two) ∙ ap (behind_string false) (sym (drop-drop 1 (suc next) bytes)) ∙ passed (drop (suc next) bytes) ∙ ap (behind_string false) (sym front) ∙ marked.same) in (
+          omega (arith, is),
+          elim (cases_lt (length bytes) (next + 2)) [
+            | inl short ↦
+                let at : k ≡ length bytes = omega (arith, is, short) in
+                ap (λ j. behind_string false (drop j bytes)) at
+                ∙ ap (behind_string false) (drop_of_length-le bytes (omega arith) ∙ sym (drop_of_length-le bytes (omega (arith, short)))) ∙ all
+            | inr long ↦ let at : k ≡ next + 2 = omega (arith, is, long) in ap (λ j. behind_string false (drop j bytes)) at ∙ all
+          ],
+        )

@@ -1,15 +1,14 @@
 -- The loop that reads a string: what is read and what is left of it make its text.
-use Rattle.std.proofs.Common.{◌≡◌, ◌≢◌, ◌<◌, ◌≤◌, ℕ, suc, ◌+◌, ◌-◌, List, [], ◌∷◌, ◌++◌, false, refl, sym, ap, ap₂, ◌∙◌, subst, arith, length, get_or, take, drop, append_assoc, append-nil, flat_map, IsUtf8, get_or-drop, drop-drop, length-drop, lit<, lt_of_lt_of_le, add-zero}
+use Rattle.std.proofs.Common.{◌≡◌, ◌≢◌, ◌<◌, ◌≤◌, ℕ, suc, ◌+◌, ◌-◌, List, [], ◌∷◌, ◌++◌, false, refl, sym, ap, ◌∙◌, subst, arith, length, get_or, take, drop, append_assoc, append-nil, flat_map, IsUtf8, get_or-drop, drop-drop, length-drop, lit<, lt_of_lt_of_le, add-zero}
 use Rattle.std.proofs.lemmas.Bool.{eqb-false}
-use Rattle.std.proofs.Math.Seq.{take-suc}
 use Rattle.std.proofs.lemmas.Bool.Decides.{nat_tests}
 use Rattle.std.specs.List.{AllByRecursion, prefix_len}
-use Rattle.scene_json.specs.Characters.{is_plain, quote, quoted_byte}
+use Rattle.scene_json.specs.Characters.{is_plain}
 use Rattle.scene_json.specs.Tree.{Piece, bare, letter, unit, IsPiece, piece_spelling}
 use Rattle.scene_json.specs.Compact.{content}
 use Rattle.scene_json.specs.Walk.{Quoted, Unread, Takes}
 use Rattle.scene_json.proofs.Strings.{content-utf8}
-use Rattle.scene_json.proofs.Escapes.{unread-Run, unread-quoted, bare-first}
+use Rattle.scene_json.proofs.Escapes.{unread-Run, bare-first}
 
 -- what follows the first byte of what follows an offset
 pub drop-after : (xs : List ℕ) (at : ℕ) {b : ℕ} {rest : List ℕ} → drop at xs ≡ b ∷ rest → drop (at + 1) xs ≡ rest
@@ -90,26 +89,6 @@ reading-closes {bytes} {out} {at} {end} r first text after q =
     let mine = r.split text after q in
     let both = unread-close mine.1 (front bytes end first) in
     (sym (append-nil out) ∙ ap (λ s. out ++ s) (sym both.0) ∙ mine.2, sym (drop-drop 1 end bytes) ∙ both.1)
-
--- where no character is escaped, the string is the quote of its text
-pub plain-quote : (bytes : List ℕ) (at end : ℕ) {text after : List ℕ} → Quoted (drop at bytes) text after →
-    end ≡ at + 1 + prefix_len is_plain (drop (at + 1) bytes) → get_or bytes end 0 ≡ 34 → take (end + 1 - at) (drop at bytes) ≡ quote text
-unfolding quote
-plain-quote bytes at end {text} {after} q e mark =
-    let inside = drop (at + 1) bytes in
-    let n = prefix_len is_plain inside in
-    let begun = reading-starts bytes at q in
-    let ran = reading-runs end q begun e in
-    let stretch : take (end - (at + 1)) inside ≡ text = (reading-closes ran.reading mark text after q).0 in
-    let span : end - (at + 1) ≡ n = omega (arith, e) in
-    let front : take n inside ≡ text = ap (λ k. take k inside) (sym span) ∙ stretch in
-    let own : flat_map quoted_byte text ≡ text = subst (λ s. flat_map quoted_byte s ≡ s) front (unread-quoted (begun.split text after q).1) in
-    let size : end + 1 - at ≡ suc (suc n) = omega (arith, e) in
-    let opened : drop at bytes ≡ 34 ∷ inside = q.parts ∙ ap (λ s. 34 ∷ s) (sym (drop-after bytes at q.parts)) in
-    let fits : n < length inside = omega (arith, e, ran.within, length-drop (at + 1) bytes) in
-    let last : get_or inside n 0 ≡ 34 = get_or-drop (at + 1) bytes n 0 ∙ ap (λ k. get_or bytes k 0) (sym e) ∙ mark in
-    ap₂ (λ k s. take k s) size opened
-    ∙ ap (λ s. 34 ∷ s) (take-suc inside n 0 fits ∙ ap₂ (λ s b. s ++ b ∷ []) (front ∙ sym own) last)
 
 pub quoted-utf8 : {bytes text rest : List ℕ} → Quoted bytes text rest → IsUtf8 text
 quoted-utf8 q = subst IsUtf8 q.means (content-utf8 q.pieces q.good)

@@ -3,16 +3,14 @@ use Rattle.std.proofs.Common.{◌≡◌, ◌≢◌, ◌<◌, ◌≤◌, ℕ, suc
 use Rattle.std.proofs.lemmas.Bool.{cases_Bool, and_parts, and_from, eqb-false, both_ways}
 use Rattle.std.proofs.lemmas.Bool.Decides.{nat_tests}
 use Rattle.std.proofs.lemmas.Str.{encode_ascii}
-use Rattle.std.proofs.lemmas.List.Concat.{flat_map-append}
-use Rattle.std.proofs.Math.Seq.{take-append-add}
 use Rattle.std.specs.Char.{IsScalar, encode_utf8}
 use lib.Utf8.{low_scalar}
 use Rattle.std.specs.List.{AllByRecursion, list_all, prefix_len}
-use Rattle.scene_json.specs.Characters.{is_hex, is_plain, quoted_byte}
+use Rattle.scene_json.specs.Characters.{is_hex, is_plain}
 use Rattle.scene_json.specs.Tree.{Piece, bare, letter, unit, IsPiece, letter_meaning, piece_spelling}
 use Rattle.scene_json.specs.Compact.{piece_value, is_high, is_low, paired, lone, characters, content}
 use Rattle.scene_json.specs.Walk.{Unread, Takes, StartsWithUnit}
-use Rattle.scene_json.proofs.Strings.{first_code, heads-differ, lone-same, paired-scalar, plain-bare, quoted-bare}
+use Rattle.scene_json.proofs.Strings.{first_code, heads-differ, lone-same, paired-scalar, plain-bare}
 
 -- one character that is no high surrogate stands alone
 characters-first : (u : ℕ) (us : List ℕ) → is_high u ≡ false → characters (u ∷ us) ≡ lone u ∷ characters us
@@ -25,7 +23,7 @@ scalar-not-high c h = grind (arith, nat_tests)
 scalar-not-low : (c : ℕ) → IsScalar c → is_low c ≡ false
 scalar-not-low c h = grind (arith, nat_tests)
 
-content-bare : (c : ℕ) (ps : List Piece) → IsScalar c → content (bare c ∷ ps) ≡ encode_utf8 c ++ content ps
+pub content-bare : (c : ℕ) (ps : List Piece) → IsScalar c → content (bare c ∷ ps) ≡ encode_utf8 c ++ content ps
 unfolding content
 content-bare c ps h = ap encode_utf8_all (characters-first c (map piece_value ps) (scalar-not-high c h))
     ∙ ap (λ u. encode_utf8 u ++ encode_utf8_all (characters (map piece_value ps))) (lone-same c h)
@@ -225,26 +223,6 @@ run-pieces (bare c ∷ ps) after good =
 
 pub unread-Run : {xs text after : List ℕ} → Unread xs text after → Run xs text after (prefix_len is_plain xs)
 unread-Run {xs} {text} {after} u = rw (u.parts, (sym u.means)) (run-pieces u.pieces after u.good)
-
--- that run is its own quote
-quoted-pieces : (ps : List Piece) (after : List ℕ) → AllByRecursion IsPiece ps → (xs : List ℕ) → xs ≡ flat_map piece_spelling ps ++ 34 ∷ after →
-    flat_map quoted_byte (take (prefix_len is_plain xs) xs) ≡ take (prefix_len is_plain xs) xs
-quoted-pieces [] after good xs e = rw e refl
-quoted-pieces (letter b ∷ ps) after good xs e = rw e refl
-quoted-pieces (unit a b c d ∷ ps) after good xs e = rw e refl
-quoted-pieces (bare c ∷ ps) after good xs e =
-    let bytes = encode_utf8 c in
-    let ys = flat_map piece_spelling ps ++ 34 ∷ after in
-    let n = prefix_len is_plain ys in
-    let same : xs ≡ bytes ++ ys = e ∙ append_assoc bytes (flat_map piece_spelling ps) (34 ∷ after) in
-    let count : prefix_len is_plain (bytes ++ ys) ≡ length bytes + n = prefix-run is_plain bytes ys (plain-bare c good.0.2 good.0.3) in
-    let front : take (prefix_len is_plain xs) xs ≡ bytes ++ take n ys =
-    rw same (ap (λ k. take k (bytes ++ ys)) count ∙ take-append-add bytes ys n) in
-    ap (flat_map quoted_byte) front ∙ flat_map-append quoted_byte bytes (take n ys)
-    ∙ ap₂ (λ x y. x ++ y) (quoted-bare c good.0) (quoted-pieces ps after good.1 ys refl) ∙ sym front
-
-pub unread-quoted : {xs text after : List ℕ} → Unread xs text after → flat_map quoted_byte (take (prefix_len is_plain xs) xs) ≡ take (prefix_len is_plain xs) xs
-unread-quoted {xs} {text} {after} u = quoted-pieces u.pieces after u.good xs u.parts
 
 pub starts-ahead : {xs text after : List ℕ} (h : UnitAhead xs text after) (v : ℕ) →
     v ≡ piece_value (unit (get_or xs 2 0) (get_or xs 3 0) (get_or xs 4 0) (get_or xs 5 0)) → StartsWithUnit xs v

@@ -1,7 +1,7 @@
 -- Where a feed stands in a stream, and what the machine's run over a piece says there.
 use Rattle.std.proofs.Common.{◌≡◌, ℕ, suc, ◌+◌, ◌-◌, ◌<◌, ◌≤◌, List, [], ◌∷◌, ◌++◌, length, take, drop, get_or, true, false, Some, None, refl, sym, ap, ap₂, subst, ◌∙◌, inl, inr, arith, append_assoc, append-nil, length-append, length-drop, take-append-drop, get_or-drop}
 use Rattle.std.specs.Prelude.{slice_get}
-use Rattle.std.specs.List.{AllByRecursion, prefix_len}
+use Rattle.std.specs.List.{prefix_len}
 use Rattle.std.proofs.lemmas.Bool.{cases_Bool, false≢true, false_from_ne_true}
 use Rattle.std.proofs.lemmas.List.{append_cancel_right, take_all, drop-append-le, drop-drop, take-append-le, get_or-append-add}
 use Rattle.std.proofs.lemmas.Option.{slice_get-get_or}
@@ -21,15 +21,13 @@ use Rattle.scene_json.specs.declared.machine.Mode.{Mode}
 use Rattle.scene_json.specs.declared.machine.Mode.TheVariants.{After, Fresh, Number, Quoted, Word}
 use Rattle.scene_json.specs.declared.machine.Mode.TheVariants as mode
 use Rattle.scene_json.specs.declared.fault.JsonFault.TheVariants.{Syntax}
-use Rattle.scene_json.specs.declared.machine.Move.TheVariants.{To}
-use Rattle.scene_json.specs.Machine.{Outcome, state, ended, refused, top, moved, step, fault_of}
+use Rattle.scene_json.specs.Machine.{Outcome, state, ended, refused, top, step, fault_of}
 use Rattle.scene_json.proofs.Machines.{run-append, Reaches}
-use Rattle.scene_json.proofs.Ends.{take_one, over, ended_stands, done_stands}
+use Rattle.scene_json.proofs.Ends.{take_one, over, ended_stands}
 use Rattle.scene_json.proofs.Onward.{onward}
 use Rattle.scene_json.proofs.ValueRuns.{runs_begins, runs_onward, stands_start}
-use Rattle.scene_json.proofs.OffsetRuns.{take-plus, refused_fault, undone_fault}
+use Rattle.scene_json.proofs.OffsetRuns.{refused_fault, undone_fault}
 use Rattle.scene_json.proofs.Reading.{Stands-once}
-use Rattle.scene_json.proofs.Stays.{stay_run}
 
 -- ---- a run over a piece
 module _ (from : Outcome) (bytes : List ℕ) (i : ℕ) (m : Mode) (st : List Bracket) (is : run 128 from (take i bytes) ≡ state m st) where
@@ -38,13 +36,6 @@ module _ (from : Outcome) (bytes : List ℕ) (i : ℕ) (m : Mode) (st : List Bra
       let one : suc i ≡ i + 1 = omega arith in
       ap (λ k. run 128 from (take k bytes)) (sym one) ∙ ap (run 128 from) (take_one bytes i (get_or bytes i 0) (slice_get-get_or bytes i 0 high))
       ∙ run-append 128 from (take i bytes) (get_or bytes i 0 ∷ []) ∙ ap (λ o'. run 128 o' (get_or bytes i 0 ∷ [])) is ∙ e
-
-  pub run_stays : (j : ℕ) → i ≤ j → AllByRecursion (λ b. moved m (top st) b ≡ To m) (take (j - i) (drop i bytes)) → run 128 from (take j bytes) ≡ state m st
-  run_stays j up all =
-      let sum : i + (j - i) ≡ j = omega arith in
-      ap (λ k. run 128 from (take k bytes)) (sym sum) ∙ ap (run 128 from) (take-plus i (j - i) bytes)
-      ∙ run-append 128 from (take i bytes) (take (j - i) (drop i bytes))
-      ∙ ap (λ o. run 128 o (take (j - i) (drop i bytes))) is ∙ stay_run m st (take (j - i) (drop i bytes)) all
 
 -- ---- white space before a value
 no-space : (b : ℕ) (bytes : List ℕ) → is_space b ≡ false → behind_space (b ∷ bytes) ≡ b ∷ bytes
@@ -84,10 +75,6 @@ pub behind-on : (xs ys : List ℕ) → behind_space xs ≡ xs → (xs ≡ [] →
 behind-on [] ys begun some = absurd (some refl)
 behind-on (b ∷ xs) ys begun some = behind-more (b ∷ xs) ys b xs begun refl
 
-pub behind-front : (xs ys : List ℕ) → behind_space xs ≡ xs → take (length xs) (behind_space (xs ++ ys)) ≡ xs
-behind-front [] ys begun = refl
-behind-front (b ∷ xs) ys begun = ap (take (length (b ∷ xs))) (behind-more (b ∷ xs) ys b xs begun refl) ∙ take-append_seam (b ∷ xs) ys
-
 -- nothing but what stands behind white space is appended to nothing
 pub behind-first : (xs ys : List ℕ) (start : ℕ) → xs ≡ [] → start ≡ prefix_len is_space ys → xs ++ take (length ys - start) (drop start ys) ≡ behind_space (xs ++ ys)
 behind-first xs ys start none is =
@@ -108,11 +95,12 @@ blank-behind (b ∷ bytes) e = elim (cases_Bool (is_space b)) [
   | inr s ↦ let none : false ≡ true = rw s at e in absurd (false≢true none)
 ]
 
-pub Stands-spaced : (bytes text rest : List ℕ) → Stands (behind_space bytes) text rest → Stands bytes text rest
-Stands-spaced [] text rest s = s
-Stands-spaced (b ∷ bytes) text rest s = elim (cases_Bool (is_space b)) [
+-- a value that stands behind less white space
+pub Stands-spaced : (bytes more text rest : List ℕ) → Stands (behind_space bytes ++ more) text rest → Stands (bytes ++ more) text rest
+Stands-spaced [] more text rest s = s
+Stands-spaced (b ∷ bytes) more text rest s = elim (cases_Bool (is_space b)) [
   | inl e ↦
-      let t = Stands-spaced bytes text rest (rw e at s) in
+      let t = Stands-spaced bytes more text rest (rw e at s) in
       record { blank = b ∷ t.blank; value = t.value; parts = ap (λ x. b ∷ x) t.parts; space = rw e t.space; reads = t.reads; ends = t.ends }
   | inr e ↦ rw e at s
 ]
@@ -128,10 +116,14 @@ Stands-cut xs text rest s = record {
   ends = tt;
 }
 
-over_ends : (m : Mode) (st : List Bracket) → is_over m st ≡ true → (b : ℕ) → step 128 m st b ≡ ended b
+pub over_ends : (m : Mode) (st : List Bracket) → is_over m st ≡ true → (b : ℕ) → step 128 m st b ≡ ended b
 over_ends After [] e b = refl
 over_ends Fresh [] e b = refl
 over_ends m st e b = absurd (false≢true e)
+
+pub ended_before : (m : Mode) (st : List Bracket) (left : List ℕ) → EndsBefore m st left → (b : ℕ) (more : List ℕ) → left ≡ b ∷ more → step 128 m st b ≡ ended b
+ended_before m st left (inl over) b more is = over_ends m st over b
+ended_before m st left (inr (other, others, there, e)) b more is = let same : other ≡ b = cc in subst (λ x. step 128 m st x ≡ ended x) same e
 
 -- the machine ends before the first of these bytes
 abbrev EndsBy : Mode → List Bracket → List ℕ → Type 0
@@ -155,15 +147,7 @@ module _ (xs : List ℕ) (m : Mode) (st : List Bracket) (is : run 128 start xs �
       let s = ended_stands bytes (length xs) m st (ap (run 128 start) (take-append_seam xs (b ∷ more)) ∙ is) b got e in
       (s.0, subst (Stands bytes s.0) (drop-append_seam xs (b ∷ more)) s.1)
 
-  -- a value stands there
-  pub ended_whole : (left : List ℕ) → EndsBefore m st left → (text : List ℕ) × Stands xs text []
-  ended_whole left (inl over) = done_stands xs (length xs) m st (ap (run 128 start) (take_all (length xs) xs (omega arith)) ∙ is) (omega arith) (over_ends m st over 32)
-  ended_whole left (inr (b, more, e, s)) = let found = ended_at b more s in (found.0, Stands-cut xs found.0 (b ∷ more) found.1)
-
-  pub done_whole : step 128 m st 32 ≡ ended 32 → (text : List ℕ) × Stands xs text []
-  done_whole e = done_stands xs (length xs) m st (ap (run 128 start) (take_all (length xs) xs (omega arith)) ∙ is) (omega arith) e
-
-  -- and does so whatever follows it
+  -- a value that stands there does so whatever follows it
   ended_by : (left text : List ℕ) → EndsBy m st left → Stands xs text [] → Stands (xs ++ left) text left
   ended_by [] text e s = subst (λ x. Stands x text []) (sym (append-nil xs)) s
   ended_by (b ∷ left) text e s =
@@ -197,17 +181,8 @@ under_way xs m st is goes_on = record {
       subst (λ o. Reaches 128 sign o []) (sign_refused m st ends goes_on) (onward 128 sign m st 43 [] after);
 }
 
--- what a run over the bytes since the last value and a piece is
-pub run-kept : (rest piece : List ℕ) (m0 m : Mode) (st0 st : List Bracket) → run 128 start rest ≡ state m0 st0 → run 128 (state m0 st0) piece ≡ state m st
-    → run 128 start (behind_space (rest ++ piece)) ≡ state m st
-run-kept rest piece m0 m st0 st ran on =
-    sym (run-behind (rest ++ piece)) ∙ run-append 128 start rest piece ∙ ap (λ o. run 128 o piece) ran ∙ on
-
-behind-twice : (bytes : List ℕ) → behind_space (behind_space bytes) ≡ behind_space bytes
-behind-twice bytes = ap behind_space (sym (append-nil (behind_space bytes))) ∙ sym (behind-append bytes []) ∙ ap behind_space (append-nil bytes)
-
 pub kept-begun : (bytes : List ℕ) → behind_space (behind_space bytes) ≡ behind_space bytes
-kept-begun bytes = behind-twice bytes
+kept-begun bytes = ap behind_space (sym (append-nil (behind_space bytes))) ∙ sym (behind-append bytes []) ∙ ap behind_space (append-nil bytes)
 
 blank-front : (xs ys : List ℕ) → is_blank (xs ++ ys) ≡ true → is_blank xs ≡ true
 blank-front [] ys e = refl
@@ -231,17 +206,16 @@ module _ (stream : List ℕ) (begin : ℕ) (piece : List ℕ) (feed : Feeding) (
     sound = at.sound;
   }
 
-  module _ (m0 : Mode) (st0 : List Bracket) (ran : run 128 start feed.rest ≡ state m0 st0) (n : ℕ) (m : Mode) (st : List Bracket) (on : run 128 (state m0 st0) (take n piece) ≡ state m st) where
-    stretched_to : (o : Outcome) (k : ℕ) → run 128 (state m0 st0) (take k piece) ≡ o → run 128 start (at.stretch ++ take k piece) ≡ o
+  module _ (n : ℕ) (m : Mode) (st : List Bracket) (on : run 128 (run 128 start feed.rest) (take n piece) ≡ state m st) where
+    stretched_to : (o : Outcome) (k : ℕ) → run 128 (run 128 start feed.rest) (take k piece) ≡ o → run 128 start (at.stretch ++ take k piece) ≡ o
     stretched_to o k is =
-        run-append 128 start at.stretch (take k piece)
-        ∙ ap (λ from. run 128 from (take k piece)) (run-behind at.stretch ∙ ap (run 128 start) at.kept ∙ ran) ∙ is
+        run-append 128 start at.stretch (take k piece) ∙ ap (λ from. run 128 from (take k piece)) (run-behind at.stretch ∙ ap (run 128 start) at.kept) ∙ is
 
     stretched : run 128 start (at.stretch ++ take n piece) ≡ state m st
     stretched = stretched_to (state m st) n on
 
     -- the value that has ended
-    module _ (low : n ≤ length piece) (ends : EndsBefore m st (drop n piece)) (text : List ℕ) (stands : Stands (behind_space (feed.rest ++ take n piece)) text []) where
+    module _ (low : n ≤ length piece) (ends : EndsBefore m st (drop n piece)) (text : List ℕ) (stands : Stands (feed.rest ++ take n piece) text []) where
       after : ℕ
       after = begin + (length at.stretch + n)
 
@@ -249,7 +223,7 @@ module _ (stream : List ℕ) (begin : ℕ) (piece : List ℕ) (feed : Feeding) (
       behind = sym (drop-drop (length at.stretch + n) begin stream) ∙ ap (drop (length at.stretch + n)) at.parts ∙ drop-append-add at.stretch piece n
 
       there : Stands (at.stretch ++ take n piece) text []
-      there = Stands-spaced _ text [] (subst (λ x. Stands x text []) (sym (behind-append at.stretch (take n piece) ∙ ap (λ x. behind_space (x ++ take n piece)) at.kept)) stands)
+      there = Stands-spaced at.stretch (take n piece) text [] (subst (λ x. Stands (x ++ take n piece) text []) (sym at.kept) stands)
 
       pub value_there : (next : ℕ) × IsAt stream next (drop n piece) (record { rest = []; used = feed.used + n; fault = feed.fault })
           × ((more : List ℕ) → Stands (drop begin stream ++ more) text (drop next stream ++ more))
@@ -303,7 +277,7 @@ module _ (stream : List ℕ) (begin : ℕ) (piece : List ℕ) (feed : Feeding) (
           append_assoc at.stretch (take (n + 1) piece) (drop (n + 1) piece) ∙ ap (λ x. at.stretch ++ x) (take-append-drop (n + 1) piece) ∙ sym at.parts in
           let front = blank-front (at.stretch ++ take (n + 1) piece) (drop (n + 1) piece) (ap is_blank parts ∙ blank) in
           let begun : run 128 start (at.stretch ++ take (n + 1) piece) ≡ start = run-behind (at.stretch ++ take (n + 1) piece) ∙ ap (run 128 start) (blank-behind (at.stretch ++ take (n + 1) piece) front) in
-          let stop : run 128 start (at.stretch ++ take (n + 1) piece) ≡ refused = stretched_to refused (n + 1) (run_on (state m0 st0) piece n m st on refused high stuck) in
+          let stop : run 128 start (at.stretch ++ take (n + 1) piece) ≡ refused = stretched_to refused (n + 1) (run_on (run 128 start feed.rest) piece n m st on refused high stuck) in
           not_refused (sym begun ∙ stop))
         where
           not_refused : start ≡ refused → ⊥
@@ -320,11 +294,10 @@ module _ (stream : List ℕ) (begin : ℕ) (feed : Feeding) (at : IsAt stream be
   pub more_there : (feed.rest ≡ [] → ⊥) → is_blank (drop begin stream) ≡ false
   more_there some = false_from_ne_true (is_blank (drop begin stream)) (λ blank. some (sym at.kept ∙ blank-behind at.stretch (ap is_blank (sym all_parts) ∙ blank)))
 
-  pub number_there : (text : List ℕ) → Stands (behind_space (feed.rest ++ [])) text [] → Stands (drop begin stream) text []
+  pub number_there : (text : List ℕ) → Stands feed.rest text [] → Stands (drop begin stream) text []
   number_there text s =
-      let same : behind_space (feed.rest ++ []) ≡ behind_space at.stretch =
-      ap behind_space (append-nil feed.rest ∙ sym at.kept) ∙ kept-begun at.stretch in
-      subst (λ x. Stands x text []) (sym all_parts) (Stands-spaced at.stretch text [] (subst (λ x. Stands x text []) same s))
+      subst (λ x. Stands x text []) (append-nil at.stretch ∙ sym all_parts)
+      (Stands-spaced at.stretch [] text [] (subst (λ x. Stands x text []) (sym (append-nil (behind_space at.stretch) ∙ at.kept)) s))
 
   pub cut_off_there : (m : Mode) (st : List Bracket) → run 128 start feed.rest ≡ state m st → (step 128 m st 32 ≡ ended 32 → ⊥)
       → IsFirstFault stream begin (fault_of m (top st) None feed.used)

@@ -8,6 +8,7 @@ mod Sequences
 pub mod Reading
 mod Rests
 mod Unrolled
+pub mod Digits
 mod Machines
 mod Onward
 mod Backward
@@ -30,11 +31,8 @@ pub mod Quoting
 pub mod Decimals
 pub mod Collapsed
 pub mod CompactLaws
-pub mod Walks
-pub mod Turns
 pub mod Spellings
 mod Rows
-pub mod Tried
 -- ---- the walks over compact texts: how they nest, are laid out, and are taken apart
 pub mod Literals
 pub mod Forms
@@ -53,5 +51,10 @@ pub mod Rising
 pub mod Quotes
 pub mod Appended
 mod Placing
+mod Marks
 mod QuotedNames
-mod Writing
+mod Drafting
+mod Ready
+mod Written
+mod Copying
+mod Pieces

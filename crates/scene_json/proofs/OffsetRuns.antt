@@ -1,8 +1,8 @@
 -- The machine over the bytes from an offset on.
-use Rattle.std.proofs.Common.{◌≡◌, ℕ, suc, ◌+◌, ◌-◌, ◌<◌, ◌≤◌, List, [], ◌∷◌, length, take, drop, ◌++◌, get_or, Some, None, sym, ap, ap₂, subst, ◌∙◌, arith, length-drop}
+use Rattle.std.proofs.Common.{◌≡◌, ℕ, suc, ◌+◌, ◌-◌, ◌<◌, ◌≤◌, List, [], ◌∷◌, length, take, drop, ◌++◌, get_or, Some, None, sym, ap, ap₂, subst, ◌∙◌, arith, length-drop, append_assoc}
 use Rattle.std.specs.Prelude.{slice_get}
 use Rattle.std.specs.List.{AllByRecursion}
-use Rattle.std.proofs.lemmas.List.{drop-drop, drop-take, get_or-drop, drop_all, take-append-drop, take-take}
+use Rattle.std.proofs.lemmas.List.{append_cancel_right, drop-drop, drop-take, get_or-drop, drop_all, take-append-drop, take-take}
 use Rattle.std.proofs.lemmas.Option.{slice_get-get_or, slice_get_past}
 use Rattle.scene_json.specs.Value.{Stands}
 use Rattle.scene_json.specs.Faults.{IsFirstFault, IsJsonFault}
@@ -13,7 +13,6 @@ use Rattle.scene_json.specs.Machine.{Outcome, state, ended, refused, top, moved,
 use Rattle.scene_json.proofs.Machines.{run, start, run-append}
 use Rattle.scene_json.proofs.Ends.{take_one, ended_stands, refused_faulty, done_stands, undone_faulty}
 use Rattle.scene_json.proofs.Places.{told}
-use Rattle.scene_json.proofs.Reading.{Stands-once}
 use Rattle.scene_json.proofs.Stays.{stay_run}
 
 -- a front of two parts
@@ -29,6 +28,22 @@ module _ (bytes : List ℕ) (at i : ℕ) (low : at ≤ i) where
 
   behind : drop (i - at) (drop at bytes) ≡ drop i bytes
   behind = let place : at + (i - at) ≡ i = omega arith in drop-drop (i - at) at bytes ∙ ap (λ k. drop k bytes) place
+
+  -- the bytes before i and the one there, a stretch behind them, and a value that ends with them
+  pub one_more : i < length bytes → take (i + 1 - at) (drop at bytes) ≡ take (i - at) (drop at bytes) ++ get_or bytes i 0 ∷ []
+  one_more high =
+      let one : suc (i - at) ≡ i + 1 - at = omega arith in
+      ap (λ k. take k (drop at bytes)) (sym one) ∙ take_one (drop at bytes) (i - at) (get_or bytes i 0) (got high)
+
+  pub stretch_more : (j : ℕ) → i ≤ j → take (j - at) (drop at bytes) ≡ take (i - at) (drop at bytes) ++ take (j - i) (drop i bytes)
+  stretch_more j up =
+      let sum : (i - at) + (j - i) ≡ j - at = omega arith in
+      ap (λ k. take k (drop at bytes)) (sym sum) ∙ take-plus (i - at) (j - i) (drop at bytes) ∙ ap (λ xs. take (i - at) (drop at bytes) ++ take (j - i) xs) behind
+
+  pub whole_value : (text : List ℕ) (s : Stands (drop at bytes) text (drop i bytes)) → take (i - at) (drop at bytes) ≡ s.blank ++ s.value
+  whole_value text s =
+      append_cancel_right (take (i - at) (drop at bytes)) (s.blank ++ s.value) (drop i bytes)
+      (ap (λ r. take (i - at) (drop at bytes) ++ r) (sym behind) ∙ take-append-drop (i - at) (drop at bytes) ∙ s.parts ∙ sym (append_assoc s.blank s.value (drop i bytes)))
 
   module _ (m : Mode) (st : List Bracket) (is : run 128 start (take (i - at) (drop at bytes)) ≡ state m st) where
     pub read_on : (o : Outcome) → i < length bytes → step 128 m st (get_or bytes i 0) ≡ o → run 128 start (take (i + 1 - at) (drop at bytes)) ≡ o
@@ -49,9 +64,6 @@ module _ (bytes : List ℕ) (at i : ℕ) (low : at ≤ i) where
     -- the value ends before the byte at i
     pub end_found : i < length bytes → step 128 m st (get_or bytes i 0) ≡ ended (get_or bytes i 0) → (text : List ℕ) × Stands (drop at bytes) text (drop i bytes)
     end_found high e = subst (λ r. (text : List ℕ) × Stands (drop at bytes) text r) behind (ended_stands (drop at bytes) (i - at) m st is (get_or bytes i 0) (got high) e)
-
-    pub end_only : i < length bytes → step 128 m st (get_or bytes i 0) ≡ ended (get_or bytes i 0) → (text rest : List ℕ) → Stands (drop at bytes) text rest → rest ≡ drop i bytes
-    end_only high e text rest s = (Stands-once s (end_found high e).1).1
 
     -- the byte at i is refused
     pub refused_fault : i < length bytes → step 128 m st (get_or bytes i 0) ≡ refused → IsFirstFault bytes at (fault_of m (top st) (Some (get_or bytes i 0)) i)
@@ -79,9 +91,6 @@ module _ (bytes : List ℕ) (at i : ℕ) (low : at ≤ i) where
 
       pub done_found : step 128 m st 32 ≡ ended 32 → (text : List ℕ) × Stands (drop at bytes) text (drop (length bytes) bytes)
       done_found e = subst (λ r. (text : List ℕ) × Stands (drop at bytes) text r) nothing (done_stands (drop at bytes) (i - at) m st is all e)
-
-      pub finished_only : step 128 m st 32 ≡ ended 32 → (text rest : List ℕ) → Stands (drop at bytes) text rest → rest ≡ drop (length bytes) bytes
-      finished_only e text rest s = (Stands-once s (done_found e).1).1
 
       pub undone_fault : (step 128 m st 32 ≡ ended 32 → ⊥) → IsFirstFault bytes at (fault_of m (top st) None (length bytes))
       undone_fault undone =

@@ -1,13 +1,16 @@
 -- Finding the members that have a name among those that are kept.
-use Rattle.std.proofs.Common.{◌≡◌, ◌<◌, ℕ, suc, ◌+◌, List, [], ◌∷◌, ◌++◌, Option, Some, None, true, false, if◌then◌else◌, cond, refl, sym, ap, ◌∙◌, arith, length, get_or, take, drop, bytes_eq, inl, inr}
-use Rattle.std.proofs.Common.{append_assoc, drop-cons, add-one}
+use Rattle.std.proofs.Common.{◌≡◌, ◌<◌, ℕ, suc, ◌+◌, List, [], ◌∷◌, ◌++◌, Option, Some, None, true, false, if◌then◌else◌, cond, refl, sym, ap, ◌∙◌, arith, length, get_or, take, map, bytes_eq, inl, inr, ◌⊎◌}
+use Rattle.std.specs.List.{join_with_byte}
+use Rattle.std.proofs.Common.{append_assoc}
 use Rattle.std.proofs.lemmas.Bool.{cases_Bool}
 use Rattle.std.proofs.lemmas.List.{take_more, map-append, map-set, length-map, get_or-map}
 use Rattle.std.proofs.Math.ListN.{set}
 use Rattle.scene_json.specs.Compact.{Member, collapsed}
-use Rattle.scene_json.specs.Places.{cut, entry, entries, joined}
+use Rattle.scene_json.specs.Drafts.{pair_text}
+use Rattle.scene_json.specs.Places.{cut, entry, entries}
 use Rattle.scene_json.specs.declared.collapsing.Span.{Span}
 use Rattle.scene_json.specs.declared.collapsing.Place.{Place}
+use Rattle.scene_json.proofs.Quoting.{items-step}
 use Rattle.scene_json.proofs.Collapsed.{bytes_eq-true, bytes_eq-same, bytes_eq-flip, insert_entry, collapsed-push}
 
 -- the place of the first member of this name, counted from a number on
@@ -77,18 +80,20 @@ insert-set n (m ∷ ms) name value i some = elim (cases_Bool (bytes_eq name m.0)
 abbrev pub nowhere : Place
 nowhere = record { name = record { start = 0; end = 0 }; value = record { start = 0; end = 0 } }
 
--- one member of an object is written
-pub object-step : (bytes : List ℕ) (places : List Place) (i mark : ℕ) (text total : List ℕ) → i < length places →
-    text ++ joined mark (entries bytes (drop i places)) ≡ total →
-    ((((text ++ mark ∷ []) ++ cut bytes (get_or places i nowhere).name) ++ 58 ∷ []) ++ cut bytes (get_or places i nowhere).value)
-    ++ joined 44 (entries bytes (drop (i + 1) places)) ≡ total
-object-step bytes places i mark text total here before =
+-- one member is written, and those before it
+pub pairs-step : (bytes : List ℕ) (places : List Place) (i : ℕ) (text comma done : List ℕ) → i < length places →
+    text ≡ join_with_byte 44 (take i (map pair_text (entries bytes places))) → ((0 < i) × (comma ≡ text ++ 44 ∷ [])) ⊎ ((i ≡ 0) × (comma ≡ text)) →
+    done ≡ ((comma ++ cut bytes (get_or places i nowhere).name) ++ 58 ∷ []) ++ cut bytes (get_or places i nowhere).value →
+    done ≡ join_with_byte 44 (take (i + 1) (map pair_text (entries bytes places)))
+pairs-step bytes places i text comma done here before between last =
     let place = get_or places i nowhere in
-    let split : drop i places ≡ place ∷ drop (i + 1) places = drop-cons places i nowhere here ∙ ap (λ k. place ∷ drop k places) (sym (add-one i)) in
-    let rest = joined 44 (entries bytes (drop (i + 1) places)) in
-    let written : ((((text ++ mark ∷ []) ++ cut bytes place.name) ++ 58 ∷ []) ++ cut bytes place.value) ++ rest
-    ≡ text ++ mark ∷ (cut bytes place.name ++ 58 ∷ (cut bytes place.value ++ rest)) = simp append_assoc in
-    written ∙ ap (λ ps. text ++ joined mark (entries bytes ps)) (sym split) ∙ before
+    let pair : List ℕ = pair_text (entry bytes place) in
+    let some : i < length (entries bytes places) = omega (arith, here, length-map places (entry bytes)) in
+    let inside : i < length (map pair_text (entries bytes places)) = omega (arith, some, length-map (entries bytes places) pair_text) in
+    items-step [] (map pair_text (entries bytes places)) pair i text comma done inside
+    (sym (get_or-map pair_text (entries bytes places) i (entry bytes nowhere) pair some ∙ ap pair_text (get_or-map (entry bytes) places i nowhere (entry bytes nowhere) here)))
+    before between
+    (last ∙ append_assoc (comma ++ cut bytes place.name) (58 ∷ []) (cut bytes place.value) ∙ append_assoc comma (cut bytes place.name) (58 ∷ cut bytes place.value))
 
 -- one member more is looked at
 pub entries-more : (bytes : List ℕ) (places : List Place) (i : ℕ) → i < length places →

@@ -12,7 +12,7 @@ use Rattle.scene_json.proofs.Collapsed.{bytes_eq-true, bytes_eq-same, bytes_eq-a
 use Rattle.scene_json.proofs.Forms.{quote-Quoted}
 use Rattle.scene_json.proofs.Strings.{pieces-once}
 
-quoted-once : {bytes a b r s : List ℕ} → Quoted bytes a r → Quoted bytes b s → a ≡ b
+pub quoted-once : {bytes a b r s : List ℕ} → Quoted bytes a r → Quoted bytes b s → a ≡ b
 quoted-once {bytes} {a} {b} {r} {s} p q =
     let same = pieces-once p.pieces q.pieces r s p.good q.good (let e : string_spelling p.pieces ++ r ≡ string_spelling q.pieces ++ s = sym p.parts ∙ q.parts in
     sym (append_assoc (flat_map piece_spelling p.pieces) (34 ∷ []) r) ∙ ap (drop 1) e ∙ append_assoc (flat_map piece_spelling q.pieces) (34 ∷ []) s) in

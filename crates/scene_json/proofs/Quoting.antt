@@ -61,14 +61,14 @@ join-push c [] t h = absurd (omega arith)
 join-push c (u ∷ []) t h = refl
 join-push c (u ∷ v ∷ ts) t h = rw (join-push c (v ∷ ts) t (omega arith)) (sym (append_assoc u (c ∷ join_with_byte c (v ∷ ts)) (c ∷ t)))
 
--- one turn of a loop that writes items between commas, after an opening bracket
-pub items-step : (bracket : ℕ) (ts : List (List ℕ)) (t : List ℕ) (i : ℕ) (out comma done : List ℕ) → i < length ts → t ≡ get_or ts i t →
-    out ≡ bracket ∷ join_with_byte 44 (take i ts) → ((0 < i) × (comma ≡ out ++ 44 ∷ [])) ⊎ ((i ≡ 0) × (comma ≡ out)) → done ≡ comma ++ t →
-    done ≡ bracket ∷ join_with_byte 44 (take (i + 1) ts)
-items-step bracket ts t i out comma done l at before (inl (more, e)) last =
+-- one turn of a loop that writes items between commas, behind what stands before them
+pub items-step : (front : List ℕ) (ts : List (List ℕ)) (t : List ℕ) (i : ℕ) (out comma done : List ℕ) → i < length ts → t ≡ get_or ts i t →
+    out ≡ front ++ join_with_byte 44 (take i ts) → ((0 < i) × (comma ≡ out ++ 44 ∷ [])) ⊎ ((i ≡ 0) × (comma ≡ out)) → done ≡ comma ++ t →
+    done ≡ front ++ join_with_byte 44 (take (i + 1) ts)
+items-step front ts t i out comma done l at before (inl (more, e)) last =
     let long : 0 < length (take i ts) = rw (length-take-le i ts (omega arith)) more in
-    rw (last, e, before, take_more ts i t l, ← at, join-push 44 (take i ts) t long) (append_assoc (bracket ∷ join_with_byte 44 (take i ts)) (44 ∷ []) t)
-items-step bracket ts t i out comma done l at before (inr (none, e)) last = rw (last, e, before, take_more ts i t l, ← at, none) refl
+    rw (last, e, before, take_more ts i t l, ← at, join-push 44 (take i ts) t long) (append_assoc (front ++ join_with_byte 44 (take i ts)) (44 ∷ []) t ∙ append_assoc front (join_with_byte 44 (take i ts)) (44 ∷ t))
+items-step front ts t i out comma done l at before (inr (none, e)) last = rw (last, e, before, take_more ts i t l, ← at, none) (ap (λ x. x ++ t) (append-nil front))
 
 -- the closing bracket of an array and of an object
 pub array-written : (ts : List (List ℕ)) (i : ℕ) (out done : List ℕ) → length ts ≤ i → out ≡ 91 ∷ join_with_byte 44 (take i ts) → done ≡ out ++ 93 ∷ [] → done ≡ array_text ts
@@ -85,7 +85,7 @@ pub members-step : (ms : List Member) (m : Member) (i : ℕ) (out comma done : L
 members-step ms m i out comma done l at utf8 before between last =
     let inside : i < length (map member_text ms) = rw length-map l in
     record {
-      text = items-step 123 (map member_text ms) (member_text m) i out comma done inside
+      text = items-step (123 ∷ []) (map member_text ms) (member_text m) i out comma done inside
           (ap member_text at ∙ sym (get_or-map member_text ms i m (member_text m) l)) before.text between last;
       named = All-more (λ (m : Member). IsUtf8 m.0) ms i m l before.named (subst (λ (m : Member). IsUtf8 m.0) at utf8);
     }

@@ -2,8 +2,9 @@
 use Rattle.std.proofs.Common.{◌≡◌, ℕ, suc, ◌+◌, ◌-◌, ◌≤◌, List, [], ◌∷◌, take, drop, length, Bool, true, Option, Some, None, refl, sym, ap, subst, ◌∙◌, inl, inr, arith, length-drop}
 use Rattle.std.specs.List.{AllByRecursion, prefix_len}
 use Rattle.std.proofs.lemmas.Bool.{cases_Bool, false≢true}
+use Rattle.std.proofs.lemmas.Bool.Decides.{nat_tests}
 use Rattle.std.proofs.lemmas.List.Sums.{prefix_len-le-length}
-use Rattle.scene_json.specs.Characters.{is_space, is_digit}
+use Rattle.scene_json.specs.Characters.{is_space, is_digit, is_plain}
 use Rattle.scene_json.specs.declared.number.Part.TheVariants.{Whole, Fraction, Exponent}
 use Rattle.scene_json.specs.declared.brackets.Bracket.{Bracket}
 use Rattle.scene_json.specs.declared.machine.Place.TheVariants.{Plain}
@@ -58,3 +59,7 @@ passed_all p P each bytes at end is =
 pub stay_run : (m : Mode) (st : List Bracket) (xs : List ℕ) → AllByRecursion (λ b. moved m (top st) b ≡ To m) xs → run 128 (state m st) xs ≡ state m st
 stay_run m st [] all = refl
 stay_run m st (x ∷ xs) all = ap (λ move. run 128 (applied 128 st x move) xs) all.0 ∙ stay_run m st xs all.1
+
+-- ---- what is written of it
+pub bare-plain : (b : ℕ) → is_bare b ≡ true → is_plain b ≡ true
+bare-plain b is = grind (arith, nat_tests)

@@ -1,7 +1,9 @@
 pub mod Alike
 pub mod Appending
+pub mod Brackets
 pub mod Characters
 pub mod Compact
+pub mod Drafts
 pub mod Faults
 pub mod Feeding
 pub mod Layout
@@ -18,3 +20,4 @@ pub mod TheOne
 pub mod Tree
 pub mod Value
 pub mod Walk
+pub mod Writing

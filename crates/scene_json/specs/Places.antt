@@ -1,5 +1,5 @@
 -- Where members stand in a text that is written. Only contracts of private functions cite this.
-use Rattle.std.specs.Prelude.{ℕ, ◌-◌, ◌≤◌, List, [], ◌∷◌, ◌++◌, map, take, drop, All}
+use Rattle.std.specs.Prelude.{ℕ, ◌+◌, ◌-◌, ◌%◌, ◌≤◌, List, map, take, drop, length, slice_index, nat_lt, if◌then◌else◌, All}
 use Rattle.scene_json.specs.Characters.{quote}
 use Rattle.scene_json.specs.Compact.{Member}
 use Rattle.scene_json.specs.declared.collapsing.Span.{Span}
@@ -15,6 +15,10 @@ entry bytes place = (cut bytes place.name, cut bytes place.value)
 abbrev pub entries : List ℕ → List Place → List Member
 entries bytes places = map (entry bytes) places
 
+-- a number below 256 by a name's length and two of its bytes
+abbrev pub mark_of : List ℕ → ℕ
+mark_of name = if nat_lt (length name) 3 then 0 else ((length name + slice_index name 1) + slice_index name (length name - 3)) % 256
+
 abbrev pub IsWithin : ℕ → Span → Type 0
 IsWithin size span = (span.start ≤ span.end) × (span.end ≤ size)
 
@@ -24,8 +28,3 @@ AreWithin size places = All (λ (place : Place). IsWithin size place.name × IsW
 -- a member with its name quoted
 abbrev pub quoted : Member → Member
 quoted member = (quote member.0, member.1)
-
--- members whose names are quoted, each behind a mark, and the bracket that closes an object
-abbrev pub joined : ℕ → List Member → List ℕ
-joined mark [] = 125 ∷ []
-joined mark (member ∷ members) = mark ∷ (member.0 ++ 58 ∷ (member.1 ++ joined 44 members))

@@ -1,14 +1,13 @@
 -- Runs of the machine. Only contracts of private functions cite this.
-use Rattle.std.specs.Prelude.{◌≡◌, ◌⊎◌, ℕ, ◌≤◌, ◌<◌, List, [], ◌∷◌, Bool, true, false, length, take, drop, slice_index}
+use Rattle.std.specs.Prelude.{◌≡◌, ◌⊎◌, ℕ, ◌+◌, ◌≤◌, ◌<◌, List, [], ◌∷◌, ◌++◌, Option, None, Some, Bool, true, false, length, take, drop, slice_index}
 use Rattle.scene_json.specs.Feeding.{behind_space}
-use Rattle.scene_json.specs.Machine.{Outcome, state, ended, refused, step}
+use Rattle.scene_json.specs.Machine.{Outcome, state, ended, refused, top, step, fault_of}
+use Rattle.scene_json.specs.Value.{Stands}
 use Rattle.scene_json.specs.declared.brackets.Bracket.{Bracket}
-use Rattle.scene_json.specs.declared.machine.Machine.{Machine}
 use Rattle.scene_json.specs.declared.machine.Mode.{Mode}
 use Rattle.scene_json.specs.declared.machine.Mode.TheVariants.{After, Fresh}
 use Rattle.scene_json.specs.declared.machine.Mode.TheVariants as mode
-use Rattle.scene_json.specs.declared.advancing.Progress.{Progress}
-use Rattle.scene_json.specs.declared.advancing.Progress.TheVariants as progress
+use Rattle.scene_json.specs.declared.fault.JsonFault.{JsonFault}
 
 -- what comes of a byte more, where at most so many brackets may be open
 abbrev pub go : ℕ → Outcome → ℕ → Outcome
@@ -35,18 +34,41 @@ is_over m st = false
 abbrev pub EndsBefore : Mode → List Bracket → List ℕ → Type 0
 EndsBefore m st left = (is_over m st ≡ true) ⊎ ((b : ℕ) × (more : List ℕ) × (left ≡ b ∷ more) × (step 128 m st b ≡ ended b))
 
--- How far the machine came in these bytes: over all of them, and the value isn't over; to the value's end; or to a byte
--- that is refused.
-abbrev pub Advanced : Machine → Machine → List ℕ → Progress → Type 0
-Advanced old new bytes progress.Through = (run 128 (state old.mode old.brackets) bytes ≡ state new.mode new.brackets) × (is_over new.mode new.brackets ≡ false)
-Advanced old new bytes (progress.Ended n) =
-    (n ≤ length bytes) × (run 128 (state old.mode old.brackets) (take n bytes) ≡ state new.mode new.brackets) × EndsBefore new.mode new.brackets (drop n bytes)
-Advanced old new bytes (progress.Refused n) =
-    (n < length bytes) × (run 128 (state old.mode old.brackets) (take n bytes) ≡ state new.mode new.brackets)
-    × (step 128 new.mode new.brackets (slice_index bytes n) ≡ refused)
+-- The bytes of a value under way, which are nothing or begin with no white space: the value isn't over.
+pub record IsKept (rest : List ℕ) : Type 0 where
+  pub mode : Mode
+  pub brackets : List Bracket
+  pub ran : run 128 start rest ≡ state mode brackets
+  pub begun : behind_space rest ≡ rest
+  pub goes_on : is_over mode brackets ≡ false
 
--- The machine has run over these bytes, which are nothing or begin with no white space, and the value isn't over.
-pub record HasRun (machine : Machine) (bytes : List ℕ) : Type 0 where
-  pub ran : run 128 start bytes ≡ state machine.mode machine.brackets
-  pub begun : behind_space bytes ≡ bytes
-  pub goes_on : is_over machine.mode machine.brackets ≡ false
+-- Behind the rest the value ends before the byte at this offset of the piece.
+pub record EndsIn (rest piece : List ℕ) (n : ℕ) : Type 0 where
+  pub mode : Mode
+  pub brackets : List Bracket
+  pub within : n ≤ length piece
+  pub ran : run 128 (run 128 start rest) (take n piece) ≡ state mode brackets
+  pub ends : EndsBefore mode brackets (drop n piece)
+
+-- Behind the rest a byte of the piece is refused, and this fault is told of it, where so many bytes stand before the piece.
+pub record IsRefusedIn (rest piece : List ℕ) (used : ℕ) (fault : JsonFault) : Type 0 where
+  pub mode : Mode
+  pub brackets : List Bracket
+  pub at : ℕ
+  pub within : at < length piece
+  pub ran : run 128 (run 128 start rest) (take at piece) ≡ state mode brackets
+  pub stuck : step 128 mode brackets (slice_index piece at) ≡ refused
+  pub told : fault ≡ fault_of mode (top brackets) (Some (slice_index piece at)) (used + at)
+
+-- The rest is no whole value, and this fault is told of it at the stream's end.
+pub record IsCutOff (rest : List ℕ) (used : ℕ) (fault : JsonFault) : Type 0 where
+  pub mode : Mode
+  pub brackets : List Bracket
+  pub ran : run 128 start rest ≡ state mode brackets
+  pub undone : step 128 mode brackets 32 ≡ ended 32 → ⊥
+  pub told : fault ≡ fault_of mode (top brackets) None used
+
+-- What is left behind a piece, of which so many bytes were used: all bytes of the value under way, or none behind a value.
+abbrev pub HasFed : List ℕ → List ℕ → List ℕ → ℕ → Option (List ℕ) → Type 0
+HasFed rest piece left used None = (used ≡ length piece) × (left ≡ behind_space (rest ++ piece)) × IsKept left
+HasFed rest piece left used (Some text) = (left ≡ []) × EndsIn rest piece used × Stands (rest ++ take used piece) text []

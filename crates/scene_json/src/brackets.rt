@@ -15,20 +15,21 @@ pub(crate) enum Bracket {
 /// At most 128 open brackets, the innermost first. It takes no memory.
 #[derive(Drop)]
 pub(crate) struct Brackets {
-    /// The brackets stand at the array's end.
-    kinds: [Bracket; 128],
-    free: usize,
+    /// A digit in base 2 for each, the last for the innermost: 1 for a curly one.
+    digits: u128,
+    count: usize,
 }
 
 impl Model for Brackets {
-    ghost use Rattle.std.specs.Prelude.{◌≡◌, ◌≤◌, List, drop, length};
+    ghost use Rattle.std.specs.Prelude.{◌^◌, ◌<◌, ◌≤◌, List};
+    ghost use Rattle.scene_json.specs.Brackets.{kinds_of};
     ghost use Rattle.scene_json.specs.declared.brackets.Bracket.{Bracket};
 
     ghost Value = { List Bracket };
 
-    ghost view = { λ b. drop b.free b.kinds };
+    ghost view = { λ b. kinds_of b.count b.digits };
 
-    ghost invariant = { λ b. (b.free ≤ 128) × (length b.kinds ≡ 128) };
+    ghost invariant = { λ b. (b.count ≤ 128) × (b.digits < 2 ^ b.count) };
 }
 
 impl Brackets {
@@ -37,18 +38,8 @@ impl Brackets {
         ensures { result ≡ [] }
     {
         Brackets {
-            kinds: [Bracket::Square; 128],
-            free: 128,
-        }
-    }
-
-    /// The same brackets.
-    pub(crate) fn copy(&self) -> Brackets
-        ensures { result ≡ self.now }
-    {
-        Brackets {
-            kinds: self.kinds,
-            free: self.free,
+            digits: 0,
+            count: 0,
         }
     }
 
@@ -56,10 +47,12 @@ impl Brackets {
     pub(crate) fn top(&self) -> Option<Bracket>
         ensures { result ≡ top self.now }
     {
-        if self.free < 128 {
-            Some(self.kinds[self.free])
-        } else {
+        if self.count == 0 {
             None
+        } else if self.digits % 2 == 0 {
+            Some(Bracket::Square)
+        } else {
+            Some(Bracket::Curly)
         }
     }
 
@@ -67,7 +60,7 @@ impl Brackets {
     pub(crate) fn is_full(&self) -> bool
         ensures { result ≡ nat_le 128 (length self.now) }
     {
-        self.free == 0
+        self.count == 128
     }
 
     /// Opens a bracket.
@@ -75,16 +68,21 @@ impl Brackets {
         requires { length self.old < 128 }
         ensures { self.new ≡ bracket ∷ self.old }
     {
-        self.free -= 1;
-        self.kinds[self.free] = bracket;
+        let digit = match bracket {
+            Bracket::Square => 0,
+            Bracket::Curly => 1,
+        };
+        self.digits = self.digits * 2 + digit;
+        self.count += 1;
     }
 
     /// Closes the innermost bracket, if one is open.
     pub(crate) fn pop(&mut self)
         ensures { self.new ≡ drop 1 self.old }
     {
-        if self.free < 128 {
-            self.free += 1;
+        if self.count > 0 {
+            self.digits /= 2;
+            self.count -= 1;
         }
     }
 }

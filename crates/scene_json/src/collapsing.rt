@@ -1,10 +1,11 @@
 //! Keeping each name of an object once.
 
-ghost use Rattle.std.specs.Prelude.{◌≡◌, ◌<◌, ◌≤◌, ◌++◌, take, drop, length, slice_set, slice_index_or, IsTrue, IfOk, OnOk, IfSome, MatchOption, bytes_eq};
+ghost use Rattle.std.specs.Prelude.{◌≡◌, ◌<◌, ◌≤◌, length, slice_set, slice_index_or, IsTrue, IfOk, OnOk, IfSome, MatchOption, bytes_eq};
 ghost use Rattle.std.specs.List.{IsDistinct, list_any};
 ghost use Rattle.scene_json.specs.Compact.{collapsed};
 ghost use Rattle.scene_json.specs.Parts.{names_of};
-ghost use Rattle.scene_json.specs.Places.{cut, entries, IsWithin, AreWithin, joined};
+ghost use Rattle.scene_json.specs.Drafts.{pairs_text};
+ghost use Rattle.scene_json.specs.Places.{cut, entries, mark_of, IsWithin, AreWithin};
 
 use std::alloc::{AllocError, Global};
 use std::collections::BTreeMap;
@@ -26,43 +27,53 @@ pub(crate) struct Place {
 /// How many members are few, as an element's are: room is made for so many at once, and their names are compared one by one.
 pub(crate) const FEW: usize = 40;
 
-/// Where a name comes again in the object that stands from an offset on, writes the object anew: the last value stands at
-/// the first one's place. Names are equal where their quotes are. Among many an ordered map finds them, so that no choice
-/// of names makes this slow.
+/// Where a name comes again among the members that are all of the text, writes the text anew: the last value stands at the
+/// first one's place. Names are equal where their quotes are. Among many an ordered map finds them, so that no choice of
+/// names makes this slow.
 pub(crate) fn collapse(
     alloc: Global,
-    out: &mut Vec<u8>,
-    start: usize,
+    text: &mut Vec<u8>,
     places: &[Place],
 ) -> Result<(), AllocError>
-    requires within { AreWithin (length out.old.items) places.now }
-    requires written { drop start out.old.items ≡ joined 123 (entries out.old.items places.now) }
-    ensures { OnOk result (out.new.items ≡ take start out.old.items ++ joined 123 (collapsed (entries out.old.items places.now))) }
+    requires within { AreWithin (length text.old.items) places.now }
+    requires written { text.old.items ≡ pairs_text (entries text.old.items places.now) }
+    ensures { OnOk result (text.new.items ≡ pairs_text (collapsed (entries text.old.items places.now))) }
 {
-    if places.len() <= FEW && are_distinct(out.as_slice(), places) {
+    if places.len() <= FEW && are_distinct(text.as_slice(), places) {
         return Ok(());
     }
-    if let Some(kept) = kept_places(alloc, out.as_slice(), places)? {
-        let text = object_of(alloc, out.as_slice(), kept.as_slice())?;
-        out.truncate(start);
-        out.extend_from_slice(text.as_slice())?;
+    if let Some(kept) = kept_places(alloc, text.as_slice(), places)? {
+        *text = text_of(alloc, text.as_slice(), kept.as_slice())?;
     }
     Ok(())
 }
 
-/// Whether no name comes again.
+/// Whether no name comes again. Only names with one mark are compared.
 fn are_distinct(bytes: &[u8], places: &[Place]) -> bool
     requires { AreWithin (length bytes.now) places.now }
     ensures { IsTrue result → IsDistinct bytes_eq (names_of (entries bytes.now places.now)) }
 {
-    let mut rest = places;
-    while let Some((place, others)) = rest.split_first() {
-        if comes_again(bytes, bytes_at(bytes, place.name), others) {
+    let mut seen = [false; 256];
+    for (i, place) in places.iter().enumerate() {
+        let name = bytes_at(bytes, place.name);
+        let mark = mark_of(name);
+        if seen[mark] && comes_again(bytes, name, &places[..i]) {
             return false;
         }
-        rest = others;
+        seen[mark] = true;
     }
     true
+}
+
+/// A number below 256 that is the same for equal names, and mostly another one for others.
+fn mark_of(name: &[u8]) -> usize
+    ensures value { result ≡ mark_of name.now }
+    ensures small { result < 256 }
+{
+    if name.len() < 3 {
+        return 0;
+    }
+    (name.len() + usize::from(name[1]) + usize::from(name[name.len() - 3])) % 256
 }
 
 /// Whether the name is one of those at these places.
@@ -117,21 +128,20 @@ fn keep_last(kept: &mut Vec<Place>, first: usize, value: Span)
     kept[first] = Place { name, value };
 }
 
-/// The object of the members that stand at these places.
-fn object_of(alloc: Global, bytes: &[u8], places: &[Place]) -> Result<Vec<u8>, AllocError>
+/// The members that stand at these places, between commas.
+fn text_of(alloc: Global, bytes: &[u8], places: &[Place]) -> Result<Vec<u8>, AllocError>
     requires { AreWithin (length bytes.now) places.now }
-    ensures { IfOk result (λ text. text.items ≡ joined 123 (entries bytes.now places.now)) }
+    ensures { IfOk result (λ text. text.items ≡ pairs_text (entries bytes.now places.now)) }
 {
     let mut text = Vec::new(alloc);
-    let mut mark = b'{';
-    for place in places {
-        text.push(mark)?;
+    for (i, place) in places.iter().enumerate() {
+        if i > 0 {
+            text.push(b',')?;
+        }
         text.extend_from_slice(bytes_at(bytes, place.name))?;
         text.push(b':')?;
         text.extend_from_slice(bytes_at(bytes, place.value))?;
-        mark = b',';
     }
-    text.push(b'}')?;
     Ok(text)
 }
 

@@ -3,7 +3,7 @@
 ghost use Rattle.std.specs.Prelude.{◌≡◌, ◌≢◌, ℕ, [], ◌∷◌, true, ◌+◌, ◌*◌, ◌^◌, ◌<◌, ◌≤◌, ◌-◌, List, ◌++◌, take, drop, length, slice_get, slice_index, Some, IfOk, OnOk, IfSome, IfNone, encode_utf8};
 ghost use Rattle.std.specs.List.{prefix_len, list_all};
 ghost use Rattle.scene_json.specs.Characters;
-ghost use Rattle.scene_json.specs.Characters.{is_hex, is_plain, quote};
+ghost use Rattle.scene_json.specs.Characters.{is_hex, is_plain};
 ghost use Rattle.scene_json.specs.Tree.{unit};
 ghost use Rattle.scene_json.specs.Compact.{lone, piece_value};
 ghost use Rattle.scene_json.specs.Compact;
@@ -27,13 +27,11 @@ pub(crate) fn text_at(alloc: Global, value: &Raw, at: usize) -> Result<(Text, us
     }
 }
 
-/// Where the closing quotation mark of the string at an offset stands, if no character in the string is escaped. Then the
-/// string is the quote of its text as it stands.
-pub(crate) fn plain_end(bytes: &[u8], at: usize) -> Option<usize>
+/// Where the closing quotation mark of the string at an offset stands, if no character in the string is escaped.
+fn plain_end(bytes: &[u8], at: usize) -> Option<usize>
     requires { (text rest : List ℕ) × Quoted (drop at bytes.now) text rest }
     ensures text { IfSome result (λ end. (text rest : List ℕ) → Quoted (drop at bytes.now) text rest
         → (take (end - (at + 1)) (drop (at + 1) bytes.now) ≡ text) × (drop (end + 1) bytes.now ≡ rest)) }
-    ensures quote { IfSome result (λ end. (text rest : List ℕ) → Quoted (drop at bytes.now) text rest → take (end + 1 - at) (drop at bytes.now) ≡ quote text) }
     ensures within { IfSome result (λ end. (at < end) × (end < length bytes.now)) }
 {
     let end = run_end(bytes, at + 1);
@@ -69,10 +67,17 @@ pub(crate) fn run_end(bytes: &[u8], at: usize) -> usize
     ensures within { (at ≤ result) × (result ≤ length bytes.now) }
 {
     let mut next = at;
-    while next < bytes.len() && bytes[next] != b'"' && bytes[next] != b'\\' {
+    while next < bytes.len() && is_plain(bytes[next]) {
         next += 1;
     }
     next
+}
+
+/// A byte that stands in a string as it is. Most are letters.
+fn is_plain(byte: u8) -> bool
+    ensures { result ≡ is_plain byte }
+{
+    matches!(byte, b']'..) || !matches!(byte, b'"' | b'\\')
 }
 
 /// Appends the character of the escape at the front, or of a pair of surrogates, and tells how many bytes that takes.

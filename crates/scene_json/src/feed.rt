@@ -1,21 +1,22 @@
 //! Reading values from pieces of a stream.
 
-ghost use Rattle.std.specs.Prelude.{◌≡◌, ◌⊎◌, ℕ, ◌+◌, ◌^◌, ◌<◌, ◌≤◌, List, [], ◌++◌, Some, None, Err, true, false, length, drop, vec_len, IfOk, OnOk, OnErr};
+ghost use Rattle.std.specs.Prelude.{◌≡◌, ℕ, ◌+◌, ◌^◌, ◌<◌, ◌≤◌, List, [], ◌++◌, Some, None, Err, true, false, length, drop, IfOk, OnErr};
 ghost use Rattle.scene_json.specs.Characters.{is_blank};
 ghost use Rattle.scene_json.specs.Faults.{IsFirstFault};
 ghost use Rattle.scene_json.specs.Feeding.{behind_space, IsAt, IsUnderWay};
+ghost use Rattle.scene_json.specs.Runs.{HasFed, IsCutOff, IsKept, IsRefusedIn};
 ghost use Rattle.scene_json.specs.Value.{Stands};
+ghost use Rattle.scene_json.specs.Writing.{IsRead};
 ghost use Rattle.scene_json.specs.declared.fault.JsonFault.{JsonFault};
 
-use crate::advancing::{Progress, advance};
 use crate::end::skip_space;
 use crate::fault::JsonFault;
-use crate::machine::Machine;
-use crate::scanning::value_at;
+use crate::reader::{Reader, Taken};
 use crate::text::Raw;
 use board_io::Stop;
-use std::alloc::{AllocError, Global};
+use std::alloc::Global;
 use std::marker::Model;
+use std::mem::replace;
 
 /// What came of a piece of a stream.
 #[derive(Drop)]
@@ -29,7 +30,8 @@ pub struct Fed {
 /// A reader of values from pieces of a stream. It keeps no earlier bytes than those of the value under way.
 #[derive(Drop)]
 pub struct Feed {
-    machine: Machine,
+    /// It has read a first part of the rest.
+    reader: Reader,
     rest: Vec<u8>,
     used: usize,
     fault: Option<JsonFault>,
@@ -37,13 +39,14 @@ pub struct Feed {
 
 impl Model for Feed {
     ghost use Rattle.scene_json.specs.Feeding.{Feeding};
-    ghost use Rattle.scene_json.specs.Runs.{HasRun};
+    ghost use Rattle.scene_json.specs.Runs.{IsKept};
+    ghost use Rattle.scene_json.specs.Writing.{IsRead};
 
     ghost Value = { Feeding };
 
     ghost view = { λ f. record { rest = f.rest.items; used = f.used; fault = f.fault } };
 
-    ghost invariant = { λ f. HasRun f.machine f.rest.items };
+    ghost invariant = { λ f. IsRead f.rest.items 0 f.reader × IsKept f.rest.items };
 }
 
 impl Feed {
@@ -52,7 +55,7 @@ impl Feed {
         ensures { result ≡ record { rest = []; used = 0; fault = None } }
     {
         Feed {
-            machine: Machine::new(),
+            reader: Reader::new(alloc, 0),
             rest: Vec::new(alloc),
             used: 0,
             fault: None,
@@ -99,27 +102,16 @@ impl Feed {
         if let Some(fault) = self.fault {
             return Err(Stop::Fault(fault));
         }
-        let mut machine = self.machine.copy();
-        match advance(&mut machine, piece) {
-            Progress::Through => {
-                keep(&mut self.rest, piece)?;
-                self.machine = machine;
-                self.used += piece.len();
-                let used = piece.len();
-                Ok(Fed { used, value: None })
+        match read_piece(&mut self.reader, &mut self.rest, piece, self.used) {
+            Ok(fed) => {
+                self.used += fed.used;
+                Ok(fed)
             }
-            Progress::Ended(used) => {
-                let value = finish(&mut self.rest, &piece[..used])?;
-                self.machine = Machine::new();
-                self.used += used;
-                let value = Some(value);
-                Ok(Fed { used, value })
-            }
-            Progress::Refused(at) => {
-                let fault = machine.fault(Some(piece[at]), self.used + at);
+            Err(Stop::Fault(fault)) => {
                 self.fault = Some(fault);
                 Err(Stop::Fault(fault))
             }
+            Err(Stop::Memory) => Err(Stop::Memory),
         }
     }
 
@@ -150,51 +142,142 @@ impl Feed {
         if self.rest.is_empty() {
             return Ok(None);
         }
-        if !self.machine.is_done() {
-            let fault = self.machine.fault(None, self.used);
-            self.fault = Some(fault);
-            return Err(Stop::Fault(fault));
+        let alloc = *self.rest.allocator();
+        match read_end(alloc, &mut self.reader, &self.rest, self.used) {
+            Ok(value) => {
+                self.rest.clear();
+                Ok(Some(value))
+            }
+            Err(Stop::Fault(cut_off)) => {
+                self.fault = Some(cut_off);
+                Err(Stop::Fault(cut_off))
+            }
+            Err(Stop::Memory) => Err(Stop::Memory),
         }
-        let value = finish(&mut self.rest, &[])?;
-        self.machine = Machine::new();
-        Ok(Some(value))
     }
 }
 
-/// Appends the piece; white space at the front isn't kept.
-fn keep(rest: &mut Vec<u8>, piece: &[u8]) -> Result<(), AllocError>
-    requires { behind_space rest.old.items ≡ rest.old.items }
-    ensures ok { OnOk result (rest.new.items ≡ behind_space (rest.old.items ++ piece.now)) }
-    ensures err { OnErr result (rest.new.items ≡ rest.old.items) }
+/// Reads a piece behind the rest of the earlier ones, before which so many bytes were used.
+fn read_piece(
+    reader: &mut Reader,
+    rest: &mut Vec<u8>,
+    piece: &[u8],
+    used: usize,
+) -> Result<Fed, Stop<JsonFault>>
+    requires room { used + length piece.now < 2 ^ 64 }
+    requires read { IsRead rest.old.items 0 reader.old }
+    requires kept { IsKept rest.old.items }
+    ensures fed { IfOk result (λ fed. HasFed rest.old.items piece.now rest.new.items fed.used fed.value) }
+    ensures fault { (fault : JsonFault) → result ≡ Err (Stop.Fault fault) → IsRefusedIn rest.old.items piece.now used fault }
+    ensures read { IsRead rest.new.items 0 reader.new }
+    ensures unchanged { OnErr result (rest.new.items ≡ rest.old.items) }
 {
     if rest.is_empty() {
-        let start = skip_space(piece, 0);
-        rest.extend_from_slice(&piece[start..])
+        read_first(reader, rest, piece, used)
     } else {
-        rest.extend_from_slice(piece)
+        read_more(reader, rest, piece, used)
     }
 }
 
-/// Appends the last piece of a value, and gives the value. Nothing is left then.
-fn finish(rest: &mut Vec<u8>, piece: &[u8]) -> Result<Raw, AllocError>
-    requires begun { behind_space rest.old.items ≡ rest.old.items }
-    requires whole { (text : List ℕ) × Stands (behind_space (rest.old.items ++ piece.now)) text [] }
-    ensures value { IfOk result (λ value. Stands (behind_space (rest.old.items ++ piece.now)) value []) }
-    ensures some { IfOk result (λ value. 0 < vec_len rest.old + length piece.now) }
-    ensures emptied { OnOk result (rest.new.items ≡ []) }
-    ensures err { OnErr result (rest.new.items ≡ rest.old.items) }
+/// Reads the first piece of a value where it stands, behind white space, and keeps it only where the value goes on.
+fn read_first(
+    reader: &mut Reader,
+    rest: &mut Vec<u8>,
+    piece: &[u8],
+    used: usize,
+) -> Result<Fed, Stop<JsonFault>>
+    requires room { used + length piece.now < 2 ^ 64 }
+    requires none { rest.old.items ≡ [] }
+    requires read { IsRead rest.old.items 0 reader.old }
+    ensures fed { IfOk result (λ fed. HasFed rest.old.items piece.now rest.new.items fed.used fed.value) }
+    ensures fault { (fault : JsonFault) → result ≡ Err (Stop.Fault fault) → IsRefusedIn rest.old.items piece.now used fault }
+    ensures read { IsRead rest.new.items 0 reader.new }
+    ensures unchanged { OnErr result (rest.new.items ≡ rest.old.items) }
+{
+    let alloc = *rest.allocator();
+    let start = skip_space(piece, 0);
+    let bytes = &piece[start..];
+    match replace(reader, Reader::new(alloc, 0)).read(alloc, bytes)? {
+        Taken::Through(read) => {
+            rest.extend_from_slice(bytes)?;
+            *reader = read;
+            let used = piece.len();
+            Ok(Fed { used, value: None })
+        }
+        Taken::Ended(value, end) => Ok(Fed {
+            used: start + end,
+            value: Some(value),
+        }),
+        Taken::Refused(machine, at) => {
+            let place = used + start + at;
+            Err(Stop::Fault(machine.fault(Some(bytes[at]), place)))
+        }
+    }
+}
+
+/// Reads a further piece of a value, behind the rest. Where memory is wanting, the next reading begins with the rest anew.
+fn read_more(
+    reader: &mut Reader,
+    rest: &mut Vec<u8>,
+    piece: &[u8],
+    used: usize,
+) -> Result<Fed, Stop<JsonFault>>
+    requires room { used + length piece.now < 2 ^ 64 }
+    requires some { rest.old.items ≡ [] → ⊥ }
+    requires read { IsRead rest.old.items 0 reader.old }
+    requires kept { IsKept rest.old.items }
+    ensures fed { IfOk result (λ fed. HasFed rest.old.items piece.now rest.new.items fed.used fed.value) }
+    ensures fault { (fault : JsonFault) → result ≡ Err (Stop.Fault fault) → IsRefusedIn rest.old.items piece.now used fault }
+    ensures read { IsRead rest.new.items 0 reader.new }
+    ensures unchanged { OnErr result (rest.new.items ≡ rest.old.items) }
 {
     let alloc = *rest.allocator();
     let before = rest.len();
-    keep(rest, piece)?;
-    match value_at(alloc, rest, 0) {
-        Ok(value) => {
+    rest.extend_from_slice(piece)?;
+    let bytes = rest.as_slice();
+    match replace(reader, Reader::new(alloc, 0)).read(alloc, bytes) {
+        Ok(Taken::Through(read)) => {
+            *reader = read;
+            let used = piece.len();
+            Ok(Fed { used, value: None })
+        }
+        Ok(Taken::Ended(value, end)) => {
             rest.clear();
-            Ok(value)
+            Ok(Fed {
+                used: end - before,
+                value: Some(value),
+            })
         }
-        Err(error) => {
+        Ok(Taken::Refused(machine, at)) => {
+            let place = used + (at - before);
+            let fault = machine.fault(Some(bytes[at]), place);
             rest.truncate(before);
-            Err(error)
+            Err(Stop::Fault(fault))
         }
+        Err(_) => {
+            rest.truncate(before);
+            Err(Stop::Memory)
+        }
+    }
+}
+
+/// The value that only the stream's end has ended, of which the rest is all; or the fault there, with this place.
+fn read_end(
+    alloc: Global,
+    reader: &mut Reader,
+    rest: &[u8],
+    place: usize,
+) -> Result<Raw, Stop<JsonFault>>
+    requires read { IsRead rest.now 0 reader.old }
+    requires kept { IsKept rest.now }
+    ensures value { IfOk result (λ value. Stands rest.now value []) }
+    ensures fault { (fault : JsonFault) → result ≡ Err (Stop.Fault fault) → IsCutOff rest.now place fault }
+    ensures read { (bytes : List ℕ) → IsRead bytes 0 reader.new }
+{
+    match replace(reader, Reader::new(alloc, 0)).read(alloc, rest)? {
+        Taken::Through(read) => read.finish(rest, place),
+        // Before the end it would have come with the earlier pieces.
+        Taken::Ended(_, _) => unreachable!(),
+        Taken::Refused(_, _) => unreachable!(),
     }
 }

@@ -1,12 +1,11 @@
 //! JSON texts and their values.
 #![tactic(auto)]
 
-mod advancing;
 mod brackets;
 mod build;
 mod collapsing;
-mod compacting;
 mod content;
+mod draft;
 mod end;
 mod fault;
 mod feed;
@@ -19,6 +18,7 @@ mod number;
 mod order;
 mod parts;
 mod quote_bytes;
+mod reader;
 mod scalar;
 mod scanning;
 mod sequence;
@@ -26,6 +26,7 @@ mod staying;
 mod stretch;
 mod text;
 mod texts;
+mod writing;
 
 pub use build::{
     push_comma, push_member, push_quote, push_quoted, push_whole, raw_array, raw_null, raw_object,

@@ -2,18 +2,19 @@
 //!
 //! Its state is a mode and the brackets that are open. It takes no memory and can be kept between calls.
 
-ghost use Rattle.std.specs.Prelude.{◌≡◌, ◌↔◌, ◌-◌, ◌≤◌, IsTrue, [], take, drop, length};
+ghost use Rattle.std.specs.Prelude.{◌≡◌, ◌↔◌, ◌-◌, ◌≤◌, IsTrue, [], false, take, drop, length};
 ghost use Rattle.std.specs.List.{AllByRecursion};
 ghost use Rattle.scene_json.specs.Characters.{is_space, is_hex};
-ghost use Rattle.scene_json.specs.Machine.{closes_bracket, after_comma, after_string, value_begun, value_move, fresh_move, name_begun, name_move, colon_move, after_move, plain_move, led_move, escape_move, hex_move, sequence_move, string_move, number_move, first_letter, letters_after, word_move, moved, string_fault, bracket_fault, fault_of, top, step, ended, Stepped};
+ghost use Rattle.scene_json.specs.Machine.{closes_bracket, after_comma, after_string, value_begun, value_move, fresh_move, name_begun, name_move, colon_move, after_move, plain_move, led_move, escape_move, hex_move, sequence_move, string_move, number_move, first_letter, letters_after, word_move, moved, string_fault, bracket_fault, fault_of, top, step, state, ended, Stepped};
 ghost use Rattle.scene_json.specs.Runs.{is_over};
+ghost use Rattle.scene_json.specs.Writing.{AreAlike};
 ghost use Rattle.scene_json.specs.declared.machine.Move.TheVariants.{To};
 
 use crate::brackets::{Bracket, Brackets};
 use crate::fault::JsonFault;
 use crate::number::{Part, extends_number};
 use crate::sequence::Tail;
-use crate::staying::stay_end;
+use crate::staying::{Ground, stay_end};
 
 /// What a string is for.
 #[derive(Clone, Copy)]
@@ -110,17 +111,6 @@ impl Machine {
         }
     }
 
-    /// An equal machine.
-    pub(crate) fn copy(&self) -> Machine
-        ensures mode { result.mode ≡ self.now.mode }
-        ensures brackets { result.brackets ≡ self.now.brackets }
-    {
-        Machine {
-            mode: self.mode,
-            brackets: self.brackets.copy(),
-        }
-    }
-
     /// Takes one byte more, unless no value goes on with it.
     pub(crate) fn step(&mut self, byte: u8) -> Step
         ensures { Stepped self.old self.new result byte }
@@ -142,13 +132,38 @@ impl Machine {
         Step::On
     }
 
-    /// Where a stretch from `at` on ends whose bytes all leave the machine as it is.
-    pub(crate) fn stay_end(&self, bytes: &[u8], at: usize) -> usize
+    /// Where a stretch from `at` on ends whose bytes all leave the machine as it is, on this ground.
+    pub(crate) fn stay_end(&self, ground: Ground, bytes: &[u8], at: usize) -> usize
         requires { at ≤ length bytes.now }
         ensures within { (at ≤ result) × (result ≤ length bytes.now) }
         ensures stays { AllByRecursion (λ b. moved self.now.mode (top self.now.brackets) b ≡ To self.now.mode) (take (result - at) (drop at bytes.now)) }
+        ensures alike { AreAlike ground (take (result - at) (drop at bytes.now)) }
     {
-        stay_end(self.mode, self.brackets.top(), bytes, at)
+        stay_end(self.mode, self.brackets.top(), ground, bytes, at)
+    }
+
+    /// Takes the end of a string between two characters, the colon behind a name, and a space where a value must come;
+    /// other bytes it leaves.
+    #[inline(always)]
+    pub(crate) fn end_string(&mut self, byte: u8) -> bool
+        ensures taken { IsTrue result → step 128 self.old.mode self.old.brackets byte ≡ state self.new.mode self.new.brackets }
+        ensures left { result ≡ false → self.new ≡ self.old }
+    {
+        match (self.mode, byte) {
+            (Mode::Quoted(role, Place::Plain), b'"') => self.mode = after_string(role),
+            (Mode::Colon, b':') => self.mode = Mode::Value,
+            (Mode::Value, b' ') => {}
+            _ => return false,
+        }
+        true
+    }
+
+    /// The ground on which it stands.
+    pub(crate) fn ground(&self) -> Ground {
+        match self.mode {
+            Mode::Quoted(_, _) => Ground::Quoted,
+            _ => Ground::Between,
+        }
     }
 
     /// The value may end here: white space would end it too.
@@ -200,7 +215,7 @@ pub(crate) fn moved(mode: Mode, top: Option<Bracket>, byte: u8) -> Move
 pub(crate) fn is_space(byte: u8) -> bool
     ensures { result ≡ is_space byte }
 {
-    matches!(byte, b' ' | b'\t' | b'\n' | b'\r')
+    byte <= b' ' && matches!(byte, b' ' | b'\t' | b'\n' | b'\r')
 }
 
 fn value_move(byte: u8) -> Move

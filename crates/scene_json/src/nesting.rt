@@ -5,6 +5,7 @@ ghost use Rattle.std.specs.List.{count_by};
 ghost use Rattle.scene_json.specs.Value.{IsCompact};
 ghost use Rattle.scene_json.specs.Passes.{behind_string, is_opening};
 
+use crate::content::run_end;
 use crate::text::Raw;
 
 /// How many brackets are open at once where most are: 0 for a number, a word or a string. It takes no memory.
@@ -56,14 +57,12 @@ pub(crate) fn opens(byte: u8) -> bool
 pub(crate) fn after_string(bytes: &[u8]) -> &[u8]
     ensures { result.now ≡ behind_string false bytes.now }
 {
-    let mut rest = bytes;
-    let mut escaped = false;
-    while let Some((byte, others)) = rest.split_first() {
-        rest = others;
-        if *byte == b'"' && !escaped {
-            return rest;
+    let mut next = run_end(bytes, 0);
+    while next < bytes.len() {
+        if bytes[next] == b'"' {
+            return &bytes[next + 1..];
         }
-        escaped = *byte == b'\\' && !escaped;
+        next = run_end(bytes, bytes.len().min(next + 2));
     }
-    rest
+    &[]
 }

@@ -4,6 +4,7 @@ ghost use Rattle.std.specs.Prelude.{◌≡◌, ◌+◌, ◌-◌, ◌≤◌, take
 ghost use Rattle.std.specs.List.{AllByRecursion, prefix_len};
 ghost use Rattle.scene_json.specs.Characters.{is_digit};
 ghost use Rattle.scene_json.specs.Machine.{is_bare, keeps_bare, keeps_digits, keeps_space, moved};
+ghost use Rattle.scene_json.specs.Writing.{AreAlike};
 ghost use Rattle.scene_json.specs.declared.machine.Move.TheVariants.{To};
 
 use crate::brackets::Bracket;
@@ -11,21 +12,34 @@ use crate::end::skip_space;
 use crate::machine::{Mode, Place};
 use crate::number::Part;
 
-/// Where a stretch from `at` on ends whose bytes all leave the mode as it is: plain characters of a string, digits of a
-/// number, white space.
-pub(crate) fn stay_end(mode: Mode, top: Option<Bracket>, bytes: &[u8], at: usize) -> usize
+/// What stands around a stretch.
+#[derive(Clone, Copy)]
+pub(crate) enum Ground {
+    /// A string.
+    Quoted,
+    /// No string.
+    Between,
+}
+
+/// Where a stretch from `at` on ends whose bytes all leave the mode as it is: plain characters of a string, or digits of a
+/// number or white space outside strings.
+pub(crate) fn stay_end(
+    mode: Mode,
+    top: Option<Bracket>,
+    ground: Ground,
+    bytes: &[u8],
+    at: usize,
+) -> usize
     requires { at ≤ length bytes.now }
     ensures within { (at ≤ result) × (result ≤ length bytes.now) }
     ensures stays { AllByRecursion (λ b. moved mode top b ≡ To mode) (take (result - at) (drop at bytes.now)) }
+    ensures alike { AreAlike ground (take (result - at) (drop at bytes.now)) }
 {
-    if keeps_bare(mode) {
-        skip_bare(bytes, at)
-    } else if keeps_digits(mode) {
-        skip_digits(bytes, at)
-    } else if keeps_space(mode, top) {
-        skip_space(bytes, at)
-    } else {
-        at
+    match ground {
+        Ground::Quoted if keeps_bare(mode) => skip_bare(bytes, at),
+        Ground::Between if keeps_digits(mode) => skip_digits(bytes, at),
+        Ground::Between if keeps_space(mode, top) => skip_space(bytes, at),
+        _ => at,
     }
 }
 
@@ -60,7 +74,8 @@ fn skip_bare(bytes: &[u8], at: usize) -> usize
     ensures { result ≡ at + prefix_len is_bare (drop at bytes.now) }
 {
     for i in at..bytes.len() {
-        if !matches!(bytes[i], b' ' | b'!' | b'#'..=b'[' | b']'..=0x7f) {
+        let byte = bytes[i];
+        if !(matches!(byte, b']'..=0x7f) || matches!(byte, b' ' | b'!' | b'#'..=b'[')) {
             return i;
         }
     }

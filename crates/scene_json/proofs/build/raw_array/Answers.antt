@@ -1,4 +1,4 @@
-use Rattle.std.proofs.Common.{◌≡◌, ◌+◌, ◌<◌, ◌≤◌, length, inl, inr, arith, ap, ◌∙◌, sym, subst}
+use Rattle.std.proofs.Common.{◌≡◌, [], ◌∷◌, ◌+◌, ◌<◌, ◌≤◌, length, inl, inr, arith, ap, ◌∙◌, sym, subst}
 use Rattle.std.proofs.lemmas.List.Elements.{recursion_from_All}
 use Rattle.std.proofs.lemmas.Result.{IfOk-weaker}
 use Rattle.scene_json.specs.Compact.{array_text}
@@ -11,7 +11,7 @@ use Rattle.scene_json.proofs.build.raw_array.Goals.{In_ok-push-3, then-i-gt0+in_
 pub loop-i-preserved : goal.loop-i-preserved
 loop-i-preserved c =
     let inside : c.loop-i.i < length c.as_slice-item-items.result.now = omega arith in
-    items-step 91 c.as_slice-item-items.result.now c.as_bytes.result.now c.loop-i.i c.loop-i.out.items c.if-i-gt0.out.items
+    items-step (91 ∷ []) c.as_slice-item-items.result.now c.as_bytes.result.now c.loop-i.i c.loop-i.out.items c.if-i-gt0.out.items
     c.extend_from_slice.new.self.items inside (rw c.as_bytes.ensures.value c.item-item.is) c.loop-i.invariant
     (elim c.if-i-gt0.branch [
       | then-i-gt0+in_ok-push-2 w ↦ inl (w.if-i-gt0.true, ap (λ v. v.items) w.out-is ∙ w.in_ok-push-2.ensures.items)

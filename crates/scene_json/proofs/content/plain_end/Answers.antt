@@ -1,5 +1,5 @@
 use Rattle.std.proofs.Common.{◌+◌, []}
-use Rattle.scene_json.proofs.Contents.{Ran, reading-starts, reading-runs, reading-closes, plain-quote}
+use Rattle.scene_json.proofs.Contents.{Ran, reading-starts, reading-runs, reading-closes}
 use Rattle.scene_json.proofs.content.plain_end.Goals as goal
 use Rattle.scene_json.proofs.content.plain_end.Goals.{After-run_end-end}
 
@@ -13,8 +13,3 @@ pub returns-then-bytes-end-eq34-clause-text : goal.returns-then-bytes-end-eq34-c
 returns-then-bytes-end-eq34-clause-text c text rest quoted =
     let done = ran (goal.at.returns-then-bytes-end-eq34-clause-text c).After-run_end-end in
     reading-closes done.reading c.if-bytes-end-eq34.true text rest quoted
-
-pub returns-then-bytes-end-eq34-clause-quote : goal.returns-then-bytes-end-eq34-clause-quote
-returns-then-bytes-end-eq34-clause-quote c text rest quoted =
-    let scanned = (goal.at.returns-then-bytes-end-eq34-clause-quote c).After-run_end-end in
-    plain-quote c.args.bytes.now c.args.at scanned.run_end-end.result quoted scanned.run_end-end.ensures.value c.if-bytes-end-eq34.true

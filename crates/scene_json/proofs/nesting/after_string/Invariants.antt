@@ -1,9 +1,9 @@
-use Rattle.std.proofs.Common.{◌≡◌, false, length}
-use Rattle.scene_json.specs.Passes.{behind_string}
+use Rattle.std.proofs.Common.{◌-◌, length}
+use Rattle.scene_json.proofs.Behind.{IsMarked}
 use Rattle.scene_json.proofs.nesting.after_string.Given as goal
 
-abbrev pub invariant-loop-byte : goal.invariant-loop-byte
-invariant-loop-byte l = behind_string l.escaped l.rest ≡ behind_string false l.fn.bytes
+abbrev pub invariant-loop-next : goal.invariant-loop-next
+invariant-loop-next l = IsMarked l.bytes l.next
 
-abbrev pub decreases-loop-byte : goal.decreases-loop-byte
-decreases-loop-byte l = length l.rest
+abbrev pub decreases-loop-next : goal.decreases-loop-next
+decreases-loop-next l = length l.bytes - l.next

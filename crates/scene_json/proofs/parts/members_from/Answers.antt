@@ -3,14 +3,18 @@ use Rattle.scene_json.specs.Tree.{object}
 use Rattle.scene_json.specs.Compact.{Member, member_text}
 use Rattle.scene_json.specs.Members.{pairs}
 use Rattle.scene_json.specs.Value.{IsCompact}
+use Rattle.scene_json.specs.Walk.{Quoted}
 use Rattle.scene_json.proofs.Forms.{object-starts}
 use Rattle.scene_json.proofs.CompactLaws.{Value-deeper}
 use Rattle.scene_json.proofs.Contents.{drop-after, inside-after}
 use Rattle.scene_json.proofs.ItemsLeft.{after-here, IsLeft-end, IsLeft-next}
 use Rattle.scene_json.proofs.MembersLeft.{AreMembersLeft, after_member, IsLeft-all, IsLeft-Quoted, IsLeft-Compacted, pairs-push}
-use Rattle.scene_json.proofs.Turns.{Names}
 use Rattle.scene_json.proofs.parts.members_from.Goals as goal
 use Rattle.scene_json.proofs.parts.members_from.Goals.{In_ok-push}
+
+-- what `text_at` finds
+abbrev Names : List ℕ → ℕ → List ℕ → ℕ → Type 0
+Names bytes at name colon = (text rest : List ℕ) → Quoted (drop at bytes) text rest → (name ≡ text) × (drop colon bytes ≡ rest)
 
 -- the name is found in the bytes that were lent
 over : {bytes value : List ℕ} → bytes ≡ value → (at : ℕ) (name : List ℕ) (colon : ℕ) → Names value at name colon → Names bytes at name colon

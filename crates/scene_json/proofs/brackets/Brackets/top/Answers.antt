@@ -1,7 +1,14 @@
-use Rattle.std.proofs.Common.{sym, ap, ◌∙◌, arith}
-use Rattle.std.proofs.lemmas.List.{drop_all}
+use Rattle.std.proofs.Common.{sym, ap, ◌∙◌}
+use Rattle.scene_json.specs.Brackets.{kinds_of}
 use Rattle.scene_json.specs.Machine.{top}
+use Rattle.scene_json.proofs.Digits.{top-square, top-curly}
 use Rattle.scene_json.proofs.brackets.Brackets.top.Goals as goal
 
-pub returns-else-self-lt128 : goal.returns-else-self-lt128
-returns-else-self-lt128 c = ap top (sym (drop_all c.self.inside.free c.self.inside.kinds (omega arith)) ∙ c.self.view_is)
+pub returns-then-self-eq0 : goal.returns-then-self-eq0
+returns-then-self-eq0 c = ap top (ap (λ n. kinds_of n c.self.inside.digits) (sym c.if-self-eq0.true) ∙ c.self.view_is)
+
+pub returns-then-self-eq0-2 : goal.returns-then-self-eq0-2
+returns-then-self-eq0-2 c = sym (top-square c.self.inside.count c.self.inside.digits c.if-self-eq0.false c.if-self-eq0-2.true) ∙ ap top c.self.view_is
+
+pub returns-else-self-eq0-2 : goal.returns-else-self-eq0-2
+returns-else-self-eq0-2 c = sym (top-curly c.self.inside.count c.self.inside.digits c.if-self-eq0.false c.if-self-eq0-2.false) ∙ ap top c.self.view_is
