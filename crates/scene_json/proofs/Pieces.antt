@@ -61,13 +61,9 @@ read-of rest more bytes old reader is same read =
     subst (λ xs. IsRead xs 0 reader) (sym is)
     (subst (λ (r : Reader). IsRead (rest ++ more) 0 r) (sym same) (read-more rest more old.next old.machine old.writer read))
 
-pub came-of : (rest more bytes : List ℕ) (old reader : Reader) → bytes ≡ rest ++ more → reader ≡ old → IsRead rest 0 old → (taken : Taken)
-    → ((at : ℕ) → IsRead bytes at reader → Came bytes at taken) → Came bytes 0 taken
-came-of rest more bytes old reader is same read taken came = came 0 (read-of rest more bytes old reader is same read)
-
 pub more-came : (rest more bytes : List ℕ) (old reader : Reader) → bytes ≡ rest ++ more → reader ≡ old → IsRead rest 0 old → (taken : Taken)
     → ((at : ℕ) → IsRead bytes at reader → Came bytes at taken) → Came (rest ++ more) 0 taken
-more-came rest more bytes old reader is same read taken came = subst (λ xs. Came xs 0 taken) is (came-of rest more bytes old reader is same read taken came)
+more-came rest more bytes old reader is same read taken came = subst (λ xs. Came xs 0 taken) is (came 0 (read-of rest more bytes old reader is same read))
 
 -- ---- where the value ends behind the rest
 front-taken : (bytes : List ℕ) (n : ℕ) → stretch bytes 0 n ≡ take n bytes

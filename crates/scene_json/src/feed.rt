@@ -197,7 +197,7 @@ fn read_first(
     let alloc = *rest.allocator();
     let start = skip_space(piece, 0);
     let bytes = &piece[start..];
-    match replace(reader, Reader::new(alloc, 0)).read(alloc, bytes)? {
+    match Reader::new(alloc, 0).read(alloc, bytes)? {
         Taken::Through(read) => {
             rest.extend_from_slice(bytes)?;
             *reader = read;

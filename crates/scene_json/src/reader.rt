@@ -65,7 +65,7 @@ impl Reader {
                 Step::Refused => return Ok(Taken::Refused(machine, next)),
             }
         }
-        // Nothing more is waited for, which may be long in coming.
+        // The next byte, which would end it too, may be long in coming.
         if machine.is_over() {
             return Ok(Taken::Ended(value_of(writer, bytes, next)?, next));
         }

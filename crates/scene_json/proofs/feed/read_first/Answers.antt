@@ -6,7 +6,7 @@ use Rattle.scene_json.specs.Runs.{EndsIn, IsKept, IsRefusedIn}
 use Rattle.scene_json.specs.Value.{Stands}
 use Rattle.scene_json.specs.Writing.{Came, IsRead}
 use Rattle.scene_json.proofs.Feeds.{behind-first, kept-begun}
-use Rattle.scene_json.proofs.Pieces.{read-of, came-of, kept-through, tail-behind, first-length, first-ended, first-refused}
+use Rattle.scene_json.proofs.Pieces.{kept-through, tail-behind, first-length, first-ended, first-refused}
 use Rattle.scene_json.proofs.Stays.{passed_within}
 use Rattle.scene_json.proofs.feed.read_first.Goals as goal
 use Rattle.scene_json.proofs.feed.read_first.Goals.{In_ok-read}
@@ -18,20 +18,11 @@ pub slice_bounds-bytes-start : goal.slice_bounds-bytes-start
 slice_bounds-bytes-start c = (passed_within is_space c.args.piece.now 0 c.skip_space-start.result (omega arith) c.skip_space-start.ensures).1
 
 pub read-requires : goal.read-requires
-read-requires c =
-    let piece = c.args.piece.now in
-    let start = c.skip_space-start.result in
-    let tail : List ℕ = take (length piece - start) (drop start piece) in
-    (0, read-of c.args.rest.now.items tail tail c.args.reader.now c.replace.result (sym (ap (λ xs. xs ++ tail) c.requires.none)) c.replace.ensures.value c.requires.read)
+read-requires c = (0, c.new.ensures _ (omega arith))
 
 -- what came of the bytes behind the white space
 came : (c : In_ok-read) → Came (take (length c.args.piece.now - c.skip_space-start.result) (drop c.skip_space-start.result c.args.piece.now)) 0 c.in_ok-read.field-0
-came c =
-    let piece = c.args.piece.now in
-    let start = c.skip_space-start.result in
-    let tail : List ℕ = take (length piece - start) (drop start piece) in
-    came-of c.args.rest.now.items tail tail c.args.reader.now c.replace.result (sym (ap (λ xs. xs ++ tail) c.requires.none)) c.replace.ensures.value c.requires.read
-    c.in_ok-read.field-0 c.in_ok-read.ensures
+came c = c.in_ok-read.ensures 0 (c.new.ensures _ (omega arith))
 
 begins : (c : In_ok-read) → (c.skip_space-start.result ≡ prefix_len is_space c.args.piece.now) × (c.skip_space-start.result ≤ length c.args.piece.now)
 begins c = (omega (arith, c.skip_space-start.ensures), (passed_within is_space c.args.piece.now 0 c.skip_space-start.result (omega arith) c.skip_space-start.ensures).1)
