@@ -13,7 +13,8 @@ use crate::values::{
     push_default, push_first, push_pretty, push_restored, push_scanned, push_taken_apart,
 };
 use board_io::{List, Stop};
-use scene_json::{Member, Raw, Text, value_named};
+use json_text::{Member, Raw, Text};
+use scene_json::value_named;
 use std::alloc::Global;
 
 /// Appends what the call gave that the case asks for.

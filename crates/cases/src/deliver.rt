@@ -6,8 +6,8 @@ use crate::told::{push_number, push_truth};
 use board_io::{List, Stop};
 use elem::Element;
 use frac_keys::{Key, n_between};
+use json_text::{Member, Text};
 use replica::Replica;
-use scene_json::{Member, Text};
 use std::alloc::{AllocError, Global};
 use std::slice;
 

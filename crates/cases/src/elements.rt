@@ -9,8 +9,9 @@ use clash::Clash;
 use delta::{Part, apply, are_one_kind, difference, invert};
 use elem::{Element, beats, push_element, same, same_but_stamp};
 use elem_read::read_element;
+use json_text::{Raw, Text};
 use room_msg::{Message, message_text, read_message};
-use scene_json::{Raw, Text, push_comma};
+use scene_json::push_comma;
 use std::alloc::{AllocError, Global};
 
 /// Appends the element that a value is read as, null where it is dropped, or the fault.

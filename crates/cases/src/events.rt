@@ -5,7 +5,8 @@ ghost use Rattle.board_io.specs.Events.{OpensFrom};
 
 use crate::given::{bytes_named, is_given, values_of};
 use board_io::{LinkEvent, List};
-use scene_json::{Member, Raw, members, shaped, whole_named};
+use json_text::{Member, Raw};
+use scene_json::{members, shaped, whole_named};
 use std::alloc::{AllocError, Global};
 
 /// The events of the case, if each is one and the links that are opened are numbered from 0.

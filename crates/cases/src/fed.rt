@@ -3,9 +3,9 @@
 use crate::given::{bytes_of, given, listed};
 use crate::told::{push_member_of, push_string, push_truth, push_value};
 use board_io::Stop;
-use scene_json::{
-    Fed, Feed, JsonFault, Raw, Text, push_comma, push_quoted, push_whole, scan, skip_space,
-};
+use json_reader::{Fed, Feed, JsonFault, scan};
+use json_text::{Raw, Text, push_quoted, skip_space};
+use scene_json::{push_comma, push_whole};
 use std::alloc::{AllocError, Global};
 
 /// Appends what each call gives that feeds a piece of a list, and what the end gives behind them.

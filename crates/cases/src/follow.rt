@@ -5,11 +5,13 @@ use crate::told::push_truth;
 use board_io::{List, Stop};
 use elem::{Element, same};
 use elem_read::read_element;
+use json_reader::scan;
+use json_text::{Raw, Text};
 use rand_core::SeedableRng;
 use rand_core::utils::NextWord;
 use rand_pcg::Pcg32;
 use replica::Replica;
-use scene_json::{Raw, Text, members, scan, shaped};
+use scene_json::{members, shaped};
 use std::alloc::{AllocError, Global};
 use view::view_of;
 

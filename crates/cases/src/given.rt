@@ -2,9 +2,8 @@
 
 use board_io::{Bytes, List, Stop};
 use hex::FromHexError;
-use scene_json::{
-    Member, Raw, Text, items, members, shaped, text_named, text_of, value_named, whole_of,
-};
+use json_text::{Member, Raw, Text};
+use scene_json::{items, members, shaped, text_named, text_of, value_named, whole_of};
 use std::alloc::{AllocError, Global};
 
 /// How many keys, steps or changes a case may ask for.

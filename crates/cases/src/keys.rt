@@ -9,7 +9,8 @@ use crate::told::{push_member_of, push_truth};
 use board_io::{List, Stop};
 use frac_keys::{Key, between, n_between};
 use index_repair::{repair, rising};
-use scene_json::{Member, Raw, Text, has_value, is_null, push_comma, push_quoted, shaped, text_of};
+use json_text::{Member, Raw, Text, push_quoted};
+use scene_json::{has_value, is_null, push_comma, shaped, text_of};
 use std::alloc::{AllocError, Global};
 
 /// Two ends, each a key or absent.

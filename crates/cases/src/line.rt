@@ -5,7 +5,9 @@ use crate::given::{given, is_given, name_of};
 use crate::run::push_run;
 use crate::sure::push_sure_run;
 use board_io::{Bytes, Stop};
-use scene_json::{Raw, Text, members, push_quote, push_whole, scan, shaped, skip_space};
+use json_reader::scan;
+use json_text::{Raw, Text, push_quote, skip_space};
+use scene_json::{members, push_whole, shaped};
 use std::alloc::{AllocError, Global};
 
 /// A line on each case; `chunk` is how many bytes the ends of a run give and take at once where its case doesn't say. Behind a text that is no JSON nothing more is read.

@@ -5,7 +5,8 @@ use crate::given::{bytes_named, given, number_or, numbers_of, words_of};
 use crate::told::{push_member_of, push_number, push_told};
 use board_io::{Bytes, LinkEvent, List, MemSink, MemSource, ScriptLinks, Stop};
 use commands::{Status, board};
-use scene_json::{Member, Text, push_comma, push_whole};
+use json_text::{Member, Text};
+use scene_json::{push_comma, push_whole};
 use std::alloc::{AllocError, Global};
 
 /// How many bytes the output has room for, where the case doesn't say.

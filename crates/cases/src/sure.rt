@@ -5,7 +5,7 @@ use crate::run::{chunk_of, links_of, notes_of};
 use crate::told::{push_member_of, push_number, push_told};
 use board_io::{List, Stop, SureSink, SureSource};
 use commands::board_surely;
-use scene_json::{Member, Text};
+use json_text::{Member, Text};
 use std::alloc::Global;
 
 /// Appends how the run of a case ended whose input and output never fail: its status and its notes.

@@ -1,7 +1,9 @@
 //! How names, truths and bytes are told in a line.
 
 use board_io::Stop;
-use scene_json::{push_quoted, push_whole, scan};
+use json_reader::scan;
+use json_text::push_quoted;
+use scene_json::push_whole;
 use std::alloc::{AllocError, Global};
 
 /// Appends what stands before the value of a further member.

@@ -8,10 +8,12 @@ use crate::told::{
 };
 use board_io::{List, Stop};
 use first_texts::first_occurrences;
+use json_reader::scan;
+use json_text::{Member, Raw, Text, push_quote};
 use restore_table::{default_of, restore};
 use scene_json::{
-    Member, Raw, Shape, Text, depth_of, is_null, items, members, pretty, push_comma, push_member,
-    push_quote, scan, shaped, text_of, texts_of, truth_of, whole_of,
+    Shape, depth_of, is_null, items, members, pretty, push_comma, push_member, shaped, text_of,
+    texts_of, truth_of, whole_of,
 };
 use std::alloc::{AllocError, Global};
 

@@ -4,7 +4,7 @@ ghost use Rattle.std.specs.Prelude.{◌≡◌, [], ◌∷◌, ◌++◌, IfOk, On
 ghost use Rattle.clash.specs.Marks.{mark_of, place_of, AreListed};
 
 use elem::Element;
-use scene_json::Text;
+use json_text::Text;
 use std::alloc::AllocError;
 use std::collections::BTreeMap;
 

@@ -3,7 +3,7 @@ use Rattle.std.proofs.Common.{◌≡◌, ℕ, zero, suc, ◌<◌, List, [], ◌�
 use Rattle.std.specs.List.{AllByRecursion, AllZip, list_all}
 use Rattle.std.specs.Option.{option_map_or}
 use Rattle.std.proofs.lemmas.Bool.{and_from}
-use Rattle.scene_json.proofs.Collapsed.{bytes_eq-same}
+use Rattle.json_text.proofs.Collapsed.{bytes_eq-same}
 use Rattle.elem_store.proofs.Lists.{Contains-head, Contains-cons}
 use Rattle.scene_file.specs.Heads.{Heading}
 use Rattle.scene_file.specs.Scenes.{scene_text}

@@ -1,10 +1,10 @@
 -- Each command has an answer to each input.
 use Rattle.std.proofs.Common.{◌≡◌, ◌≢◌, ◌⊎◌, inl, inr, ℕ, zero, suc, ◌+◌, ◌≤◌, List, [], ◌∷◌, ◌++◌, true, false, length, drop, codes, decimal, Result, Ok, Err, refl, arith, length-drop, lit≤}
 use Rattle.std.specs.List.{AllByRecursion, prefix_len}
-use Rattle.scene_json.specs.Characters.{is_blank, is_space}
-use Rattle.scene_json.specs.Compact.{Member as Pair}
-use Rattle.scene_json.specs.Value.{IsCompact}
-use Rattle.scene_json.proofs.CompactLaws.{Value-deeper}
+use Rattle.json_text.specs.Characters.{is_blank, is_space}
+use Rattle.json_text.specs.Compact.{Member as Pair}
+use Rattle.json_text.specs.Value.{IsCompact}
+use Rattle.json_text.proofs.CompactLaws.{Value-deeper}
 use Rattle.elem.specs.ElementValue.{ElementValue}
 use Rattle.elem_store.proofs.Stored.{stored-exist}
 use Rattle.file_table.specs.References.{referred_files}

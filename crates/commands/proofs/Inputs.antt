@@ -2,7 +2,7 @@
 use Rattle.std.proofs.Common.{◌≡◌, ◌≢◌, ◌⊎◌, inl, inr, ℕ, ◌+◌, ◌≤◌, List, [], ◌∷◌, true, false, refl, sym, ap, ap₂, subst, ◌∙◌, length, drop, arith, length-drop}
 use Rattle.std.specs.List.{prefix_len}
 use Rattle.std.proofs.lemmas.Bool.{both_ways}
-use Rattle.scene_json.specs.Characters.{is_blank, is_space}
+use Rattle.json_text.specs.Characters.{is_blank, is_space}
 use Rattle.scene_file.specs.Reading.{IsSceneAt, IsSceneFaultAt}
 use Rattle.scene_file.specs.declared.scene.Scene.{Scene}
 use Rattle.scene_file.specs.declared.fault.SceneFault.{SceneFault}

@@ -1,10 +1,10 @@
 -- Lines on files, one after the other.
 use Rattle.std.proofs.Common.{◌≡◌, ℕ, ◌+◌, ◌<◌, List, [], ◌∷◌, ◌++◌, length, take, get_or, codes, refl, sym, ap, subst, ◌∙◌, append_assoc, append-nil}
 use Rattle.std.proofs.lemmas.List.{take_more, map-append}
-use Rattle.scene_json.specs.Characters.{quote}
-use Rattle.scene_json.specs.Compact.{Member as Pair}
-use Rattle.scene_json.specs.Members.{pair_of, pairs}
-use Rattle.scene_json.specs.declared.text.Member.{Member}
+use Rattle.json_text.specs.Characters.{quote}
+use Rattle.json_text.specs.Compact.{Member as Pair}
+use Rattle.json_text.specs.Members.{pair_of, pairs}
+use Rattle.json_text.specs.declared.text.Member.{Member}
 use Rattle.commands.specs.Faults.{newline}
 use Rattle.commands.specs.Pictures.{AreLines, IsToldOfPicture}
 

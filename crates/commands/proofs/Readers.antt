@@ -5,8 +5,8 @@ use Rattle.std.proofs.lemmas.List.{map-append}
 use Rattle.std.proofs.lemmas.Grind.{flat_map-append}
 use Rattle.std.proofs.lemmas.Bool.{false≢true}
 use Rattle.std.proofs.lemmas.Bool.Decides.{nat_tests}
-use Rattle.scene_json.specs.Characters.{is_blank}
-use Rattle.scene_json.specs.Value.{Stands}
+use Rattle.json_text.specs.Characters.{is_blank}
+use Rattle.json_text.specs.Value.{Stands}
 use Rattle.intake.specs.Texts.{TextsLead, HasTexts, IsStopped}
 use Rattle.intake.specs.declared.reading.Stopped.{Stopped}
 use Rattle.intake.specs.declared.reading.Stopped.TheVariants.{Faulty, Refused, Extra}

@@ -1,7 +1,7 @@
 -- What an input holds. This project's own.
 use Rattle.std.specs.Prelude.{◌≡◌, ◌≢◌, ◌⊎◌, ℕ, ◌+◌, ◌<◌, ◌≤◌, List, [], ◌∷◌, true, false, length, drop}
 use Rattle.std.specs.List.{prefix_len}
-use Rattle.scene_json.specs.Characters.{is_blank, is_space}
+use Rattle.json_text.specs.Characters.{is_blank, is_space}
 use Rattle.scene_file.specs.Reading.{IsSceneAt, IsSceneFaultAt}
 use Rattle.scene_file.specs.declared.scene.Scene.{Scene}
 use Rattle.scene_file.specs.declared.fault.SceneFault.{SceneFault}

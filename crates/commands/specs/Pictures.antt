@@ -1,7 +1,7 @@
 -- What is told of the pictures of files. This project's own.
 use Rattle.std.specs.Prelude.{◌≡◌, ℕ, List, [], ◌∷◌, ◌++◌, codes, decimal}
-use Rattle.scene_json.specs.Characters.{quote}
-use Rattle.scene_json.specs.Compact.{Member as Pair}
+use Rattle.json_text.specs.Characters.{quote}
+use Rattle.json_text.specs.Compact.{Member as Pair}
 use Rattle.file_table.specs.Picture.{HasData, IsPictureSize}
 use Rattle.commands.specs.Faults.{newline}
 

@@ -1,14 +1,14 @@
 //! What is told of the pictures of files.
 
 ghost use Rattle.std.specs.Prelude.{◌≡◌, ◌++◌, ℕ, List as Items, IfOk, OnOk, string_bytes, codes};
-ghost use Rattle.scene_json.specs.Characters.{quote};
-ghost use Rattle.scene_json.specs.Members.{pairs};
+ghost use Rattle.json_text.specs.Characters.{quote};
+ghost use Rattle.json_text.specs.Members.{pairs};
 ghost use Rattle.commands.specs.Faults.{newline};
 ghost use Rattle.commands.specs.Pictures.{AreLines, IsToldOfPicture};
 
 use board_io::{Bytes, List, Stop};
 use file_table::{PictureFault, picture_size};
-use scene_json::{Member, Raw, push_quote};
+use json_text::{Member, Raw, push_quote};
 use std::alloc::{AllocError, Global};
 
 /// A line on each file: its id as a string, a space, and what is told of its picture.

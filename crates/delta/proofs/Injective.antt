@@ -3,18 +3,18 @@ use Rattle.std.proofs.Common.{◌≡◌, ◌≢◌, ℕ, ◌+◌, ◌*◌, ◌==
 use Rattle.std.specs.List.{AllByRecursion, flat_map, join_with_byte}
 use Rattle.std.proofs.lemmas.Bool.{agree_below_at, cases_lt, and_parts, false≢true}
 use Rattle.std.proofs.lemmas.Bool.Decides.{nat_tests}
-use Rattle.scene_json.specs.Characters.{quote, quoted_byte, hex_value}
-use Rattle.scene_json.specs.Compact.{Member as Pair, member_text, object_text}
-use Rattle.scene_json.specs.Members.{pairs}
-use Rattle.scene_json.specs.Tree.{letter_meaning, null_word, object}
-use Rattle.scene_json.specs.Value.{IsCompact, Stands, Follows}
-use Rattle.scene_json.specs.declared.text.Member.{Member}
-use Rattle.scene_json.proofs.Collapsed.{bytes_eq-true}
-use Rattle.scene_json.proofs.CompactLaws.{Value-Form, Value-deeper}
-use Rattle.scene_json.proofs.Forms.{form-quoted}
+use Rattle.json_text.specs.Characters.{quote, quoted_byte, hex_value}
+use Rattle.json_text.specs.Compact.{Member as Pair, member_text, object_text}
+use Rattle.json_text.specs.Members.{pairs}
+use Rattle.json_text.specs.Tree.{letter_meaning, null_word, object}
+use Rattle.json_text.specs.Value.{IsCompact, Stands, Follows}
+use Rattle.json_text.specs.declared.text.Member.{Member}
+use Rattle.json_text.proofs.Collapsed.{bytes_eq-true}
+use Rattle.json_text.proofs.CompactLaws.{Value-Form, Value-deeper}
+use Rattle.json_text.proofs.Forms.{form-quoted}
+use Rattle.json_text.proofs.Reading.{tree-Head, first-same, tail-same, Stands-once}
+use Rattle.json_text.proofs.Strings.{heads-differ}
 use Rattle.scene_json.proofs.ItemsLeft.{after_item, items-split}
-use Rattle.scene_json.proofs.Reading.{tree-Head, first-same, tail-same, Stands-once}
-use Rattle.scene_json.proofs.Strings.{heads-differ}
 use Rattle.elem.specs.declared.parts.Binding.{Binding}
 use Rattle.elem.specs.Facts.{IsBinding, names}
 use Rattle.elem.specs.Texts.{truth_text, text_or_null, binding_text}

@@ -4,7 +4,7 @@ use Rattle.std.specs.Option.{option_map_or}
 use Rattle.std.specs.List.{AllByRecursion}
 use Rattle.std.specs.List.Sorted.{IsPartitionedBy}
 use Rattle.std.proofs.lemmas.Bool.{cases_Bool, false≢true, and_parts, and_from}
-use Rattle.scene_json.proofs.Collapsed.{bytes_eq-true, bytes_eq-same, bytes_eq-apart}
+use Rattle.json_text.proofs.Collapsed.{bytes_eq-true, bytes_eq-same, bytes_eq-apart}
 use Rattle.frac_keys.specs.Keys.{bytes_less}
 use Rattle.frac_keys.specs.Rising.{ends_rise, rise_between, are_rising}
 use Rattle.elem.proofs.Sorting.{bytes_less-trans, bytes_less-same, bytes_less-asym, bytes_less-turned}

@@ -1,7 +1,7 @@
 -- What holds of every part and of every entry.
 use Rattle.std.specs.Prelude.{◌≡◌, ℕ, List, [], ◌∷◌, Bool, true, false, Option, Some, None, IfSome, IsSomeAnd, IsTrue, map, codes, bytes_eq}
 use Rattle.std.specs.List.{AllByRecursion, list_any}
-use Rattle.scene_json.specs.Value.{IsCompact}
+use Rattle.json_text.specs.Value.{IsCompact}
 use Rattle.frac_keys.specs.Keys.{is_key}
 use Rattle.frac_keys.specs.Rising.{are_rising}
 use Rattle.elem.specs.declared.kind.Kind.{Kind}

@@ -18,7 +18,7 @@ use crate::part::Part;
 use crate::rest::put_value;
 use board_io::List;
 use elem::{BoundRef, Element};
-use scene_json::{Raw, Text};
+use json_text::{Raw, Text};
 use std::alloc::{AllocError, Global};
 
 /// What the part makes of an element with its id: each scalar becomes that of after, whatever it is now, and the lists

@@ -1,11 +1,11 @@
 //! The compact text of a binding, and the binding of such a text.
 
 ghost use Rattle.std.specs.Prelude.{◌≡◌, ℕ, List as Items, Option, Some, true, IfOk, IfSome};
-ghost use Rattle.scene_json.specs.Characters.{quote};
-ghost use Rattle.scene_json.specs.Compact.{Member as Pair, object_text};
-ghost use Rattle.scene_json.specs.Members.{pairs};
-ghost use Rattle.scene_json.specs.Parts.{AreMembers};
-ghost use Rattle.scene_json.specs.Value.{IsCompact};
+ghost use Rattle.json_text.specs.Characters.{quote};
+ghost use Rattle.json_text.specs.Compact.{Member as Pair, object_text};
+ghost use Rattle.json_text.specs.Members.{pairs};
+ghost use Rattle.json_text.specs.Parts.{AreMembers};
+ghost use Rattle.json_text.specs.Value.{IsCompact};
 ghost use Rattle.frac_keys.specs.Rising.{are_rising};
 ghost use Rattle.elem.specs.declared.parts.Binding.{Binding};
 ghost use Rattle.elem.specs.Facts.{IsBinding, names};
@@ -15,7 +15,8 @@ ghost use Rattle.delta.specs.Headers.{value_named};
 use crate::rest::{find_value, put_value};
 use board_io::{List, Stop};
 use elem::Binding;
-use scene_json::{Member, Raw, Text, is_null, members, raw_null, raw_object, raw_text, text_of};
+use json_text::{Member, Raw, Text};
+use scene_json::{is_null, members, raw_null, raw_object, raw_text, text_of};
 use std::alloc::{AllocError, Global};
 
 /// The object of a binding, its members in the order of their names, or null where there is none.

@@ -4,7 +4,7 @@ ghost use Rattle.std.specs.Prelude.{◌≡◌, IfOk};
 
 use board_io::List;
 use elem::BoundRef;
-use scene_json::{Raw, Text};
+use json_text::{Raw, Text};
 use std::alloc::AllocError;
 
 /// A change of one member of an element, from what it was before to what it is after.

@@ -20,7 +20,7 @@ use crate::part::Part;
 use crate::rest::find_value;
 use board_io::List;
 use elem::{BoundRef, Element};
-use scene_json::{Member, Raw, Text};
+use json_text::{Member, Raw, Text};
 use std::alloc::{AllocError, Global};
 
 /// The members outside the stamp in which the elements differ. Where there is no old element, it counts as the new one,

@@ -1,7 +1,7 @@
 //! The scalar members that an element has fields for.
 
 ghost use Rattle.std.specs.Prelude.{◌≡◌, ℕ, Option, List, IfOk, IfSome, OnOk, IsTrue, bytes_eq};
-ghost use Rattle.scene_json.specs.Value.{IsCompact};
+ghost use Rattle.json_text.specs.Value.{IsCompact};
 ghost use Rattle.frac_keys.specs.Keys.{is_key};
 ghost use Rattle.elem.specs.Texts.{text_or_null, truth_text};
 ghost use Rattle.delta.specs.Facts.{IsAccepted};
@@ -12,7 +12,8 @@ ghost use Rattle.delta.specs.Kept.{IsHeaderSet, BelongsTo};
 use crate::binding::{binding_of, binding_raw, text_in};
 use elem::{Element, Kind};
 use frac_keys::Key;
-use scene_json::{Raw, Text, is_null, raw_null, raw_text, raw_truth, truth_of};
+use json_text::{Raw, Text};
+use scene_json::{is_null, raw_null, raw_text, raw_truth, truth_of};
 use std::alloc::{AllocError, Global};
 
 /// A scalar member that an element has a field for.

@@ -7,7 +7,7 @@ use crate::change::Change;
 use crate::part::{Entry, Part};
 use board_io::List;
 use elem::Kind;
-use scene_json::Text;
+use json_text::Text;
 use std::alloc::Global;
 
 /// The part with before and after exchanged in each change. It takes no memory.

@@ -5,7 +5,7 @@ ghost use Rattle.std.specs.Prelude.{◌≡◌, IfOk};
 use crate::change::Change;
 use board_io::List;
 use elem::Kind;
-use scene_json::Text;
+use json_text::Text;
 use std::alloc::AllocError;
 use std::marker::Model;
 

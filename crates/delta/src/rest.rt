@@ -8,7 +8,7 @@ ghost use Rattle.elem.specs.Facts.{names};
 ghost use Rattle.delta.specs.Headers.{value_named};
 ghost use Rattle.delta.specs.Rest.{value_if, with_value, without_first};
 
-use scene_json::{Member, Raw, Text};
+use json_text::{Member, Raw, Text};
 use std::alloc::AllocError;
 
 /// The value of the member of this name, if there is one.

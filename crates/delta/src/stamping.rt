@@ -4,7 +4,8 @@ ghost use Rattle.std.specs.Prelude.{◌≡◌, ◌+◌, ◌≤◌, ◌↔◌, On
 ghost use Rattle.elem.specs.Facts.{greatest_whole};
 
 use elem::Element;
-use scene_json::{GREATEST_WHOLE, Text};
+use json_text::Text;
+use scene_json::GREATEST_WHOLE;
 
 /// The element's version is the greatest.
 #[derive(Debug, Drop)]

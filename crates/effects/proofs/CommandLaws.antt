@@ -5,8 +5,8 @@ use Rattle.std.specs.Option.{option_map, option_map_or}
 use Rattle.std.proofs.lemmas.Bool.{cases_Bool, false≢true, both_ways, and_parts, and_from, or_from, or_left, or_right, not-false, cond-true, cond-false}
 use Rattle.std.proofs.lemmas.List.Folds.{list_any-append}
 use Rattle.std.proofs.lemmas.Option.{none-some, same_Some}
-use Rattle.scene_json.proofs.Collapsed.{bytes_eq-same, bytes_eq-apart}
-use Rattle.scene_json.specs.declared.text.Member.{Member}
+use Rattle.json_text.proofs.Collapsed.{bytes_eq-same, bytes_eq-apart}
+use Rattle.json_text.specs.declared.text.Member.{Member}
 use Rattle.frac_keys.specs.Between.{key_between}
 use Rattle.frac_keys.specs.Rising.{ends_rise, are_rising, is_key_or_none}
 use Rattle.frac_keys.proofs.BetweenLaws.{key_between-law}

@@ -4,7 +4,7 @@ use Rattle.std.specs.BTreeMap.{BTreeMap, get, Updates}
 use Rattle.std.specs.Cmp.Lexicographic.{slice_cmp, nat_list_eq_equiv, texts_ties}
 use Rattle.std.specs.Option.{option_or, option_map, option_copied}
 use Rattle.std.proofs.lemmas.Bool.{cases_Bool, false≢true}
-use Rattle.scene_json.proofs.Collapsed.{bytes_eq-true}
+use Rattle.json_text.proofs.Collapsed.{bytes_eq-true}
 use Rattle.frac_keys.specs.Rising.{ends_rise, rise_between}
 use Rattle.elem.specs.ElementValue.{ElementValue}
 use Rattle.elem.proofs.Sorting.{bytes_less-trans}

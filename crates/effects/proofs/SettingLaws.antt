@@ -3,8 +3,8 @@ use Rattle.std.proofs.Common.{◌≡◌, ℕ, suc, ◌+◌, ◌≤◌, Bool, tru
 use Rattle.std.specs.List.{AllByRecursion, prefix_len, list_any}
 use Rattle.std.specs.Option.{option_map_or}
 use Rattle.std.proofs.lemmas.Bool.{cases_Bool, false≢true, or_parts}
-use Rattle.scene_json.specs.Value.{IsCompact}
-use Rattle.scene_json.specs.declared.text.Member.{Member}
+use Rattle.json_text.specs.Value.{IsCompact}
+use Rattle.json_text.specs.declared.text.Member.{Member}
 use Rattle.frac_keys.specs.Keys.{bytes_less}
 use Rattle.elem.specs.Facts.{is_header, header_names, own_names}
 use Rattle.elem.specs.declared.kind.Kind.{Kind}

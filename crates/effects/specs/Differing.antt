@@ -2,7 +2,7 @@
 use Rattle.std.specs.Prelude.{Bool, true, false, not, ◌&&◌, bytes_eq}
 use Rattle.std.specs.Option.{option_eq}
 use Rattle.std.specs.Cmp.Lexicographic.{pointwise}
-use Rattle.scene_json.specs.declared.text.Member.{Member}
+use Rattle.json_text.specs.declared.text.Member.{Member}
 use Rattle.elem.specs.declared.parts.Binding.{Binding}
 use Rattle.elem.specs.ElementValue.{ElementValue}
 use Rattle.elem.specs.Listings.{same_listing_entry}

@@ -1,8 +1,8 @@
 -- What a command keeps to, as whoever reads it knows. This project's own.
 use Rattle.std.specs.Prelude.{◌≡◌, true, false, bytes_eq, codes}
 use Rattle.std.specs.List.{list_any}
-use Rattle.scene_json.specs.Value.{IsCompact}
-use Rattle.scene_json.specs.declared.text.Member.{Member}
+use Rattle.json_text.specs.Value.{IsCompact}
+use Rattle.json_text.specs.declared.text.Member.{Member}
 use Rattle.std.specs.Prelude.{List}
 use Rattle.frac_keys.specs.Rising.{are_rising}
 use Rattle.elem.specs.Facts.{AllNest, names}

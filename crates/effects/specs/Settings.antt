@@ -1,8 +1,8 @@
 -- A member that gets a value. This project's own.
 use Rattle.std.specs.Prelude.{ℕ, List, [], ◌∷◌, Bool, Some, codes, bytes_eq, if◌then◌else◌}
 use Rattle.std.specs.Option.{unwrap_or}
+use Rattle.json_text.specs.Tree.{null_word}
 use Rattle.scene_json.specs.Named.{value_at}
-use Rattle.scene_json.specs.Tree.{null_word}
 use Rattle.delta.specs.Rest.{with_value}
 use Rattle.restore_table.specs.Table.{defaults}
 use Rattle.elem.specs.ElementValue.{ElementValue}

@@ -2,7 +2,7 @@
 
 use board_io::List;
 use elem::Element;
-use scene_json::{Member, Raw, Text};
+use json_text::{Member, Raw, Text};
 
 /// How a change goes into the history of whoever makes it.
 #[derive(Clone, Copy, Debug, PartialEq, Eq)]

@@ -12,7 +12,7 @@ ghost use Rattle.effects.specs.Naming.{is_some_that};
 
 use board_io::List;
 use elem::{Binding, BoundRef, Element};
-use scene_json::Text;
+use json_text::Text;
 use std::alloc::AllocError;
 use std::collections::BTreeSet;
 

@@ -5,7 +5,7 @@ ghost use Rattle.std.specs.BTreeSet.{contains};
 ghost use Rattle.std.specs.Cmp.Lexicographic.{slice_cmp};
 ghost use Rattle.std.specs.Option.{unwrap_or};
 ghost use Rattle.std.specs.Ordering.{nat_cmp};
-ghost use Rattle.scene_json.specs.Value.{IsCompact};
+ghost use Rattle.json_text.specs.Value.{IsCompact};
 ghost use Rattle.effects.specs.Effects as effects;
 ghost use Rattle.effects.specs.Prepared.{made_by, IsSoundEffect};
 ghost use Rattle.effects.specs.Settings as settings;
@@ -17,7 +17,7 @@ use crate::placing::{Keys, placed, settled};
 use crate::setting::with_member;
 use elem::{BoundRef, Element};
 use frac_keys::Key;
-use scene_json::{Raw, Text};
+use json_text::{Raw, Text};
 use std::alloc::{AllocError, Global};
 use std::collections::BTreeSet;
 

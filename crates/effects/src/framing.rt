@@ -6,7 +6,7 @@ ghost use Rattle.effects.specs.Naming.{is_among};
 
 use board_io::List;
 use elem::Element;
-use scene_json::Text;
+use json_text::Text;
 use std::alloc::AllocError;
 
 /// The element in this frame, or in none.

@@ -1,7 +1,7 @@
 //! Laws on what a command gives, for all boards. They do nothing when they run.
 
 ghost use Rattle.std.specs.Prelude.{◌≡◌, ◌+◌, ◌⊎◌, ℕ, List, Option, Some, true, false, Contains, IsSomeAnd};
-ghost use Rattle.scene_json.specs.declared.text.Member.{Member};
+ghost use Rattle.json_text.specs.declared.text.Member.{Member};
 ghost use Rattle.frac_keys.specs.Rising.{are_rising};
 ghost use Rattle.elem.specs.ElementValue.{ElementValue};
 ghost use Rattle.elem.specs.Order.{unstamped};

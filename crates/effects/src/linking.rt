@@ -16,7 +16,7 @@ use crate::command::Side;
 use crate::kinds::{is_arrow, is_text};
 use board_io::List;
 use elem::{Binding, BoundRef, Element, Role};
-use scene_json::Text;
+use json_text::Text;
 use std::alloc::AllocError;
 
 /// A new binding of an end of an arrow, or none; and what doesn't list the arrow any more.

@@ -14,7 +14,7 @@ ghost use Rattle.effects.specs.Prepared.{HasKeys, settled_in};
 use crate::command::Spot;
 use elem::Element;
 use frac_keys::{Key, between};
-use scene_json::Text;
+use json_text::Text;
 use std::alloc::{AllocError, Global};
 use std::collections::BTreeMap;
 

@@ -5,7 +5,7 @@ ghost use Rattle.std.specs.BTreeMap.{get};
 ghost use Rattle.std.specs.Cmp.Lexicographic.{slice_cmp};
 ghost use Rattle.std.specs.Option.{option_flatten};
 ghost use Rattle.std.specs.Ordering.{nat_cmp};
-ghost use Rattle.scene_json.specs.Value.{IsCompact};
+ghost use Rattle.json_text.specs.Value.{IsCompact};
 ghost use Rattle.elem.specs.ElementValue.{ElementValue};
 ghost use Rattle.elem.specs.Facts.{IsBinding};
 ghost use Rattle.links.specs.Names.{is_id, target_of};
@@ -26,7 +26,7 @@ use board_io::List;
 use elem::{Binding, BoundRef, Element, Role};
 use elem_store::Store;
 use frac_keys::Key;
-use scene_json::{Member, Raw, Text};
+use json_text::{Member, Raw, Text};
 use std::alloc::{AllocError, Global};
 use std::collections::BTreeSet;
 

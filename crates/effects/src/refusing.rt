@@ -16,7 +16,7 @@ use crate::setting::is_protected;
 use board_io::{List, Stop};
 use elem::Element;
 use elem_store::Store;
-use scene_json::Text;
+use json_text::Text;
 
 /// Fails with the first cause for which the command is refused.
 pub(crate) fn check(

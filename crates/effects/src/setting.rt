@@ -3,15 +3,16 @@
 ghost use Rattle.std.specs.Prelude.{◌≡◌, Some, false, bytes_eq, length, ◌≤◌, slice_get, IfOk, OnOk};
 ghost use Rattle.std.specs.List.{list_any, prefix_len};
 ghost use Rattle.std.specs.Option.{option_map_or};
-ghost use Rattle.scene_json.specs.Value.{IsCompact};
+ghost use Rattle.json_text.specs.Value.{IsCompact};
 ghost use Rattle.frac_keys.specs.Keys.{bytes_less};
 ghost use Rattle.delta.specs.Rest.{with_value};
 ghost use Rattle.effects.specs.Settings.{given_value, with_set_member, is_protected};
 
 use board_io::List;
 use elem::Element;
+use json_text::{Member, Raw, Text};
 use restore_table::default_of;
-use scene_json::{Member, Raw, Text, is_null, is_one_of};
+use scene_json::{is_null, is_one_of};
 use std::alloc::{AllocError, Global};
 
 /// The names of the members that no value can be given.

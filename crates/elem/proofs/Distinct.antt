@@ -7,10 +7,10 @@ use Rattle.std.proofs.lemmas.Bool.{or_parts}
 use Rattle.std.proofs.lemmas.List.{map-append}
 use Rattle.std.proofs.lemmas.List.Folds.{list_any-append}
 use Rattle.std.proofs.lemmas.Map.Made.{IsDistinct-from_count}
-use Rattle.scene_json.specs.Compact.{Member as Pair}
-use Rattle.scene_json.specs.Members.{pairs}
-use Rattle.scene_json.specs.declared.text.Member.{Member}
-use Rattle.scene_json.proofs.Collapsed.{name_of, names_of, none_passes}
+use Rattle.json_text.specs.Compact.{Member as Pair}
+use Rattle.json_text.specs.Members.{pairs}
+use Rattle.json_text.specs.declared.text.Member.{Member}
+use Rattle.json_text.proofs.Collapsed.{name_of, names_of, none_passes}
 use Rattle.scene_json.proofs.Pairs.{names-pairs}
 use Rattle.frac_keys.specs.Keys.{bytes_less}
 use Rattle.frac_keys.specs.Rising.{are_rising}

@@ -4,20 +4,20 @@ use Rattle.std.specs.List.{AllByRecursion, list_any}
 use Rattle.std.proofs.lemmas.Bool.{or_parts, both_ways}
 use Rattle.std.proofs.lemmas.Map.Entries.{lookup_tail}
 use Rattle.std.specs.Prelude.{if◌then◌else◌}
-use Rattle.scene_json.specs.Characters.{quote}
-use Rattle.scene_json.specs.Tree.{null_word, true_word, false_word}
-use Rattle.scene_json.specs.Compact.{Member as Pair, array_text}
-use Rattle.scene_json.specs.Members.{pairs}
+use Rattle.json_text.specs.Characters.{quote}
+use Rattle.json_text.specs.Tree.{null_word, true_word, false_word}
+use Rattle.json_text.specs.Compact.{Member as Pair, array_text}
+use Rattle.json_text.specs.Members.{pairs}
+use Rattle.json_text.specs.Value.{IsCompact}
+use Rattle.json_text.specs.declared.text.Member.{Member}
 use Rattle.scene_json.specs.Named.{value_at, HaveRisingNames}
-use Rattle.scene_json.specs.Value.{IsCompact}
-use Rattle.scene_json.specs.declared.text.Member.{Member}
-use Rattle.scene_json.proofs.Collapsed.{bytes_eq-apart}
-use Rattle.scene_json.proofs.CompactLaws.{quote-compact}
+use Rattle.json_text.proofs.Collapsed.{bytes_eq-apart}
+use Rattle.json_text.proofs.CompactLaws.{quote-compact}
+use Rattle.json_text.proofs.Forms.{StartsWith, quote-starts, object-starts}
+use Rattle.json_text.proofs.Strings.{heads-differ}
 use Rattle.scene_json.proofs.Decimals.{value_of_decimal}
-use Rattle.scene_json.proofs.Forms.{StartsWith, quote-starts, object-starts}
 use Rattle.scene_json.proofs.Lookups.{IsBelow, rising_from, rising_none, rising_same}
 use Rattle.scene_json.proofs.Pairs.{names-pairs}
-use Rattle.scene_json.proofs.Strings.{heads-differ}
 use Rattle.frac_keys.specs.Keys.{is_key, bytes_less}
 use Rattle.frac_keys.specs.Rising.{are_rising}
 use Rattle.elem.specs.declared.kind.Kind.{Kind}

@@ -9,14 +9,14 @@ use Rattle.std.proofs.lemmas.List.{map-append, length-append, take_more}
 use Rattle.std.proofs.lemmas.List.Elements.{All-from_recursion, recursion_from_All}
 use Rattle.std.proofs.lemmas.List.Sorted.{All-permutation, IsPermutation-refl, IsPermutation-sym, IsPermutation-cons, IsPermutation-trans, IsPermutation-middle, IsPermutation-map, IsPermutation-append_comm, IsPermutation-append_left, IsPermutation-append_right}
 use Rattle.std.proofs.lemmas.Map.Keys.{IsDistinct-IsPermutation}
-use Rattle.scene_json.specs.Characters.{quote}
-use Rattle.scene_json.specs.Compact.{Member as Pair, member_text, object_text}
-use Rattle.scene_json.specs.Members.{pairs, pair_of}
-use Rattle.scene_json.specs.Value.{IsCompact}
-use Rattle.scene_json.specs.declared.text.Member.{Member}
-use Rattle.scene_json.proofs.Collapsed.{names_of}
-use Rattle.scene_json.proofs.CompactLaws.{object-compact}
-use Rattle.scene_json.proofs.Quoting.{join-push}
+use Rattle.json_text.specs.Characters.{quote}
+use Rattle.json_text.specs.Compact.{Member as Pair, member_text, object_text}
+use Rattle.json_text.specs.Members.{pairs, pair_of}
+use Rattle.json_text.specs.Value.{IsCompact}
+use Rattle.json_text.specs.declared.text.Member.{Member}
+use Rattle.json_text.proofs.Collapsed.{names_of}
+use Rattle.json_text.proofs.CompactLaws.{object-compact}
+use Rattle.json_text.proofs.Quoting.{join-push}
 use Rattle.frac_keys.specs.Keys.{bytes_less}
 use Rattle.elem.specs.Printing.{opened, IsBegun, mark, members_below, members_not_below, merged, AreSound}
 use Rattle.elem.specs.Texts.{sorted_members}

@@ -2,18 +2,17 @@
 use Rattle.std.proofs.Common.{◌≡◌, ℕ, List, [], ◌∷◌, ◌++◌, map, refl, sym, ap, ap₂, ◌∙◌, subst, lit≤, arith, drop, append_assoc, append-nil, IsUtf8, true, false}
 use Rattle.std.specs.List.{AllByRecursion, join_with_byte}
 use Rattle.std.proofs.lemmas.Bool.Decides.{nat_tests}
-use Rattle.scene_json.specs.Characters.{quote}
-use Rattle.scene_json.specs.Tree.{array, object}
-use Rattle.scene_json.specs.Compact.{Member as Pair, content, member_text, array_text, object_text}
-use Rattle.scene_json.specs.Parts.{AreMembers}
-use Rattle.scene_json.specs.Value.{IsCompact, Stands, extends_number, Follows}
-use Rattle.scene_json.specs.Walk.{IsEnd}
-use Rattle.scene_json.specs.Passes.{ends_value}
-use Rattle.scene_json.proofs.CompactLaws.{Value-deeper}
+use Rattle.json_text.specs.Characters.{quote, ends_value}
+use Rattle.json_text.specs.Tree.{array, object}
+use Rattle.json_text.specs.Compact.{Member as Pair, content, member_text, array_text, object_text}
+use Rattle.json_text.specs.Parts.{AreMembers}
+use Rattle.json_text.specs.Value.{IsCompact, Stands, extends_number, Follows}
+use Rattle.scene_json.specs.Passes.{IsEnd}
+use Rattle.json_text.proofs.CompactLaws.{Value-deeper}
+use Rattle.json_text.proofs.Reading.{Stands-once, tail-same}
+use Rattle.json_text.proofs.Strings.{utf8-Quotes, pieces-once, heads-differ}
 use Rattle.scene_json.proofs.ItemsLeft.{after_item, items-split, item-ends, closed-empty}
 use Rattle.scene_json.proofs.MembersLeft.{after_member}
-use Rattle.scene_json.proofs.Reading.{Stands-once, tail-same}
-use Rattle.scene_json.proofs.Strings.{utf8-Quotes, pieces-once, heads-differ}
 
 -- ---- strings
 quote-front : (a b r t : List ℕ) → IsUtf8 a → IsUtf8 b → quote a ++ r ≡ quote b ++ t → (a ≡ b) × (r ≡ t)

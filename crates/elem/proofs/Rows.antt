@@ -1,8 +1,8 @@
 -- The definitions tried on an element.
 use Rattle.std.proofs.Common.{◌≡◌, [], ◌∷◌, None, refl, codes, false}
 use Rattle.std.specs.Fmt.{digits}
-use Rattle.scene_json.specs.Characters.{quote}
-use Rattle.scene_json.specs.Compact.{array_text, object_text}
+use Rattle.json_text.specs.Characters.{quote}
+use Rattle.json_text.specs.Compact.{array_text, object_text}
 use Rattle.elem.specs.declared.kind.Kind.TheVariants.{Rectangle}
 use Rattle.elem.specs.ElementValue.{ElementValue}
 use Rattle.elem.specs.Texts.{element_members, element_text}

@@ -12,18 +12,18 @@ use Rattle.std.proofs.lemmas.Str.{IsUtf8-from_ascii}
 use Rattle.std.specs.Str.{IsAscii}
 use Rattle.std.specs.Prelude.{nat_lt}
 use Rattle.std.proofs.lemmas.Bool.Decides.{nat_tests}
-use Rattle.scene_json.specs.Characters.{quote}
-use Rattle.scene_json.specs.Compact.{Member as Pair, array_text}
-use Rattle.scene_json.specs.Members.{pairs}
+use Rattle.json_text.specs.Characters.{quote}
+use Rattle.json_text.specs.Compact.{Member as Pair, array_text}
+use Rattle.json_text.specs.Members.{pairs}
+use Rattle.json_text.specs.Parts.{names_of, AreMembers}
+use Rattle.json_text.specs.Tree.{null_word, true_word, false_word}
+use Rattle.json_text.specs.Value.{IsCompact}
+use Rattle.json_text.specs.declared.text.Member.{Member}
 use Rattle.scene_json.specs.Named.{value_at}
-use Rattle.scene_json.specs.Parts.{names_of, AreMembers}
-use Rattle.scene_json.specs.Tree.{null_word, true_word, false_word}
-use Rattle.scene_json.specs.Value.{IsCompact}
-use Rattle.scene_json.specs.declared.text.Member.{Member}
-use Rattle.scene_json.proofs.Collapsed.{bytes_eq-true}
-use Rattle.scene_json.proofs.CompactLaws.{Value-deeper, quote-compact, literal-compact, array-compact, object-compact}
+use Rattle.json_text.proofs.Collapsed.{bytes_eq-true}
+use Rattle.json_text.proofs.CompactLaws.{Value-deeper, quote-compact, literal-compact, array-compact, object-compact}
+use Rattle.json_text.proofs.Numbers.{decimal-number}
 use Rattle.scene_json.proofs.Lookups.{distinct_moved, same_moved}
-use Rattle.scene_json.proofs.Numbers.{decimal-number}
 use Rattle.scene_json.proofs.Pairs.{names-pairs}
 use Rattle.frac_keys.specs.Keys.{is_key}
 use Rattle.frac_keys.specs.Rising.{are_rising}

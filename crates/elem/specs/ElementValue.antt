@@ -1,6 +1,6 @@
 -- An element as contracts see it.
 use Rattle.std.specs.Prelude.{ℕ, Bool, List, Option}
-use Rattle.scene_json.specs.declared.text.Member.{Member}
+use Rattle.json_text.specs.declared.text.Member.{Member}
 use Rattle.elem.specs.declared.kind.Kind.{Kind}
 use Rattle.elem.specs.declared.parts.BoundRef.{BoundRef}
 use Rattle.elem.specs.declared.parts.Binding.{Binding}

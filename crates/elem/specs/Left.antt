@@ -1,8 +1,8 @@
 -- What is left of the text of an element that is read byte by byte. Only contracts of private functions cite this.
 use Rattle.std.specs.Prelude.{◌≡◌, ℕ, ◌<◌, List, [], ◌∷◌, ◌++◌, Bool, false, map, codes, length, if◌then◌else◌, decimal}
-use Rattle.scene_json.specs.Characters.{quote}
-use Rattle.scene_json.specs.Compact.{Member as Pair, member_text}
-use Rattle.scene_json.specs.declared.text.Member.{Member}
+use Rattle.json_text.specs.Characters.{quote}
+use Rattle.json_text.specs.Compact.{Member as Pair, member_text}
+use Rattle.json_text.specs.declared.text.Member.{Member}
 use Rattle.elem.specs.declared.cursor.Members.{Members as MembersLeft}
 use Rattle.elem.specs.declared.cursor.Members.TheVariants.{Open, Closed}
 use Rattle.elem.specs.declared.header.Header.{Header}

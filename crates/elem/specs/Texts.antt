@@ -1,9 +1,9 @@
 -- The text of an element.
 use Rattle.std.specs.Prelude.{ℕ, List, [], ◌∷◌, ◌++◌, Bool, true, false, Option, Some, None, map, codes, decimal, if◌then◌else◌}
-use Rattle.scene_json.specs.Characters.{quote}
-use Rattle.scene_json.specs.Tree.{null_word, true_word, false_word}
-use Rattle.scene_json.specs.Compact.{Member as Pair, array_text, object_text}
-use Rattle.scene_json.specs.Members.{pairs}
+use Rattle.json_text.specs.Characters.{quote}
+use Rattle.json_text.specs.Tree.{null_word, true_word, false_word}
+use Rattle.json_text.specs.Compact.{Member as Pair, array_text, object_text}
+use Rattle.json_text.specs.Members.{pairs}
 use Rattle.frac_keys.specs.Keys.{bytes_less}
 use Rattle.elem.specs.declared.kind.Kind.{Kind}
 use Rattle.elem.specs.declared.kind.Kind.TheVariants.{Rectangle, Diamond, Ellipse, Arrow, Line, Freedraw, Text, Image, Frame, Magicframe, Iframe, Embeddable, Other}

@@ -6,7 +6,7 @@ use crate::kind::{Kind, Role};
 use crate::parts::{Binding, BoundRef};
 use board_io::List;
 use frac_keys::Key;
-use scene_json::{Member, Raw, Text};
+use json_text::{Member, Raw, Text};
 
 /// Values that can be told apart without memory.
 pub(crate) trait Same {

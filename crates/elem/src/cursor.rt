@@ -1,7 +1,7 @@
 //! The bytes of an element's text, one after the other, without memory.
 
 ghost use Rattle.std.specs.Prelude.{◌≡◌, [], ◌∷◌, ◌++◌, MatchOption, if◌then◌else◌};
-ghost use Rattle.scene_json.specs.Compact.{member_text};
+ghost use Rattle.json_text.specs.Compact.{member_text};
 ghost use Rattle.elem.specs.declared.source.Source.{Source};
 ghost use Rattle.elem.specs.Left.{value_left, open_left, members_left, IsElementSource, Splits};
 ghost use Rattle.elem.specs.Printing.{header_pair};
@@ -12,7 +12,7 @@ use crate::header::{Header, headers_of};
 use crate::piece::Piece;
 use crate::source::Source;
 use crate::value::{Value, first_below, member_piece, object_end, object_mark, value_of};
-use scene_json::Member;
+use json_text::Member;
 use std::marker::Model;
 
 /// What is left of an element's text: of a piece of it, of the value that the piece belongs to, and its further members.

@@ -6,7 +6,7 @@ use crate::kind::Kind;
 use crate::parts::{Binding, BoundRef};
 use board_io::List;
 use frac_keys::Key;
-use scene_json::{Member, Text};
+use json_text::{Member, Text};
 use std::alloc::AllocError;
 use std::marker::Model;
 

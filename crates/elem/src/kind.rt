@@ -2,7 +2,7 @@
 
 ghost use Rattle.std.specs.Prelude.{◌≡◌, IfOk};
 
-use scene_json::Text;
+use json_text::Text;
 use std::alloc::AllocError;
 
 /// What an element is.

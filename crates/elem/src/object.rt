@@ -3,14 +3,15 @@
 ghost use Rattle.std.specs.Prelude.{◌≡◌, ℕ, ◌≤◌, List as Items, [], ◌∷◌, ◌++◌, IfOk, OnOk, OnErr, All, length};
 ghost use Rattle.std.specs.List.{prefix_len};
 ghost use Rattle.std.specs.Str.{IsUtf8};
-ghost use Rattle.scene_json.specs.Appending.{Extends};
-ghost use Rattle.scene_json.specs.Characters.{quote};
-ghost use Rattle.scene_json.specs.Compact.{Member as Pair};
-ghost use Rattle.scene_json.specs.Members.{pairs};
+ghost use Rattle.json_text.specs.Appending.{Extends};
+ghost use Rattle.json_text.specs.Characters.{quote};
+ghost use Rattle.json_text.specs.Compact.{Member as Pair};
+ghost use Rattle.json_text.specs.Members.{pairs};
 ghost use Rattle.frac_keys.specs.Keys.{bytes_less};
 ghost use Rattle.elem.specs.Printing.{IsBegun, mark, members_below, members_not_below};
 
-use scene_json::{Member, push_member, push_quoted};
+use json_text::{Member, push_quoted};
+use scene_json::push_member;
 use std::alloc::AllocError;
 
 /// Appends the first members, whose names are less than this one, and gives the others.

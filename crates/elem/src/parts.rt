@@ -4,7 +4,7 @@ ghost use Rattle.std.specs.Prelude.{◌≡◌, IfOk};
 
 use crate::kind::Role;
 use board_io::List;
-use scene_json::{Member, Text};
+use json_text::{Member, Text};
 use std::alloc::AllocError;
 
 /// An entry of an element's listing: the id of an arrow or a text that goes with the element.

@@ -1,9 +1,9 @@
 //! Stretches of an element's text that are read byte by byte.
 
 ghost use Rattle.std.specs.Prelude.{◌≡◌, [], ◌∷◌, ◌++◌, MatchOption};
-ghost use Rattle.scene_json.specs.Characters.{quote};
+ghost use Rattle.json_text.specs.Characters.{quote};
 
-use scene_json::QuoteBytes;
+use json_text::QuoteBytes;
 use std::marker::Model;
 
 /// What is left of a stretch: a mark, a quote, a colon, another quote, and bytes as they are.

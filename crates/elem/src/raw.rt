@@ -3,10 +3,10 @@
 ghost use Rattle.std.specs.Prelude.{◌≡◌, ◌≢◌, ℕ, ◌+◌, List as Items, [], ◌∷◌, ◌++◌, map, IfOk, OnOk, OnErr, IfSome, IsTrue, IsPermutation, All, length, ◌≤◌};
 ghost use Rattle.std.specs.List.{join_with_byte};
 ghost use Rattle.std.specs.Str.{IsUtf8};
-ghost use Rattle.scene_json.specs.Appending.{Extends};
-ghost use Rattle.scene_json.specs.Compact.{Member as Pair, object_text};
-ghost use Rattle.scene_json.specs.Members.{pairs};
-ghost use Rattle.scene_json.specs.Value.{IsCompact};
+ghost use Rattle.json_text.specs.Appending.{Extends};
+ghost use Rattle.json_text.specs.Compact.{Member as Pair, object_text};
+ghost use Rattle.json_text.specs.Members.{pairs};
+ghost use Rattle.json_text.specs.Value.{IsCompact};
 ghost use Rattle.frac_keys.specs.Rising.{are_rising};
 ghost use Rattle.elem.specs.Facts.{IsBinding};
 ghost use Rattle.elem.specs.Printing.{IsBegun, header_name, header_value, header_pair};
@@ -19,7 +19,8 @@ use crate::parts::Binding;
 use crate::values::{
     push_key, push_kind, push_listing, push_null, push_text, push_texts, push_truth,
 };
-use scene_json::{Raw, push_comma, push_quote, push_whole, raw_of, whole_or_cut};
+use json_text::{Raw, push_quote, whole_or_cut};
+use scene_json::{push_comma, push_whole, raw_of};
 use std::alloc::{AllocError, Global};
 
 /// The text of an element: the object of its header members and of all others, in the order of the bytes of their

@@ -1,9 +1,9 @@
 //! The value of a header member, read piece by piece.
 
 ghost use Rattle.std.specs.Prelude.{◌≡◌, ◌++◌, [], ◌∷◌, true, Some, false, map, MatchOption, IfSome, if◌then◌else◌, codes};
-ghost use Rattle.scene_json.specs.Characters.{quote};
-ghost use Rattle.scene_json.specs.Members.{pair_of};
-ghost use Rattle.scene_json.specs.Compact.{array_text, member_text};
+ghost use Rattle.json_text.specs.Characters.{quote};
+ghost use Rattle.json_text.specs.Members.{pair_of};
+ghost use Rattle.json_text.specs.Compact.{array_text, member_text};
 ghost use Rattle.frac_keys.specs.Keys.{bytes_less};
 ghost use Rattle.elem.specs.Facts.{IsBinding};
 ghost use Rattle.elem.specs.Printing.{members_below, header_value};
@@ -17,7 +17,7 @@ use crate::parts::{Binding, BoundRef};
 use crate::piece::Piece;
 use crate::source::Source;
 use frac_keys::Key;
-use scene_json::{Member, QuoteBytes, Text};
+use json_text::{Member, QuoteBytes, Text};
 
 /// What is left of the value of a header member, behind a piece of it. The truth tells that nothing of it was read.
 #[derive(Clone, Copy)]
@@ -268,7 +268,7 @@ fn entry_mark(first: bool) -> &'static [u8]
 }
 
 /// What stands behind the id of an entry of a listing.
-#[tactic(auto, unfolding(scene_json::specs::Characters::quote))]
+#[tactic(auto, unfolding(json_text::specs::Characters::quote))]
 fn role_end(role: Role) -> &'static [u8]
     ensures { result.now ≡ 44 ∷ (member_text (codes "type", quote (role_name role)) ++ 125 ∷ []) }
 {

@@ -1,11 +1,11 @@
 //! The compact texts of an element's parts.
 
 ghost use Rattle.std.specs.Prelude.{◌≡◌, ℕ, [], ◌∷◌, ◌++◌, map, codes, IfOk, OnOk, OnErr};
-ghost use Rattle.scene_json.specs.Appending.{Extends};
-ghost use Rattle.scene_json.specs.Characters.{quote};
-ghost use Rattle.scene_json.specs.Compact.{array_text};
-ghost use Rattle.scene_json.specs.Tree.{null_word};
-ghost use Rattle.scene_json.specs.Value.{IsCompact};
+ghost use Rattle.json_text.specs.Appending.{Extends};
+ghost use Rattle.json_text.specs.Characters.{quote};
+ghost use Rattle.json_text.specs.Compact.{array_text};
+ghost use Rattle.json_text.specs.Tree.{null_word};
+ghost use Rattle.json_text.specs.Value.{IsCompact};
 ghost use Rattle.elem.specs.Texts.{truth_text, text_or_null, kind_name, role_name, bound_text};
 
 use crate::kind::{Kind, Role};
@@ -13,7 +13,7 @@ use crate::object::begin_member;
 use crate::parts::BoundRef;
 use board_io::List;
 use frac_keys::Key;
-use scene_json::{Text, push_quote, push_quoted};
+use json_text::{Text, push_quote, push_quoted};
 use std::alloc::AllocError;
 
 /// Appends null.

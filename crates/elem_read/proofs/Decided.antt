@@ -3,17 +3,17 @@ use Rattle.std.proofs.Common.{◌≡◌, ◌≢◌, ◌⊎◌, inl, inr, ℕ, ze
 use Rattle.std.specs.List.{AllByRecursion, list_any}
 use Rattle.std.proofs.lemmas.Bool.{cases_Bool, cases_lt, or_parts, or_from, both_ways}
 use Rattle.std.proofs.lemmas.Map.Entries.{lookup_tail}
-use Rattle.scene_json.specs.Characters.{quote}
-use Rattle.scene_json.specs.Compact.{Member as Pair, array_text, object_text}
-use Rattle.scene_json.specs.Members.{pairs}
+use Rattle.json_text.specs.Characters.{quote}
+use Rattle.json_text.specs.Compact.{Member as Pair, array_text, object_text}
+use Rattle.json_text.specs.Members.{pairs}
+use Rattle.json_text.specs.Parts.{AreMembers, names_of}
+use Rattle.json_text.specs.Tree.{null_word, true_word, false_word}
+use Rattle.json_text.specs.Value.{IsCompact}
+use Rattle.json_text.specs.declared.text.Member.{Member}
 use Rattle.scene_json.specs.Named.{value_at, HaveRisingNames}
-use Rattle.scene_json.specs.Parts.{AreMembers, names_of}
-use Rattle.scene_json.specs.Tree.{null_word, true_word, false_word}
-use Rattle.scene_json.specs.Value.{IsCompact}
-use Rattle.scene_json.specs.declared.text.Member.{Member}
-use Rattle.scene_json.proofs.Collapsed.{bytes_eq-true, bytes_eq-same}
-use Rattle.scene_json.proofs.CompactLaws.{Value-deeper}
-use Rattle.scene_json.proofs.Decided.{string-or-not, array-or-not, object-or-not}
+use Rattle.json_text.proofs.Collapsed.{bytes_eq-true, bytes_eq-same}
+use Rattle.json_text.proofs.CompactLaws.{Value-deeper}
+use Rattle.json_text.proofs.Decided.{string-or-not, array-or-not, object-or-not}
 use Rattle.scene_json.proofs.Rising.{tabled}
 use Rattle.frac_keys.specs.Keys.{is_key}
 use Rattle.elem.specs.declared.kind.Kind.{Kind}

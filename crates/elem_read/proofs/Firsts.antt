@@ -1,7 +1,7 @@
 -- The first fault of members is the first part that can't be read.
 use Rattle.std.proofs.Common.{◌≡◌, ◌⊎◌, inl, inr, ℕ, suc, ◌<◌, eqb, List, Option, None, Bool, true, false, if◌then◌else◌, Err, codes, refl, sym, ap, subst, ◌∙◌, arith, bytes_eq, lit<}
 use Rattle.std.proofs.lemmas.Bool.{cases_lt}
-use Rattle.scene_json.proofs.Collapsed.{bytes_eq-true, bytes_eq-same}
+use Rattle.json_text.proofs.Collapsed.{bytes_eq-true, bytes_eq-same}
 use Rattle.board_io.specs.declared.stop.Stop.{Stop}
 use Rattle.board_io.specs.declared.stop.Stop.TheVariants.{Fault, Memory}
 use Rattle.elem.specs.declared.kind.Kind as kinds

@@ -1,11 +1,11 @@
 -- A value is read in one way alone, whatever the order of its members.
 use Rattle.std.proofs.Common.{◌≡◌, ℕ, List, [], ◌∷◌, Some, refl, sym, ap, subst, ◌∙◌, codes, lit≤}
 use Rattle.std.specs.List.{AllByRecursion}
-use Rattle.scene_json.specs.Compact.{Member as Pair}
+use Rattle.json_text.specs.Compact.{Member as Pair}
+use Rattle.json_text.specs.Parts.{AreMembers}
+use Rattle.json_text.specs.Value.{IsCompact}
 use Rattle.scene_json.specs.Named.{value_at, AreSameMembers}
-use Rattle.scene_json.specs.Parts.{AreMembers}
-use Rattle.scene_json.specs.Value.{IsCompact}
-use Rattle.scene_json.proofs.CompactLaws.{object-compact}
+use Rattle.json_text.proofs.CompactLaws.{object-compact}
 use Rattle.restore_table.specs.Restored.{AreRestored}
 use Rattle.restore_table.proofs.RestoredLaws.{restored-unique, restored-order}
 use Rattle.elem.specs.ElementValue.{ElementValue}

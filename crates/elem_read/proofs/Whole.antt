@@ -6,19 +6,19 @@ use Rattle.std.specs.List.{AllByRecursion, list_all, list_any}
 use Rattle.std.proofs.lemmas.Map.Made.{IsDistinct-from_count}
 use Rattle.std.proofs.lemmas.Bool.{or_parts, or_from, both_ways, cases_Bool, cond-true, cond-false, false≢true, and_parts}
 use Rattle.std.proofs.lemmas.Option.{none-some}
-use Rattle.scene_json.specs.Characters.{quote}
-use Rattle.scene_json.specs.Compact.{Member as Pair, array_text}
-use Rattle.scene_json.specs.Members.{pairs}
+use Rattle.json_text.specs.Characters.{quote}
+use Rattle.json_text.specs.Compact.{Member as Pair, array_text}
+use Rattle.json_text.specs.Members.{pairs}
+use Rattle.json_text.specs.Parts.{AreMembers}
+use Rattle.json_text.specs.Tree.{null_word}
+use Rattle.json_text.specs.Value.{IsCompact}
 use Rattle.scene_json.specs.Named.{value_at, HaveRisingNames}
-use Rattle.scene_json.specs.Parts.{AreMembers}
 use Rattle.scene_json.specs.TheOne.{IsTheOne}
-use Rattle.scene_json.specs.Tree.{null_word}
-use Rattle.scene_json.specs.Value.{IsCompact}
-use Rattle.scene_json.proofs.Collapsed.{bytes_eq-true, bytes_eq-same}
-use Rattle.scene_json.proofs.CompactLaws.{Value-deeper, quote-compact, array-compact, object-compact}
+use Rattle.json_text.proofs.Collapsed.{bytes_eq-true, bytes_eq-same}
+use Rattle.json_text.proofs.CompactLaws.{Value-deeper, quote-compact, array-compact, object-compact}
+use Rattle.json_text.proofs.Forms.{array-starts}
+use Rattle.json_text.proofs.Strings.{heads-differ}
 use Rattle.scene_json.proofs.Decimals.{digit_of_decimal}
-use Rattle.scene_json.proofs.Forms.{array-starts}
-use Rattle.scene_json.proofs.Strings.{heads-differ}
 use Rattle.restore_table.specs.Restored.{filled, arrow_text, listing_text, listing_at, listing_name, old_name, HasOldListing, AreRestored, LackNothing}
 use Rattle.restore_table.specs.Table.{defaults}
 use Rattle.restore_table.proofs.RestoredLaws.{restored-lack}

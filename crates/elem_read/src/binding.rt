@@ -2,10 +2,10 @@
 
 ghost use Rattle.std.specs.Prelude.{◌≡◌, All, IfOk, IfSome, codes, bytes_eq, map};
 ghost use Rattle.std.specs.List.{IsDistinct};
-ghost use Rattle.scene_json.specs.Members.{pairs};
+ghost use Rattle.json_text.specs.Members.{pairs};
+ghost use Rattle.json_text.specs.Parts.{AreMembers};
+ghost use Rattle.json_text.specs.Value.{IsCompact};
 ghost use Rattle.scene_json.specs.Named.{value_at};
-ghost use Rattle.scene_json.specs.Parts.{AreMembers};
-ghost use Rattle.scene_json.specs.Value.{IsCompact};
 ghost use Rattle.elem.specs.Facts.{IsBinding, AllNest};
 ghost use Rattle.elem.specs.Forms.{find_in, AreOthers, IsBindingOrNull};
 ghost use Rattle.elem.specs.Said.{IsOwn};
@@ -15,7 +15,8 @@ ghost use Rattle.elem_read.specs.declared.fault.ElemFault.TheVariants as faults;
 use crate::fault::ElemFault;
 use board_io::{List, Stop};
 use elem::Binding;
-use scene_json::{Member, is_null, members, shaped, text_named, value_named};
+use json_text::Member;
+use scene_json::{is_null, members, shaped, text_named, value_named};
 use std::alloc::{AllocError, Global};
 
 /// The member in which a binding names its target.

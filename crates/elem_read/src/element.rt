@@ -1,9 +1,9 @@
 //! The element that members say.
 
 ghost use Rattle.std.specs.Prelude.{◌≡◌, ◌≢◌, Err, IfOk, All, codes, Some, map};
-ghost use Rattle.scene_json.specs.Members.{pairs};
+ghost use Rattle.json_text.specs.Members.{pairs};
+ghost use Rattle.json_text.specs.Value.{IsCompact};
 ghost use Rattle.scene_json.specs.Named.{value_at, HaveRisingNames};
-ghost use Rattle.scene_json.specs.Value.{IsCompact};
 ghost use Rattle.elem.specs.Forms.{find_in};
 ghost use Rattle.elem.specs.Said.{Says};
 ghost use Rattle.elem_read.specs.Faults.{IsFirst};
@@ -17,7 +17,7 @@ use crate::kinds::{is_arrow, is_image, is_text, kind, others};
 use crate::listing::listing;
 use board_io::{List, Stop};
 use elem::Element;
-use scene_json::Member;
+use json_text::Member;
 use std::alloc::Global;
 
 /// The element that restored members say, or the first fault of them.

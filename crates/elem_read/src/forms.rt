@@ -1,7 +1,7 @@
 //! Header members of one form each.
 
 ghost use Rattle.std.specs.Prelude.{◌≡◌, codes};
-ghost use Rattle.scene_json.specs.Members.{pairs};
+ghost use Rattle.json_text.specs.Members.{pairs};
 ghost use Rattle.scene_json.specs.Named.{value_at};
 ghost use Rattle.elem.specs.Forms.{IsText, IsId, IsWholeNumber, IsTruth, IsTextOrNull, IsKeyOrNull, AreTexts};
 ghost use Rattle.elem.specs.Said.{IsOwn};
@@ -11,9 +11,9 @@ ghost use Rattle.elem_read.specs.declared.fault.ElemFault.TheVariants as faults;
 use crate::fault::ElemFault;
 use board_io::{List, Stop};
 use frac_keys::Key;
+use json_text::{Member, Text};
 use scene_json::{
-    Member, Text, is_null, shaped, text_named, text_of, texts_of, truth_named, value_named,
-    whole_named,
+    is_null, shaped, text_named, text_of, texts_of, truth_named, value_named, whole_named,
 };
 use std::alloc::{AllocError, Global};
 

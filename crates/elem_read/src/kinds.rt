@@ -2,7 +2,7 @@
 
 ghost use Rattle.std.specs.Prelude.{◌≡◌, ◌≢◌, ◌↔◌, Some, IsTrue, codes, not, filter, bytes_eq};
 ghost use Rattle.std.specs.List.{list_any};
-ghost use Rattle.scene_json.specs.Members.{pairs};
+ghost use Rattle.json_text.specs.Members.{pairs};
 ghost use Rattle.scene_json.specs.Named.{value_at};
 ghost use Rattle.elem.specs.Facts as facts;
 ghost use Rattle.elem.specs.Facts.{IsKind, own_names};
@@ -17,7 +17,8 @@ use crate::fault::ElemFault;
 use crate::forms::text;
 use board_io::{List, Stop};
 use elem::Kind;
-use scene_json::{Member, Text, is_one_of};
+use json_text::{Member, Text};
+use scene_json::is_one_of;
 use std::alloc::Global;
 
 /// The header members that all kinds have.

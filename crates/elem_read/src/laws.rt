@@ -2,9 +2,9 @@
 
 ghost use Rattle.std.specs.Prelude.{◌≡◌, ◌⊎◌, List, ℕ, All, map};
 ghost use Rattle.std.specs.List.{AllByRecursion};
-ghost use Rattle.scene_json.specs.Compact.{Member};
+ghost use Rattle.json_text.specs.Compact.{Member};
+ghost use Rattle.json_text.specs.Value.{IsCompact};
 ghost use Rattle.scene_json.specs.Named.{AreSameMembers};
-ghost use Rattle.scene_json.specs.Value.{IsCompact};
 ghost use Rattle.elem.specs.ElementValue.{ElementValue};
 ghost use Rattle.elem.specs.Facts.{IsElement};
 ghost use Rattle.elem.specs.Forms.{IsObject};

@@ -1,7 +1,7 @@
 //! Listings.
 
 ghost use Rattle.std.specs.Prelude.{◌≡◌, codes, IfOk, OnOk, MatchOption};
-ghost use Rattle.scene_json.specs.Members.{pairs};
+ghost use Rattle.json_text.specs.Members.{pairs};
 ghost use Rattle.scene_json.specs.Named.{value_at};
 ghost use Rattle.scene_json.specs.TheOne.{IsTheOne};
 ghost use Rattle.elem.specs.Forms.{IsText, IsListingEntry, AreListingEntries, IsListing};
@@ -13,7 +13,8 @@ ghost use Rattle.elem_read.specs.declared.fault.ElemFault.TheVariants as faults;
 use crate::fault::ElemFault;
 use board_io::{List, Stop};
 use elem::{BoundRef, Role};
-use scene_json::{Member, Raw, has_value, items, members, shaped, text_named, value_named};
+use json_text::{Member, Raw};
+use scene_json::{has_value, items, members, shaped, text_named, value_named};
 use std::alloc::{AllocError, Global};
 
 /// The listing: the entries of an array. What has another form is dropped.

@@ -10,8 +10,9 @@ use crate::element::element_of;
 use crate::fault::{ElemFault, FaultyElement};
 use board_io::{List, Stop};
 use elem::Element;
+use json_text::Raw;
 use restore_table::into_restored;
-use scene_json::{Raw, has_value, members, nests_at_most, shaped};
+use scene_json::{has_value, members, nests_at_most, shaped};
 use std::alloc::Global;
 
 /// How many brackets may be open at once in an element, its own counted.

@@ -6,7 +6,7 @@ ghost use Rattle.elem_store.specs.Places.{elements_at, order_at, AreInOrder, IsA
 
 use crate::indexed::Places;
 use elem::{Element, beats};
-use scene_json::Text;
+use json_text::Text;
 use std::alloc::AllocError;
 use std::cmp::Ordering;
 

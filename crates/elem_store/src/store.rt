@@ -11,7 +11,7 @@ use crate::places::{add, find_place, replace_beaten};
 use crate::telling::tell;
 use board_io::List;
 use elem::Element;
-use scene_json::Text;
+use json_text::Text;
 use std::alloc::{AllocError, Global};
 use std::marker::Model;
 

@@ -12,7 +12,7 @@ ghost use Rattle.elem.specs.declared.parts.BoundRef.{BoundRef};
 use board_io::List;
 use elem::{Binding, BoundRef, Element, Kind};
 use frac_keys::Key;
-use scene_json::{Member, Text};
+use json_text::{Member, Text};
 
 /// An element is one, and its texts are texts.
 pub fn tell(e: &Element)

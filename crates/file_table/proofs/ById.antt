@@ -6,11 +6,11 @@ use Rattle.std.specs.List.Sorted.{IsPermutation}
 use Rattle.std.specs.declared.cmp.Ordering.TheVariants.{Less}
 use Rattle.std.proofs.lemmas.Bool.{cases_Bool, false≢true}
 use Rattle.std.proofs.lemmas.List.Sorted.{IsPermutation-sym, IsPermutation-trans}
-use Rattle.scene_json.specs.Compact.{Member as Pair}
+use Rattle.json_text.specs.Compact.{Member as Pair}
+use Rattle.json_text.specs.Parts.{names_of}
+use Rattle.json_text.specs.Value.{IsCompact}
 use Rattle.scene_json.specs.Named.{value_at, HaveRisingNames}
-use Rattle.scene_json.specs.Parts.{names_of}
-use Rattle.scene_json.specs.Value.{IsCompact}
-use Rattle.scene_json.proofs.Collapsed.{bytes_eq-true}
+use Rattle.json_text.proofs.Collapsed.{bytes_eq-true}
 use Rattle.scene_json.proofs.Lookups.{IsBelow, rising_parts, rising_from, rising_none}
 use Rattle.frac_keys.specs.Keys.{bytes_less}
 use Rattle.elem.specs.Texts.{with_member, sorted_members}

@@ -9,13 +9,13 @@ use Rattle.std.proofs.lemmas.List.Prefix.{front_rest}
 use Rattle.base64.specs.Engines.{standard}
 use Rattle.base64.specs.GeneralPurpose.{decode_of}
 use Rattle.base64.specs.declared.decode.DecodeError.{DecodeError}
-use Rattle.scene_json.specs.Characters.{quote}
-use Rattle.scene_json.specs.Compact.{Member as Pair, object_text}
+use Rattle.json_text.specs.Characters.{quote}
+use Rattle.json_text.specs.Compact.{Member as Pair, object_text}
+use Rattle.json_text.specs.Parts.{AreMembers, names_of}
+use Rattle.json_text.specs.Value.{IsCompact}
 use Rattle.scene_json.specs.Named.{value_at}
-use Rattle.scene_json.specs.Parts.{AreMembers, names_of}
-use Rattle.scene_json.specs.Value.{IsCompact}
-use Rattle.scene_json.proofs.CompactLaws.{Value-deeper}
-use Rattle.scene_json.proofs.Decided.{string-or-not, object-or-not}
+use Rattle.json_text.proofs.CompactLaws.{Value-deeper}
+use Rattle.json_text.proofs.Decided.{string-or-not, object-or-not}
 use Rattle.scene_json.proofs.Rising.{tabled}
 use Rattle.elem.proofs.Once.{object-once, quote-once}
 use Rattle.file_table.specs.Picture.{IsDataUrl, HasUrl, HasData, IsPictureSize}

@@ -5,10 +5,10 @@ use Rattle.std.specs.List.{IsDistinct}
 use Rattle.std.proofs.lemmas.Bool.{cases_Bool, both_ways, cond-true, cond-false}
 use Rattle.std.proofs.lemmas.Slice.Eq.{bytes_eq-Decides}
 use Rattle.indexmap.specs.IndexMap.{insert_entry}
-use Rattle.scene_json.specs.Compact.{Member as Pair}
+use Rattle.json_text.specs.Compact.{Member as Pair}
+use Rattle.json_text.specs.Parts.{names_of}
+use Rattle.json_text.specs.Value.{IsCompact}
 use Rattle.scene_json.specs.Named.{value_at, HaveRisingNames}
-use Rattle.scene_json.specs.Parts.{names_of}
-use Rattle.scene_json.specs.Value.{IsCompact}
 use Rattle.frac_keys.specs.Keys.{bytes_less}
 use Rattle.file_table.specs.Table.{takes_place, least_entry, AreLeastEntries, EntriesNest, HaveFiles}
 use Rattle.elem.specs.Texts.{sorted_members}

@@ -2,10 +2,10 @@
 -- project's own.
 use Rattle.std.specs.Prelude.{◌≡◌, ℕ, List, [], ◌∷◌, Bool, true, false, Option, Some, None, Contains, bytes_eq, if◌then◌else◌}
 use Rattle.std.specs.List.{AllByRecursion, IsDistinct}
-use Rattle.scene_json.specs.Compact.{Member as Pair}
+use Rattle.json_text.specs.Compact.{Member as Pair}
+use Rattle.json_text.specs.Parts.{names_of}
+use Rattle.json_text.specs.Value.{IsCompact}
 use Rattle.scene_json.specs.Named.{value_at, HaveRisingNames}
-use Rattle.scene_json.specs.Parts.{names_of}
-use Rattle.scene_json.specs.Value.{IsCompact}
 use Rattle.frac_keys.specs.Keys.{bytes_less}
 
 -- an entry, or another one that is less than it by its bytes

@@ -2,11 +2,11 @@
 
 ghost use Rattle.std.specs.Prelude.{◌≡◌, List as Items, [], ◌∷◌, ◌++◌, IfOk, OnOk, OnErr, bytes_eq};
 ghost use Rattle.std.specs.List.{IsDistinct};
-ghost use Rattle.scene_json.specs.Compact.{Member as Pair};
-ghost use Rattle.scene_json.specs.Members.{pairs};
+ghost use Rattle.json_text.specs.Compact.{Member as Pair};
+ghost use Rattle.json_text.specs.Members.{pairs};
+ghost use Rattle.json_text.specs.Parts.{names_of};
+ghost use Rattle.json_text.specs.Value.{IsCompact};
 ghost use Rattle.scene_json.specs.Named.{HaveRisingNames};
-ghost use Rattle.scene_json.specs.Parts.{names_of};
-ghost use Rattle.scene_json.specs.Value.{IsCompact};
 ghost use Rattle.file_table.specs.Table.{AreLeastEntries, EntriesNest};
 ghost use Rattle.file_table.specs.References.{referred_files};
 
@@ -15,7 +15,7 @@ use crate::table::{Entries, keep_lesser, members_by_id};
 use board_io::List;
 use elem::Element;
 use first_texts::first_occurrences;
-use scene_json::{Member, Raw, Text};
+use json_text::{Member, Raw, Text};
 use std::alloc::{AllocError, Global};
 use std::hash::BuildHasherDefault;
 use std::marker::Model;
@@ -29,7 +29,7 @@ pub struct Files {
 
 impl Model for Files {
     ghost use Rattle.std.specs.Prelude.{List as Items};
-    ghost use Rattle.scene_json.specs.Compact.{Member as Pair};
+    ghost use Rattle.json_text.specs.Compact.{Member as Pair};
     ghost use Rattle.elem.specs.Texts.{sorted_members};
     ghost use Rattle.file_table.specs.Table.{HaveFiles};
 

@@ -2,10 +2,10 @@
 
 ghost use Rattle.std.specs.Prelude.{◌≡◌, ◌↔◌, ◌⊎◌, ℕ, List, [], ◌++◌, None, Some, is_some, filter, bytes_eq, if◌then◌else◌, Contains};
 ghost use Rattle.std.specs.List.{list_any};
-ghost use Rattle.scene_json.specs.Compact.{Member as Pair};
+ghost use Rattle.json_text.specs.Compact.{Member as Pair};
+ghost use Rattle.json_text.specs.Parts.{names_of};
+ghost use Rattle.json_text.specs.Value.{IsCompact};
 ghost use Rattle.scene_json.specs.Named.{HaveRisingNames, value_at};
-ghost use Rattle.scene_json.specs.Parts.{names_of};
-ghost use Rattle.scene_json.specs.Value.{IsCompact};
 ghost use Rattle.first_texts.specs.FirstOccurrences.{first_texts};
 ghost use Rattle.elem.specs.ElementValue.{ElementValue};
 ghost use Rattle.file_table.specs.References.{references, referred_files};

@@ -10,7 +10,8 @@ ghost use Rattle.file_table.specs.Picture.{IsDataUrl, HasUrl, HasData, IsPicture
 use base64::DecodeAllocError;
 use base64::engine::general_purpose::STANDARD;
 use board_io::Stop;
-use scene_json::{Raw, Text, members, shaped, text_named};
+use json_text::{Raw, Text};
+use scene_json::{members, shaped, text_named};
 use std::alloc::{AllocError, Global};
 
 /// Why a file's entry has no picture whose size can be told.

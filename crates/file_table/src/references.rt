@@ -1,13 +1,13 @@
 //! The files that elements name.
 
 ghost use Rattle.std.specs.Prelude.{◌≡◌, IfOk, filter_map};
-ghost use Rattle.scene_json.specs.Members.{pairs};
+ghost use Rattle.json_text.specs.Members.{pairs};
 ghost use Rattle.file_table.specs.References as specs;
 ghost use Rattle.file_table.specs.References.{file_of};
 
 use crate::table::{Entries, entry_of};
 use elem::Element;
-use scene_json::{Member, Text};
+use json_text::{Member, Text};
 use std::alloc::{AllocError, Global};
 
 /// The ids of files that elements name, in the order of the elements.

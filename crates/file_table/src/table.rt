@@ -1,14 +1,14 @@
 //! Entries by their ids.
 
 ghost use Rattle.std.specs.Prelude.{◌≡◌, [], ◌∷◌, ◌++◌, IfOk, OnOk, OnErr, option_copied};
+ghost use Rattle.json_text.specs.Members.{pair_of, pairs};
+ghost use Rattle.json_text.specs.Value.{IsCompact};
 ghost use Rattle.scene_json.specs.Named.{value_at};
-ghost use Rattle.scene_json.specs.Members.{pair_of, pairs};
-ghost use Rattle.scene_json.specs.Value.{IsCompact};
 ghost use Rattle.elem.specs.Texts.{sorted_members};
 ghost use Rattle.file_table.specs.Table.{takes_place, AreLeastEntries, HaveFiles};
 
 use indexmap::IndexMap;
-use scene_json::{Member, Raw, Text};
+use json_text::{Member, Raw, Text};
 use std::alloc::{AllocError, Global};
 use std::hash::{BuildHasherDefault, DefaultHasher};
 

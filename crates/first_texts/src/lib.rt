@@ -8,7 +8,7 @@ ghost use Rattle.first_texts.specs.FirstOccurrences as first;
 pub mod laws;
 
 use indexmap::IndexSet;
-use scene_json::Text;
+use json_text::Text;
 use std::alloc::{AllocError, Global};
 use std::hash::{BuildHasherDefault, DefaultHasher};
 

@@ -8,7 +8,7 @@ ghost use Rattle.frames_groups.specs.Frames.{is_frame, has_frame, keeps_frame, w
 
 use board_io::List;
 use elem::{Element, Kind};
-use scene_json::Text;
+use json_text::Text;
 use std::alloc::{AllocError, Global};
 use std::collections::BTreeSet;
 

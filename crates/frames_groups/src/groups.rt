@@ -7,7 +7,7 @@ ghost use Rattle.frames_groups.specs.Groups.{with_groups, grouped, groups_settle
 use board_io::List;
 use elem::Element;
 use first_texts::first_occurrences;
-use scene_json::Text;
+use json_text::Text;
 use std::alloc::{AllocError, Global};
 
 /// The elements, each in its groups once, in the order in which these first stand. Fails only for want of memory.

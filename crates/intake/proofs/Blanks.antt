@@ -3,9 +3,9 @@ use Rattle.std.proofs.Common.{◌≡◌, inl, inr, ℕ, ◌+◌, ◌<◌, ◌≤
 use Rattle.std.specs.List.{prefix_len}
 use Rattle.std.proofs.lemmas.Bool.{both_ways, false_from_ne_true, and_parts, cases_Bool}
 use Rattle.std.proofs.lemmas.List.Folds.{list_all-append}
-use Rattle.scene_json.specs.Characters.{is_blank, is_space}
-use Rattle.scene_json.specs.Value.{Stands}
-use Rattle.scene_json.proofs.Reading.{tree-Head, begins-no-space}
+use Rattle.json_text.specs.Characters.{is_blank, is_space}
+use Rattle.json_text.specs.Value.{Stands}
+use Rattle.json_text.proofs.Reading.{tree-Head, begins-no-space}
 
 -- white space before the rest is white space
 blank-front : (xs ys : List ℕ) → is_blank (xs ++ ys) ≡ true → (is_blank xs ≡ true) × (is_blank ys ≡ true)

@@ -4,14 +4,14 @@ use Rattle.std.specs.Prelude.{is_none, is_some}
 use Rattle.std.specs.List.{prefix_len}
 use Rattle.std.proofs.lemmas.Bool.{false≢true, both_ways}
 use Rattle.std.proofs.lemmas.List.{drop-append-le, drop_all}
-use Rattle.scene_json.specs.Characters.{is_blank, is_space}
-use Rattle.scene_json.specs.Value.{Stands}
-use Rattle.scene_json.specs.Faults.{IsFirstFault}
-use Rattle.scene_json.specs.Feeding.{Feeding, IsAt, behind_space}
-use Rattle.scene_json.specs.declared.fault.JsonFault.{JsonFault}
-use Rattle.scene_json.specs.declared.fault.JsonFault.TheVariants.{Syntax}
-use Rattle.scene_json.proofs.Escapes.{prefix-run}
-use Rattle.scene_json.proofs.Feeds.{behind-blank, blank-behind}
+use Rattle.json_text.specs.Characters.{is_blank, is_space}
+use Rattle.json_text.specs.Value.{Stands}
+use Rattle.json_reader.specs.Faults.{IsFirstFault}
+use Rattle.json_reader.specs.Feeding.{Feeding, IsAt, behind_space}
+use Rattle.json_reader.specs.declared.fault.JsonFault.{JsonFault}
+use Rattle.json_reader.specs.declared.fault.JsonFault.TheVariants.{Syntax}
+use Rattle.json_text.proofs.Escapes.{prefix-run}
+use Rattle.json_reader.proofs.Feeds.{behind-blank, blank-behind}
 use Rattle.intake.specs.declared.reading.Stopped.{Stopped}
 use Rattle.intake.specs.Texts.{Reading, TextsLead, HasReadTo, HasTexts, HasFaultBehind, HasRefusedBehind, HasExtraBehind, IsStopped, AreRead, IsLed, StandsIn}
 use Rattle.intake.proofs.Blanks.{blank-more, blank-both, stands-begun, blank-not, first-more}

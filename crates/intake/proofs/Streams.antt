@@ -3,7 +3,7 @@ use Rattle.std.proofs.Common.{◌≡◌, ℕ, ◌+◌, ◌≤◌, List, [], ◌+
 use Rattle.std.specs.Option.{option_map}
 use Rattle.board_io.specs.Ends.{SourceEnd, Gave}
 use Rattle.board_io.proofs.Moved.{Gave-more}
-use Rattle.scene_json.specs.Feeding.{Feeding}
+use Rattle.json_reader.specs.Feeding.{Feeding}
 use Rattle.intake.specs.declared.reading.Stopped.{Stopped}
 use Rattle.intake.specs.Texts.{Reading, StandsIn}
 

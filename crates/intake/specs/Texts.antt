@@ -1,11 +1,11 @@
 -- The texts of an input that comes in pieces. This project's own.
 use Rattle.std.specs.Prelude.{◌≡◌, ◌⊎◌, ℕ, ◌+◌, ◌<◌, ◌≤◌, List, [], ◌∷◌, ◌++◌, Bool, true, false, Option, None, Some, length, drop}
 use Rattle.std.specs.List.{prefix_len}
-use Rattle.scene_json.specs.Characters.{is_blank, is_space}
-use Rattle.scene_json.specs.Faults.{IsFirstFault}
-use Rattle.scene_json.specs.Feeding.{Feeding, IsAt}
-use Rattle.scene_json.specs.Value.{Stands}
-use Rattle.scene_json.specs.declared.fault.JsonFault.{JsonFault}
+use Rattle.json_text.specs.Characters.{is_blank, is_space}
+use Rattle.json_text.specs.Value.{Stands}
+use Rattle.json_reader.specs.Faults.{IsFirstFault}
+use Rattle.json_reader.specs.Feeding.{Feeding, IsAt}
+use Rattle.json_reader.specs.declared.fault.JsonFault.{JsonFault}
 use Rattle.intake.specs.declared.reading.Stopped.{Stopped}
 use Rattle.intake.specs.declared.reading.Stopped.TheVariants.{Faulty, Refused, Extra}
 

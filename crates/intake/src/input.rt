@@ -7,7 +7,7 @@ ghost use Rattle.intake.specs.Texts.{StandsIn, AreRead};
 
 use crate::reading::{Reader, Stopped, finish, take_piece};
 use board_io::{Failed, ReadError, Source, Stop};
-use scene_json::Feed;
+use json_reader::Feed;
 use std::alloc::{AllocError, Global};
 
 /// How many bytes are asked of a source at once.

@@ -5,7 +5,8 @@ ghost use Rattle.intake.specs.Texts.{Reading, IsLed, IsStopped, StandsIn, AreRea
 ghost use Rattle.intake.specs.declared.reading.Stopped.{Stopped};
 
 use board_io::Stop;
-use scene_json::{Fed, Feed, JsonFault, Raw, skip_space};
+use json_reader::{Fed, Feed, JsonFault};
+use json_text::{Raw, skip_space};
 use std::alloc::{AllocError, Global};
 
 /// What is made of texts, one after the other.

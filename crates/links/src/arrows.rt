@@ -13,7 +13,7 @@ use crate::names::{Names, ends_of};
 use crate::parts::{bound_of, has_end_at, id_of, is_target};
 use board_io::List;
 use elem::{BoundRef, Element, Role};
-use scene_json::Text;
+use json_text::Text;
 use std::alloc::{AllocError, Global};
 
 /// What settling an element's links changes: which ends it keeps, and its listing.

@@ -7,7 +7,7 @@ ghost use Rattle.links.specs.Rows.{has_row, same_row, is_for, is_namer, namer_of
 use crate::row_places::{ends_of, insert, place_of, take_out_namer};
 use crate::rows::LinkRow;
 use board_io::List;
-use scene_json::Text;
+use json_text::Text;
 use std::alloc::{AllocError, Global};
 use std::marker::Model;
 

@@ -4,7 +4,7 @@ ghost use Rattle.std.specs.Prelude.{◌≡◌, ℕ, List as Items, [], ◌∷◌
 ghost use Rattle.links.specs.Tables.{has_seen, with_listing_entry, AreSeen};
 
 use elem::{BoundRef, Role};
-use scene_json::Text;
+use json_text::Text;
 use std::alloc::{AllocError, Global};
 use std::collections::BTreeSet;
 

@@ -9,7 +9,7 @@ ghost use Rattle.links.specs.Tables.{row_element, Adds};
 use crate::parts::{container_of, id_of, is_arrow, is_text};
 use crate::table::{Row, rows_under, sorted};
 use elem::{Binding, Element};
-use scene_json::Text;
+use json_text::Text;
 use std::alloc::{AllocError, Global};
 use std::marker::Model;
 

@@ -7,7 +7,7 @@ ghost use Rattle.links.specs.Texts as texts;
 
 use board_io::List;
 use elem::{Binding, BoundRef, Element, Kind, Role};
-use scene_json::Text;
+use json_text::Text;
 
 /// The id of an element.
 pub(crate) fn id_of(e: &Element) -> &Text

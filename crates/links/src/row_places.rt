@@ -6,7 +6,7 @@ ghost use Rattle.frac_keys.specs.Keys.{bytes_less};
 ghost use Rattle.links.specs.Rows.{is_namer, rows_at, AreRows, AreEndsOf, IsRowAt, IsGapFor};
 
 use crate::rows::LinkRow;
-use scene_json::Text;
+use json_text::Text;
 
 /// Where an id starts and ends among ids in order.
 pub(crate) fn ends_of(ids: &Vec<Text>, id: &Text) -> (usize, usize)

@@ -12,7 +12,7 @@ use crate::parts::{container_of, frame_of, id_of};
 use board_io::List;
 use elem::Element;
 use first_texts::first_occurrences;
-use scene_json::Text;
+use json_text::Text;
 use std::alloc::{AllocError, Global};
 
 /// That an element names another one, by their ids.

@@ -6,7 +6,7 @@ ghost use Rattle.std.specs.Ordering.{is_lt};
 ghost use Rattle.links.specs.Tables.{is_under, row_less};
 
 use elem::Element;
-use scene_json::Text;
+use json_text::Text;
 use std::alloc::AllocError;
 use std::cmp::Ordering;
 

@@ -12,7 +12,7 @@ use crate::names::{Names, add_under};
 use crate::parts::{bound_of, can_hold_text, id_of, is_for_text, names_container};
 use crate::table::{Row, rows_under, sorted};
 use elem::{BoundRef, Element};
-use scene_json::Text;
+use json_text::Text;
 use std::alloc::{AllocError, Global};
 
 impl<'a> Names<'a> {

@@ -1,7 +1,7 @@
 -- What is shown of elements with other stamps, files and further members is what is shown of them, with these: no rule looks
 -- at them.
 use Rattle.std.proofs.Common.{◌≡◌, ℕ, Bool, true, false, cond, List, [], ◌∷◌, Option, map, refl, sym, ap, ap₂, ◌∙◌}
-use Rattle.scene_json.specs.declared.text.Member.{Member}
+use Rattle.json_text.specs.declared.text.Member.{Member}
 use Rattle.elem.specs.ElementValue.{ElementValue}
 use Rattle.elem.specs.Order.{unstamped}
 use Rattle.index_repair.specs.Repair.{repaired}

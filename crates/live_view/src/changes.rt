@@ -13,7 +13,7 @@ use crate::following::{picked, store_after, stored, taken_of};
 use crate::live::LiveView;
 use elem::{Element, beats};
 use elem_store::Store;
-use scene_json::Text;
+use json_text::Text;
 use std::alloc::AllocError;
 
 impl LiveView {

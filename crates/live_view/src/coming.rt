@@ -22,8 +22,8 @@ use crate::runs::{Rekeying, keys_with, keys_without, stored_of};
 use board_io::List;
 use elem::Element;
 use frac_keys::Key;
+use json_text::Text;
 use links::{LinkTable, rows_of};
-use scene_json::Text;
 use std::alloc::{AllocError, Global};
 
 /// What is shown anew where an element comes: itself, and what is near it, at the places where it is shown.

@@ -9,7 +9,7 @@ ghost use Rattle.live_view.specs.Replacing.{element_after};
 use board_io::List;
 use elem::Element;
 use elem_store::Store;
-use scene_json::Text;
+use json_text::Text;
 use std::alloc::{AllocError, Global};
 
 /// The stored element of this id.

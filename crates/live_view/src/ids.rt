@@ -5,7 +5,7 @@ ghost use Rattle.links.specs.Tables.{has_seen};
 ghost use Rattle.live_view.specs.Coming.{AreOthers};
 ghost use Rattle.live_view.specs.Reached.{is_among, AreIds};
 
-use scene_json::Text;
+use json_text::Text;
 use std::alloc::{AllocError, Global};
 use std::collections::BTreeSet;
 

@@ -11,7 +11,7 @@ ghost use Rattle.live_view.specs.Putting.{IsWithin, all_put};
 
 use crate::order::scene_order;
 use elem::Element;
-use scene_json::Text;
+use json_text::Text;
 use std::cmp::Ordering;
 
 /// An element, and the place at which it is put.

@@ -11,8 +11,8 @@ use crate::ids::Ids;
 use crate::places::element_of;
 use board_io::List;
 use elem::Element;
+use json_text::Text;
 use links::{LinkRow, LinkTable, rows_of};
-use scene_json::Text;
 use std::alloc::{AllocError, Global};
 
 /// The ids of elements, and those that they name.

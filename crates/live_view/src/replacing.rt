@@ -24,8 +24,8 @@ use crate::reach::{reached, started_by};
 use board_io::List;
 use elem::Element;
 use frac_keys::Key;
+use json_text::Text;
 use links::{LinkRow, LinkTable, rows_of};
-use scene_json::Text;
 use std::alloc::{AllocError, Global};
 
 impl Kept {

@@ -3,7 +3,7 @@
 ghost use Rattle.std.specs.Prelude.{◌≡◌, [], OnOk, OnErr, IsOk, IsTrue};
 ghost use Rattle.reconcile.specs.Ids.{is_held, AreStrictlySorted, HasAdded, HasDropped};
 
-use scene_json::Text;
+use json_text::Text;
 use std::alloc::{AllocError, Global};
 use std::collections::BTreeSet;
 use std::marker::Model;

@@ -18,9 +18,9 @@ use effects::{Capture, Command, Refusal};
 use elem::Element;
 use elem_store::Store;
 use history::Step;
+use json_text::Text;
 use live_view::LiveView;
 use reconcile::{Held, free_copies};
-use scene_json::Text;
 use std::alloc::{AllocError, Global};
 use std::marker::Model;
 

@@ -8,12 +8,12 @@ use Rattle.std.proofs.lemmas.Map.Entries.{lookup-filter-keys, lookup_head, looku
 use Rattle.std.proofs.lemmas.Map.Keys.{IsDistinct-push}
 use Rattle.std.proofs.lemmas.Map.Made.{IsDistinct-keys_filter}
 use Rattle.std.proofs.lemmas.Option.{none-some}
-use Rattle.scene_json.specs.Characters.{quote}
-use Rattle.scene_json.specs.Compact.{Member as Pair, array_text, has_other_name}
+use Rattle.json_text.specs.Characters.{quote}
+use Rattle.json_text.specs.Compact.{Member as Pair, array_text, has_other_name}
+use Rattle.json_text.specs.Parts.{names_of}
 use Rattle.scene_json.specs.Named.{value_at}
-use Rattle.scene_json.specs.Parts.{names_of}
 use Rattle.scene_json.specs.TheOne.{IsTheOne}
-use Rattle.scene_json.proofs.Collapsed.{bytes_eq-true, bytes_eq-same, bytes_eq-apart}
+use Rattle.json_text.proofs.Collapsed.{bytes_eq-true, bytes_eq-same, bytes_eq-apart}
 use Rattle.restore_table.specs.Merged.{AreUpdated, AreOldIds}
 use Rattle.restore_table.specs.Restored.{HasOldListing, listing_name, old_name, listing_text}
 

@@ -5,10 +5,10 @@ use Rattle.std.specs.List.{AllByRecursion}
 use Rattle.std.specs.Ordering.{match_ordering}
 use Rattle.std.specs.declared.cmp.Ordering.TheVariants.{Less, Equal, Greater}
 use Rattle.std.proofs.lemmas.Map.Entries.{lookup_head, lookup_tail}
-use Rattle.scene_json.specs.Compact.{Member as Pair}
+use Rattle.json_text.specs.Compact.{Member as Pair}
+use Rattle.json_text.specs.Tree.{null_word}
 use Rattle.scene_json.specs.Named.{value_at, HaveRisingNames}
-use Rattle.scene_json.specs.Tree.{null_word}
-use Rattle.scene_json.proofs.Collapsed.{bytes_eq-true}
+use Rattle.json_text.proofs.Collapsed.{bytes_eq-true}
 use Rattle.scene_json.proofs.Lookups.{IsBelow, IsBelow-less, bytes_eq-tied, less_turned, value_at-below, rising_parts, rising_from, rising_none}
 use Rattle.restore_table.specs.Merged.{chosen, spliced, merged}
 use Rattle.restore_table.specs.Restored.{filled}

@@ -2,11 +2,11 @@
 use Rattle.std.proofs.Common.{◌≡◌, ℕ, ◌≤◌, List, [], ◌∷◌, ◌++◌, All, filter, sym, subst, arith, true, false, cond}
 use Rattle.std.specs.List.{AllByRecursion}
 use Rattle.std.proofs.lemmas.List.Elements.{All-from_recursion, recursion_from_All}
-use Rattle.scene_json.specs.Compact.{Member as Pair, has_other_name}
-use Rattle.scene_json.specs.Members.{pairs}
-use Rattle.scene_json.specs.Value.{IsCompact}
-use Rattle.scene_json.specs.declared.text.Member.{Member}
-use Rattle.scene_json.proofs.CompactLaws.{Value-deeper}
+use Rattle.json_text.specs.Compact.{Member as Pair, has_other_name}
+use Rattle.json_text.specs.Members.{pairs}
+use Rattle.json_text.specs.Value.{IsCompact}
+use Rattle.json_text.specs.declared.text.Member.{Member}
+use Rattle.json_text.proofs.CompactLaws.{Value-deeper}
 use Rattle.restore_table.specs.Merged.{merged}
 use Rattle.restore_table.specs.Table.{defaults}
 use Rattle.restore_table.proofs.Merging.{merged-values}

@@ -3,12 +3,12 @@ use Rattle.std.proofs.Common.{◌≡◌, ◌≢◌, ℕ, List, [], ◌∷◌, fa
 use Rattle.std.specs.List.Sorted.{IsPermutation}
 use Rattle.std.proofs.lemmas.Bool.{both_ways, cases_Bool, cond-true, cond-false}
 use Rattle.std.proofs.lemmas.Option.{none-some}
-use Rattle.scene_json.specs.Characters.{quote}
-use Rattle.scene_json.specs.Compact.{Member as Pair, array_text}
+use Rattle.json_text.specs.Characters.{quote}
+use Rattle.json_text.specs.Compact.{Member as Pair, array_text}
+use Rattle.json_text.specs.Tree.{null_word}
 use Rattle.scene_json.specs.Named.{value_at, AreSameMembers, HaveRisingNames}
 use Rattle.scene_json.specs.TheOne.{IsTheOne}
-use Rattle.scene_json.specs.Tree.{null_word}
-use Rattle.scene_json.proofs.Collapsed.{bytes_eq-true, bytes_eq-same, bytes_eq-apart}
+use Rattle.json_text.proofs.Collapsed.{bytes_eq-true, bytes_eq-same, bytes_eq-apart}
 use Rattle.scene_json.proofs.Lookups.{same_moved, rising_same}
 use Rattle.restore_table.specs.Merged.{merged, AreUpdated, listing_over}
 use Rattle.restore_table.specs.Restored.{filled, filled_at, AreRestored, HasOldListing, LackNothing, listing_at, listing_text, listing_name, old_name}

@@ -8,12 +8,12 @@ use Rattle.std.specs.declared.cmp.Ordering.TheVariants.{Less, Equal, Greater}
 use Rattle.std.proofs.lemmas.Bool.{and_parts, ltb-true}
 use Rattle.std.proofs.lemmas.Map.Entries.{lookup_head}
 use Rattle.std.proofs.lemmas.Str.{IsUtf8-from_ascii}
-use Rattle.scene_json.specs.Characters.{quote, is_digit}
-use Rattle.scene_json.specs.Compact.{Member as Pair, array_text}
+use Rattle.json_text.specs.Characters.{quote, is_digit}
+use Rattle.json_text.specs.Compact.{Member as Pair, array_text}
+use Rattle.json_text.specs.Tree.{null_word, false_word}
+use Rattle.json_text.specs.Value.{IsCompact}
 use Rattle.scene_json.specs.Named.{value_at, HaveRisingNames}
-use Rattle.scene_json.specs.Tree.{null_word, false_word}
-use Rattle.scene_json.specs.Value.{IsCompact}
-use Rattle.scene_json.proofs.CompactLaws.{quote-compact, literal-compact, array-compact}
+use Rattle.json_text.proofs.CompactLaws.{quote-compact, literal-compact, array-compact}
 use Rattle.scene_json.proofs.Lookups.{IsBelow-less, rising_from, rising_none, rising_parts}
 use Rattle.restore_table.specs.declared.table.Row.{Row}
 use Rattle.restore_table.specs.Merged.{row_pair}

@@ -4,12 +4,12 @@ use Rattle.std.specs.Cmp.Lexicographic.{slice_cmp}
 use Rattle.std.specs.List.{AllByRecursion, IsDistinct}
 use Rattle.std.specs.Ordering.{nat_cmp, match_ordering}
 use Rattle.std.specs.Str.{IsUtf8}
-use Rattle.scene_json.specs.Characters.{quote}
-use Rattle.scene_json.specs.Compact.{Member as Pair, array_text}
+use Rattle.json_text.specs.Characters.{quote}
+use Rattle.json_text.specs.Compact.{Member as Pair, array_text}
+use Rattle.json_text.specs.Parts.{names_of}
+use Rattle.json_text.specs.Tree.{null_word}
 use Rattle.scene_json.specs.Named.{value_at}
-use Rattle.scene_json.specs.Parts.{names_of}
 use Rattle.scene_json.specs.TheOne.{IsTheOne}
-use Rattle.scene_json.specs.Tree.{null_word}
 use Rattle.restore_table.specs.declared.table.Row.{Row}
 use Rattle.restore_table.specs.Restored.{HasOldListing, listing_name, old_name, listing_text}
 

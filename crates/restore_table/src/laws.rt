@@ -1,9 +1,9 @@
 //! Laws on restored members. They do nothing when they run.
 
 ghost use Rattle.std.specs.Prelude.{◌≡◌, ◌≢◌, ℕ, List, Some, None};
-ghost use Rattle.scene_json.specs.Compact.{Member};
+ghost use Rattle.json_text.specs.Compact.{Member};
+ghost use Rattle.json_text.specs.Tree.{null_word};
 ghost use Rattle.scene_json.specs.Named.{AreSameMembers, value_at};
-ghost use Rattle.scene_json.specs.Tree.{null_word};
 ghost use Rattle.restore_table.specs.Restored.{AreRestored, HasOldListing, LackNothing, listing_name, old_name};
 ghost use Rattle.restore_table.specs.Table.{defaults};
 

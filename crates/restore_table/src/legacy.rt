@@ -3,15 +3,16 @@
 ghost use Rattle.std.specs.Prelude.{◌≡◌, ◌≤◌, ℕ, List as Items, map, filter, All, IfOk, IfSome, bytes_eq, codes, Option, [], ◌∷◌, ◌++◌};
 ghost use Rattle.std.specs.List.{IsDistinct};
 ghost use Rattle.std.specs.Option.{option_map};
-ghost use Rattle.scene_json.specs.Compact.{has_other_name};
-ghost use Rattle.scene_json.specs.Members.{pairs};
+ghost use Rattle.json_text.specs.Compact.{has_other_name};
+ghost use Rattle.json_text.specs.Members.{pairs};
+ghost use Rattle.json_text.specs.Value.{IsCompact};
 ghost use Rattle.scene_json.specs.TheOne.{IsTheOne};
-ghost use Rattle.scene_json.specs.Value.{IsCompact};
 ghost use Rattle.restore_table.specs.Merged.{AreUpdated, AreOldIds};
 ghost use Rattle.restore_table.specs.Restored.{arrow_text, listing_name, listing_text};
 
 use board_io::List;
-use scene_json::{Member, Raw, Text, raw_array, raw_object, raw_text, texts_of, value_named};
+use json_text::{Member, Raw, Text};
+use scene_json::{raw_array, raw_object, raw_text, texts_of, value_named};
 use std::alloc::{AllocError, Global};
 
 /// The member that lists what is bound to an element.

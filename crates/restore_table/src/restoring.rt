@@ -2,9 +2,9 @@
 
 ghost use Rattle.std.specs.Prelude.{◌≡◌, ◌≤◌, ◌++◌, ℕ, List as Items, map, All, IfOk, OnOk, bytes_eq};
 ghost use Rattle.std.specs.List.{IsDistinct, AllByRecursion};
-ghost use Rattle.scene_json.specs.Compact.{Member as Pair};
-ghost use Rattle.scene_json.specs.Members.{pairs, pair_of};
-ghost use Rattle.scene_json.specs.Value.{IsCompact};
+ghost use Rattle.json_text.specs.Compact.{Member as Pair};
+ghost use Rattle.json_text.specs.Members.{pairs, pair_of};
+ghost use Rattle.json_text.specs.Value.{IsCompact};
 ghost use Rattle.restore_table.specs.Merged.{row_pair, chosen, spliced, merged};
 ghost use Rattle.restore_table.specs.Restored.{AreRestored};
 ghost use Rattle.restore_table.specs.Table.{defaults};
@@ -12,7 +12,8 @@ ghost use Rattle.restore_table.specs.Table.{defaults};
 use crate::legacy::updated;
 use crate::table::{Row, rows};
 use board_io::List;
-use scene_json::{Member, Raw, Text, is_null};
+use json_text::{Member, Raw, Text};
+use scene_json::is_null;
 use std::alloc::{AllocError, Global};
 use std::cmp::Ordering;
 

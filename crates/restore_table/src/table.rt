@@ -2,12 +2,12 @@
 
 ghost use Rattle.std.specs.Prelude.{◌≡◌, map, IfOk, IsOk, IfSome};
 ghost use Rattle.std.specs.List.{AllByRecursion};
+ghost use Rattle.json_text.specs.Value.{IsCompact};
 ghost use Rattle.scene_json.specs.Named.{value_at};
-ghost use Rattle.scene_json.specs.Value.{IsCompact};
 ghost use Rattle.restore_table.specs.Table.{defaults};
 ghost use Rattle.restore_table.specs.Merged.{row_pair};
 
-use scene_json::{Raw, Text};
+use json_text::{Raw, Text};
 use std::alloc::{AllocError, Global};
 
 /// A member that every element has: its name, and the compact text of its default.

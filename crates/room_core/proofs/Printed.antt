@@ -1,8 +1,8 @@
 -- The parts of a room's texts, appended one after the other.
 use Rattle.std.proofs.Common.{◌≡◌, ℕ, zero, suc, ◌<◌, List, [], ◌∷◌, ◌++◌, None, length, codes, map, sym, ap, ◌∙◌, append_assoc, slice_get, arith}
 use Rattle.std.specs.List.{join_with_byte}
-use Rattle.scene_json.specs.Characters.{quote}
-use Rattle.scene_json.specs.Compact.{array_text, object_text}
+use Rattle.json_text.specs.Characters.{quote}
+use Rattle.json_text.specs.Compact.{array_text, object_text}
 use Rattle.elem.specs.ElementValue.{ElementValue}
 use Rattle.elem.specs.Texts.{element_text}
 use Rattle.room_msg.specs.Faults.{message_fault_words}

@@ -2,8 +2,8 @@
 -- is told to its sender, is this project's own.
 use Rattle.std.specs.Prelude.{◌≡◌, ℕ, ◌==◌, nat_lt, List, [], ◌∷◌, ◌++◌, Bool, not, filter, map, codes, Result, Ok, Err, MatchBool}
 use Rattle.std.specs.List.{list_any}
-use Rattle.scene_json.specs.Characters.{quote}
-use Rattle.scene_json.specs.Compact.{object_text}
+use Rattle.json_text.specs.Characters.{quote}
+use Rattle.json_text.specs.Compact.{object_text}
 use Rattle.elem.specs.ElementValue.{ElementValue}
 use Rattle.elem_store.specs.Updates.{AreStored}
 use Rattle.board_io.specs.declared.links.LinkEvent.{LinkEvent}

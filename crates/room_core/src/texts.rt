@@ -11,8 +11,9 @@ ghost use Rattle.room_core.specs.Rooms.{text_for_each};
 use board_io::Bytes;
 use elem::push_element;
 use elem_store::Store;
+use json_text::push_quoted;
 use room_msg::MsgFault;
-use scene_json::{push_comma, push_quoted};
+use scene_json::push_comma;
 use std::alloc::{AllocError, Global};
 
 /// The text with all stored elements, in the order of their ids.

@@ -4,7 +4,7 @@ use Rattle.std.specs.List.{prefix_len}
 use Rattle.std.proofs.lemmas.Bool.{cases_Bool, both_ways, and_from}
 use Rattle.std.proofs.lemmas.List.Folds.{list_all_at}
 use Rattle.std.proofs.lemmas.List.Sums.{prefix_len_stops}
-use Rattle.scene_json.specs.Characters.{is_blank, is_space}
+use Rattle.json_text.specs.Characters.{is_blank, is_space}
 
 pub run-blank : (xs : List ℕ) → length xs ≤ prefix_len is_space xs → is_blank xs ≡ true
 run-blank [] all = refl

@@ -2,15 +2,16 @@
 use Rattle.std.proofs.Common.{◌≡◌, ◌⊎◌, inl, inr, ℕ, List, Option, Some, None, Result, Ok, Err, length, drop, length-drop, ◌+◌, codes, bytes_eq, refl, sym, ap, subst, ◌∙◌, lit≤, arith}
 use Rattle.std.specs.List.{AllByRecursion, prefix_len}
 use Rattle.std.proofs.lemmas.Bool.{cases_Bool, cases_lt, both_ways}
-use Rattle.scene_json.specs.Characters.{is_space}
-use Rattle.scene_json.specs.Compact.{Member as Pair, array_text}
+use Rattle.json_text.specs.Characters.{is_space}
+use Rattle.json_text.specs.Compact.{Member as Pair, array_text}
+use Rattle.json_text.specs.Parts.{AreMembers}
+use Rattle.json_text.specs.Value.{IsCompact}
+use Rattle.json_reader.specs.declared.fault.JsonFault.TheVariants.{Syntax}
 use Rattle.scene_json.specs.Named.{value_at}
-use Rattle.scene_json.specs.Parts.{AreMembers}
-use Rattle.scene_json.specs.Value.{IsCompact}
-use Rattle.scene_json.specs.declared.fault.JsonFault.TheVariants.{Syntax}
-use Rattle.scene_json.proofs.Collapsed.{bytes_eq-true, bytes_eq-same}
-use Rattle.scene_json.proofs.CompactLaws.{Value-compact}
-use Rattle.scene_json.proofs.Decided.{array-or-not, object-or-not, value-or-fault}
+use Rattle.json_text.proofs.Collapsed.{bytes_eq-true, bytes_eq-same}
+use Rattle.json_text.proofs.CompactLaws.{Value-compact}
+use Rattle.json_text.proofs.Decided.{array-or-not, object-or-not}
+use Rattle.json_reader.proofs.Outcomes.{value-or-fault}
 use Rattle.elem.specs.ElementValue.{ElementValue}
 use Rattle.elem.specs.Forms.{IsObject}
 use Rattle.elem.proofs.FormsOnce.{members-once}

@@ -1,8 +1,8 @@
 -- What is told of a value that is no message, and of the bytes in which it stands.
 use Rattle.std.proofs.Common.{◌≡◌, ◌⊎◌, ℕ, List, Some, Err, true, nat_lt, codes, ap, ◌∙◌}
 use Rattle.std.specs.List.{list_all}
-use Rattle.scene_json.specs.Characters.{quote}
-use Rattle.scene_json.specs.Compact.{Member as Pair}
+use Rattle.json_text.specs.Characters.{quote}
+use Rattle.json_text.specs.Compact.{Member as Pair}
 use Rattle.scene_json.specs.Named.{value_at}
 use Rattle.elem.specs.Forms.{IsObject}
 use Rattle.elem.proofs.Saying.{literal}

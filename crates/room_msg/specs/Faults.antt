@@ -1,6 +1,6 @@
 -- What is told of a message's fault. This project's own.
 use Rattle.std.specs.Prelude.{ℕ, List, ◌++◌, codes, decimal}
-use Rattle.scene_json.specs.Faults.{json_words}
+use Rattle.json_reader.specs.Faults.{json_words}
 use Rattle.elem_read.specs.Faults.{fault_word}
 use Rattle.room_msg.specs.declared.fault.MsgFault.{MsgFault}
 use Rattle.room_msg.specs.declared.fault.MsgFault.TheVariants.{Json, NotObject, Tag, Payload, Element}

@@ -2,12 +2,12 @@
 -- another name is kept whole, and the order and places of faults, is this project's own.
 use Rattle.std.specs.Prelude.{◌≡◌, ◌≢◌, ◌⊎◌, ℕ, ◌+◌, ◌<◌, ◌≤◌, List, Some, Result, Ok, Err, All, true, codes, length, drop}
 use Rattle.std.specs.List.{AllByRecursion, prefix_len}
-use Rattle.scene_json.specs.Characters.{is_blank, is_space}
-use Rattle.scene_json.specs.Compact.{Member as Pair, array_text}
-use Rattle.scene_json.specs.Faults.{IsFirstFault}
+use Rattle.json_text.specs.Characters.{is_blank, is_space}
+use Rattle.json_text.specs.Compact.{Member as Pair, array_text}
+use Rattle.json_text.specs.Value.{IsCompact, Stands}
+use Rattle.json_reader.specs.Faults.{IsFirstFault}
+use Rattle.json_reader.specs.declared.fault.JsonFault.TheVariants.{Syntax}
 use Rattle.scene_json.specs.Named.{value_at}
-use Rattle.scene_json.specs.Value.{IsCompact, Stands}
-use Rattle.scene_json.specs.declared.fault.JsonFault.TheVariants.{Syntax}
 use Rattle.elem.specs.ElementValue.{ElementValue}
 use Rattle.elem.specs.Forms.{IsObject, IsText}
 use Rattle.elem_read.specs.Elements.{AreRead, IsFirstFaulty}

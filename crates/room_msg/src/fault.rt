@@ -4,7 +4,7 @@ ghost use Rattle.std.specs.Prelude.{◌≡◌, IfOk, string_bytes};
 ghost use Rattle.room_msg.specs.Faults.{message_fault_words};
 
 use elem_read::ElemFault;
-use scene_json::JsonFault;
+use json_reader::JsonFault;
 use std::alloc::{AllocError, Global};
 
 /// Why bytes are no message. Of several faults the first in this order counts.

@@ -2,7 +2,7 @@
 
 use board_io::List;
 use elem::Element;
-use scene_json::Raw;
+use json_text::Raw;
 
 /// A message of a room.
 #[derive(Drop)]

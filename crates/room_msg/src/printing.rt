@@ -1,14 +1,14 @@
 //! The texts of messages.
 
 ghost use Rattle.std.specs.Prelude.{◌≡◌, IfOk};
-ghost use Rattle.scene_json.specs.Compact.{object_text};
+ghost use Rattle.json_text.specs.Compact.{object_text};
 ghost use Rattle.room_msg.specs.Texts as texts;
 ghost use Rattle.room_msg.specs.Texts.{tagged_members};
 
 use crate::message::Message;
 use board_io::{Bytes, List};
 use elem::{Element, push_elements};
-use scene_json::push_quoted;
+use json_text::push_quoted;
 use std::alloc::{AllocError, Global};
 
 /// The text of a message: its elements' texts, or the compact text of a presence. Fails only for want of memory.

@@ -1,7 +1,7 @@
 //! Reading messages.
 
 ghost use Rattle.std.specs.Prelude.{◌≡◌, ℕ, List as Items, All, Ok, Err, IfOk, MatchOption};
-ghost use Rattle.scene_json.specs.Members.{pairs};
+ghost use Rattle.json_text.specs.Members.{pairs};
 ghost use Rattle.elem_read.specs.Elements.{AreRead};
 ghost use Rattle.elem_read.specs.Reading.{IsWholeElement};
 ghost use Rattle.room_msg.specs.Messages.{HasPayload, IsPayloadFault, IsMessageOf, IsMessageFault, StandsAlone, IsReadAs, IsWholeMessage};
@@ -12,10 +12,9 @@ use crate::message::Message;
 use board_io::{List, Stop};
 use elem::Element;
 use elem_read::read_elements;
-use scene_json::{
-    JsonFault, Member, Raw, has_value, items, members, scan, shaped, skip_space, text_named,
-    value_named,
-};
+use json_reader::{JsonFault, scan};
+use json_text::{Member, Raw, skip_space};
+use scene_json::{has_value, items, members, shaped, text_named, value_named};
 use std::alloc::{AllocError, Global};
 
 /// The message that the bytes are, or their first fault.

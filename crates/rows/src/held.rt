@@ -3,8 +3,8 @@
 use crate::samples::rectangle;
 use elem::Element;
 use elem_store::Store;
+use json_text::Text;
 use reconcile::{Held, reconcile};
-use scene_json::Text;
 use std::alloc::Global;
 use std::test::Fail;
 

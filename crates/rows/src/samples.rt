@@ -3,7 +3,8 @@
 use board_io::List;
 use elem::Element;
 use elem_read::read_element;
-use scene_json::{Text, scan};
+use json_reader::scan;
+use json_text::Text;
 use std::alloc::{AllocError, Global};
 use std::test::Fail;
 

@@ -3,7 +3,7 @@
 use crate::samples::rectangle;
 use elem::Element;
 use elem_store::Store;
-use scene_json::Text;
+use json_text::Text;
 use std::alloc::{AllocError, Global};
 use std::test::Fail;
 

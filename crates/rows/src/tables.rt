@@ -4,8 +4,8 @@ ghost use Rattle.std.specs.Prelude.{◌≤◌, length, IsTrue};
 
 use crate::samples::element;
 use board_io::List;
+use json_text::Text;
 use links::{LinkRow, LinkTable, rows_of};
-use scene_json::Text;
 use std::alloc::Global;
 use std::test::Fail;
 

@@ -3,7 +3,8 @@
 use delta::{Change, Entry, Part};
 use elem::Element;
 use history::History;
-use scene_json::{Raw, Text, push_whole};
+use json_text::{Raw, Text};
+use scene_json::push_whole;
 use std::alloc::AllocError;
 
 /// Appends the parts of an entry: of each its id and its changes.

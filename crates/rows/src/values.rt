@@ -1,10 +1,8 @@
 //! JSON values that are made.
 
 use board_io::List;
-use scene_json::{
-    Raw, Text, push_member, push_quoted, push_whole, raw_array, raw_null, raw_text, raw_truth,
-    raw_whole,
-};
+use json_text::{Raw, Text, push_quoted};
+use scene_json::{push_member, push_whole, raw_array, raw_null, raw_text, raw_truth, raw_whole};
 use std::alloc::Global;
 use std::test::Fail;
 

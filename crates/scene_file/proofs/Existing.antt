@@ -2,14 +2,15 @@
 use Rattle.std.proofs.Common.{◌≡◌, ◌≢◌, ◌⊎◌, inl, inr, ℕ, ◌≤◌, ◌<◌, List, [], Bool, true, false, Option, Some, None, length, drop, codes, bytes_eq, if◌then◌else◌, refl, sym, ap, subst, ◌∙◌, lit≤}
 use Rattle.std.specs.List.{AllByRecursion}
 use Rattle.std.proofs.lemmas.Bool.{cases_Bool, both_ways}
-use Rattle.scene_json.specs.Compact.{Member as Pair, object_text}
+use Rattle.json_text.specs.Compact.{Member as Pair, object_text}
+use Rattle.json_text.specs.Parts.{AreMembers, names_of}
+use Rattle.json_text.specs.Tree.{null_word}
+use Rattle.json_text.specs.Value.{IsCompact, Stands}
 use Rattle.scene_json.specs.Named.{value_at, AreSameMembers, HaveRisingNames}
-use Rattle.scene_json.specs.Parts.{AreMembers, names_of}
-use Rattle.scene_json.specs.Tree.{null_word}
-use Rattle.scene_json.specs.Value.{IsCompact, Stands}
-use Rattle.scene_json.proofs.Collapsed.{bytes_eq-true, bytes_eq-same}
-use Rattle.scene_json.proofs.CompactLaws.{Value-compact}
-use Rattle.scene_json.proofs.Decided.{array-or-not, object-or-not, value-or-fault}
+use Rattle.json_text.proofs.Collapsed.{bytes_eq-true, bytes_eq-same}
+use Rattle.json_text.proofs.CompactLaws.{Value-compact}
+use Rattle.json_text.proofs.Decided.{array-or-not, object-or-not}
+use Rattle.json_reader.proofs.Outcomes.{value-or-fault}
 use Rattle.scene_json.proofs.Rising.{tabled}
 use Rattle.elem.specs.Forms.{find_in, IsText, IsObject}
 use Rattle.elem.proofs.FormsOnce.{text-once}

@@ -3,15 +3,15 @@ use Rattle.std.proofs.Common.{◌≡◌, ℕ, Bool, true, false, List, [], ◌�
 use Rattle.std.specs.List.{AllByRecursion, IsDistinct, cons_option, list_all}
 use Rattle.std.specs.Option.{option_map}
 use Rattle.std.proofs.lemmas.List.Elements.{All-from_recursion, All-contains, All-contains_itself, recursion_from_All}
-use Rattle.scene_json.specs.Characters.{quote}
-use Rattle.scene_json.specs.Compact.{Member as Pair}
+use Rattle.json_text.specs.Characters.{quote}
+use Rattle.json_text.specs.Compact.{Member as Pair}
+use Rattle.json_text.specs.Members.{pairs}
+use Rattle.json_text.specs.Parts.{AreMembers, names_of}
+use Rattle.json_text.specs.Tree.{spelling}
+use Rattle.json_text.specs.Value.{IsCompact}
 use Rattle.scene_json.specs.Layout.{laid_out}
-use Rattle.scene_json.specs.Members.{pairs}
 use Rattle.scene_json.specs.Named.{value_at, HaveRisingNames}
-use Rattle.scene_json.specs.Parts.{AreMembers, names_of}
-use Rattle.scene_json.specs.Tree.{spelling}
-use Rattle.scene_json.specs.Value.{IsCompact}
-use Rattle.scene_json.proofs.CompactLaws.{quote-compact, literal-compact, object-compact}
+use Rattle.json_text.proofs.CompactLaws.{quote-compact, literal-compact, object-compact}
 use Rattle.scene_json.proofs.Lookups.{rising_distinct}
 use Rattle.index_repair.specs.Repair.{repaired}
 use Rattle.frac_keys.specs.Keys.{bytes_less}

@@ -1,9 +1,9 @@
 -- The form of a scene.
 use Rattle.std.proofs.Common.{◌≡◌, ℕ, List, Some, codes, refl}
-use Rattle.scene_json.specs.Characters.{quote}
-use Rattle.scene_json.specs.Compact.{Member as Pair, object_text}
+use Rattle.json_text.specs.Characters.{quote}
+use Rattle.json_text.specs.Compact.{Member as Pair, object_text}
+use Rattle.json_text.specs.Parts.{AreMembers}
 use Rattle.scene_json.specs.Named.{value_at}
-use Rattle.scene_json.specs.Parts.{AreMembers}
 use Rattle.elem.specs.Forms.{IsObject}
 use Rattle.elem.proofs.Saying.{literal}
 use Rattle.scene_file.specs.Reading.{IsScene}

@@ -1,9 +1,9 @@
 -- The head that a scene's members say.
 use Rattle.std.proofs.Common.{ℕ, List, [], ◌++◌, Option, Some, None, codes, subst, ◌∙◌, append-nil}
-use Rattle.scene_json.specs.Compact.{Member as Pair}
-use Rattle.scene_json.specs.Members.{pairs}
+use Rattle.json_text.specs.Compact.{Member as Pair}
+use Rattle.json_text.specs.Members.{pairs}
+use Rattle.json_text.specs.Parts.{AreMembers}
 use Rattle.scene_json.specs.Named.{value_at, AreSameMembers, HaveRisingNames}
-use Rattle.scene_json.specs.Parts.{AreMembers}
 use Rattle.scene_json.specs.TheOne.{IsTheOne}
 use Rattle.elem.specs.Forms.{IsText}
 use Rattle.file_table.specs.Table.{AreLeastEntries}

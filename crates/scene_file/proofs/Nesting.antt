@@ -1,13 +1,13 @@
 -- What nests in members that nest.
 use Rattle.std.proofs.Common.{◌≡◌, ℕ, zero, suc, ◌<◌, List, [], ◌∷◌, Option, Some, None, Bool, true, false, cond, length, get_or, bytes_eq, refl, sym, subst, arith, lit≤}
 use Rattle.std.specs.List.{IsDistinct}
-use Rattle.scene_json.specs.Compact.{Member as Pair}
-use Rattle.scene_json.specs.Members.{pairs}
+use Rattle.json_text.specs.Compact.{Member as Pair}
+use Rattle.json_text.specs.Members.{pairs}
+use Rattle.json_text.specs.Parts.{AreMembers}
+use Rattle.json_text.specs.Tree.{null_word}
+use Rattle.json_text.specs.Value.{IsCompact}
+use Rattle.json_text.specs.declared.text.Member.{Member}
 use Rattle.scene_json.specs.Named.{value_at}
-use Rattle.scene_json.specs.Parts.{AreMembers}
-use Rattle.scene_json.specs.Tree.{null_word}
-use Rattle.scene_json.specs.Value.{IsCompact}
-use Rattle.scene_json.specs.declared.text.Member.{Member}
 use Rattle.elem_read.proofs.Keeping.{found-has, object-nests}
 use Rattle.file_table.specs.Table.{EntriesNest}
 use Rattle.scene_file.specs.Reading.{value_unless_null, HasMembers}

@@ -1,16 +1,16 @@
 -- A scene and a fault are determined by the text, and a joined head by the heads.
 use Rattle.std.proofs.Common.{◌≡◌, ℕ, List, [], ◌∷◌, Option, Some, None, true, codes, drop, refl, sym, ap, ap₂, ◌∙◌, subst}
-use Rattle.scene_json.specs.Characters.{is_blank}
-use Rattle.scene_json.specs.Compact.{Member as Pair}
-use Rattle.scene_json.specs.Members.{pairs}
+use Rattle.json_text.specs.Characters.{is_blank}
+use Rattle.json_text.specs.Compact.{Member as Pair}
+use Rattle.json_text.specs.Members.{pairs}
+use Rattle.json_text.specs.Value.{Stands}
+use Rattle.json_text.specs.declared.text.Member.{Member}
+use Rattle.json_reader.specs.Faults.{IsFirstFault}
+use Rattle.json_reader.specs.declared.fault.JsonFault.{JsonFault}
 use Rattle.scene_json.specs.Named.{value_at}
-use Rattle.scene_json.specs.Faults.{IsFirstFault}
-use Rattle.scene_json.specs.Value.{Stands}
-use Rattle.scene_json.specs.declared.fault.JsonFault.{JsonFault}
-use Rattle.scene_json.specs.declared.text.Member.{Member}
-use Rattle.scene_json.proofs.FirstFaults as json
+use Rattle.json_text.proofs.Reading.{Stands-once}
+use Rattle.json_reader.proofs.FirstFaults as json
 use Rattle.scene_json.proofs.Lookups.{rising_same}
-use Rattle.scene_json.proofs.Reading.{Stands-once}
 use Rattle.elem.specs.Forms.{IsObject}
 use Rattle.elem.proofs.FormsOnce.{text-once, members-once}
 use Rattle.elem.proofs.Once.{array-once}

@@ -4,18 +4,18 @@ use Rattle.std.specs.List.{AllByRecursion, list_all}
 use Rattle.std.proofs.lemmas.Bool.{cond-true, cond-false, and_from}
 use Rattle.std.proofs.lemmas.List.Elements.{All-head, All-tail, All-weaker}
 use Rattle.std.proofs.lemmas.List.Folds.{list_all-append}
-use Rattle.scene_json.specs.Characters.{is_blank, is_space}
-use Rattle.scene_json.specs.Compact.{Member as Pair, compact, array_text, object_text}
+use Rattle.json_text.specs.Characters.{is_blank, is_space}
+use Rattle.json_text.specs.Compact.{Member as Pair, compact, array_text, object_text}
+use Rattle.json_text.specs.Members.{pairs}
+use Rattle.json_text.specs.Parts.{AreMembers}
+use Rattle.json_text.specs.Tree.{IsNumber, null_word, scalar, spelling}
+use Rattle.json_text.specs.Value.{Value, IsCompact, Follows}
 use Rattle.scene_json.specs.Layout.{laid_out}
-use Rattle.scene_json.specs.Members.{pairs}
 use Rattle.scene_json.specs.Named.{AreSameMembers, HaveRisingNames}
-use Rattle.scene_json.specs.Parts.{AreMembers}
-use Rattle.scene_json.specs.Tree.{IsNumber, null_word, scalar, spelling}
-use Rattle.scene_json.specs.Value.{Value, IsCompact, Follows}
-use Rattle.scene_json.proofs.CompactLaws.{Value-deeper, quote-compact, literal-compact, object-compact}
-use Rattle.scene_json.proofs.Forms.{object-starts}
+use Rattle.json_text.proofs.CompactLaws.{Value-deeper, quote-compact, literal-compact, object-compact}
+use Rattle.json_text.proofs.Forms.{object-starts}
+use Rattle.json_text.proofs.Reading.{number-Head, head-apart}
 use Rattle.scene_json.proofs.Laid.{laid-Value}
-use Rattle.scene_json.proofs.Reading.{number-Head, head-apart}
 use Rattle.elem.specs.ElementValue.{ElementValue}
 use Rattle.elem.specs.Forms.{IsObject}
 use Rattle.elem.specs.Texts.{element_text, text_or_null}

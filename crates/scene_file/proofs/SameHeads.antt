@@ -4,8 +4,8 @@ use Rattle.std.specs.List.{flat_map}
 use Rattle.std.specs.Str.{IsUtf8}
 use Rattle.std.proofs.lemmas.Bool.{cases_Bool, cond-true, cond-false}
 use Rattle.std.proofs.lemmas.List.Elements.{All-contains}
-use Rattle.scene_json.specs.Characters.{quote}
-use Rattle.scene_json.specs.Members.{pairs}
+use Rattle.json_text.specs.Characters.{quote}
+use Rattle.json_text.specs.Members.{pairs}
 use Rattle.frac_keys.specs.Keys.{bytes_less}
 use Rattle.elem.proofs.Once.{quote-once}
 use Rattle.elem.proofs.OrderLaws.{bytes-neither, bytes-below}

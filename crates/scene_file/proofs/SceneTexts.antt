@@ -9,16 +9,16 @@ use Rattle.std.proofs.lemmas.Bool.Decides.{nat_tests}
 use Rattle.std.proofs.lemmas.Str.{IsUtf8-from_ascii}
 use Rattle.std.proofs.lemmas.List.Elements.{All-map, All-same, recursion_from_All}
 use Rattle.std.proofs.lemmas.Map.Made.{IsDistinct-from_count}
-use Rattle.scene_json.specs.Characters.{quote}
-use Rattle.scene_json.specs.Compact.{Member as Pair, member_text, array_text, object_text}
+use Rattle.json_text.specs.Characters.{quote}
+use Rattle.json_text.specs.Compact.{Member as Pair, member_text, array_text, object_text}
+use Rattle.json_text.specs.Members.{pairs, pair_of}
+use Rattle.json_text.specs.Parts.{names_of, AreMembers}
+use Rattle.json_text.specs.Tree.{Tree, IsGood, spelling}
+use Rattle.json_text.specs.Value.{IsCompact}
+use Rattle.json_text.specs.declared.text.Member.{Member}
 use Rattle.scene_json.specs.Layout.{laid_out}
-use Rattle.scene_json.specs.Members.{pairs, pair_of}
-use Rattle.scene_json.specs.Parts.{names_of, AreMembers}
-use Rattle.scene_json.specs.Tree.{Tree, IsGood, spelling}
-use Rattle.scene_json.specs.Value.{IsCompact}
-use Rattle.scene_json.specs.declared.text.Member.{Member}
-use Rattle.scene_json.proofs.CompactLaws.{quote-compact, decimal_nests, array-compact, object-compact, Value-deeper}
-use Rattle.scene_json.proofs.Reading.{tree-once}
+use Rattle.json_text.proofs.CompactLaws.{quote-compact, decimal_nests, array-compact, object-compact, Value-deeper}
+use Rattle.json_text.proofs.Reading.{tree-once}
 use Rattle.elem.specs.ElementValue.{ElementValue}
 use Rattle.elem.specs.Texts.{element_text, text_or_null}
 use Rattle.file_table.specs.References.{referred_files}

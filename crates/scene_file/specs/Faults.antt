@@ -1,6 +1,6 @@
 -- What is told of a scene's fault. This project's own.
 use Rattle.std.specs.Prelude.{ℕ, List, ◌++◌, codes, decimal}
-use Rattle.scene_json.specs.Faults.{json_words}
+use Rattle.json_reader.specs.Faults.{json_words}
 use Rattle.elem_read.specs.Faults.{fault_word}
 use Rattle.scene_file.specs.declared.fault.SceneFault.{SceneFault}
 use Rattle.scene_file.specs.declared.fault.SceneFault.TheVariants.{Json, NotObject, NotScene, Elements, AppState, Files, Element}

@@ -1,6 +1,6 @@
 -- What stands before the elements' texts in the text of a scene, and what stands behind them. This project's own.
 use Rattle.std.specs.Prelude.{ℕ, List, ◌++◌, Option, codes}
-use Rattle.scene_json.specs.Compact.{Member as Pair, object_text}
+use Rattle.json_text.specs.Compact.{Member as Pair, object_text}
 use Rattle.elem.specs.Texts.{text_or_null}
 
 -- with this source

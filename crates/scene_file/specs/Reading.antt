@@ -2,12 +2,12 @@
 -- keys are filled, is this project's own.
 use Rattle.std.specs.Prelude.{◌≡◌, ℕ, List, [], Option, Some, None, drop, map, codes, bytes_eq, is_some, if◌then◌else◌}
 use Rattle.std.specs.List.{AllByRecursion, list_all}
-use Rattle.scene_json.specs.Compact.{Member as Pair, array_text}
-use Rattle.scene_json.specs.Faults.{IsFirstFault}
-use Rattle.scene_json.specs.Members.{pairs}
+use Rattle.json_text.specs.Compact.{Member as Pair, array_text}
+use Rattle.json_text.specs.Members.{pairs}
+use Rattle.json_text.specs.Tree.{null_word}
+use Rattle.json_text.specs.Value.{IsCompact, Stands}
+use Rattle.json_reader.specs.Faults.{IsFirstFault}
 use Rattle.scene_json.specs.Named.{value_at, AreSameMembers, HaveRisingNames}
-use Rattle.scene_json.specs.Tree.{null_word}
-use Rattle.scene_json.specs.Value.{IsCompact, Stands}
 use Rattle.index_repair.specs.Repair.{repaired}
 use Rattle.elem.specs.ElementValue.{ElementValue}
 use Rattle.elem.specs.Forms.{IsText, IsObject}

@@ -1,9 +1,9 @@
 -- The text of a scene, and that of all that is stored. After Excalidraw's JSON schema; that a scene has the files alone that
 -- its elements name is this project's own.
 use Rattle.std.specs.Prelude.{ℕ, List, [], ◌∷◌, map, codes, decimal}
-use Rattle.scene_json.specs.Characters.{quote}
-use Rattle.scene_json.specs.Compact.{Member as Pair, array_text, object_text}
-use Rattle.scene_json.specs.Members.{pairs}
+use Rattle.json_text.specs.Characters.{quote}
+use Rattle.json_text.specs.Compact.{Member as Pair, array_text, object_text}
+use Rattle.json_text.specs.Members.{pairs}
 use Rattle.elem.specs.ElementValue.{ElementValue}
 use Rattle.elem.specs.Texts.{element_text, text_or_null}
 use Rattle.file_table.specs.References.{referred_files}

@@ -3,10 +3,10 @@
 use Rattle.std.specs.Prelude.{◌≡◌, true, List, All, IfSome, is_some, filter, bytes_eq}
 use Rattle.std.specs.List.{list_all, list_any}
 use Rattle.std.specs.Str.{IsUtf8}
-use Rattle.scene_json.specs.Compact.{Member as Pair}
-use Rattle.scene_json.specs.Members.{pairs}
+use Rattle.json_text.specs.Compact.{Member as Pair}
+use Rattle.json_text.specs.Members.{pairs}
+use Rattle.json_text.specs.Parts.{AreMembers}
 use Rattle.scene_json.specs.Named.{HaveRisingNames}
-use Rattle.scene_json.specs.Parts.{AreMembers}
 use Rattle.elem.specs.ElementValue.{ElementValue}
 use Rattle.elem_read.specs.Reading.{IsWholeElement}
 use Rattle.file_table.specs.References.{references}

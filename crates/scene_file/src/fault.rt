@@ -6,7 +6,7 @@ ghost use Rattle.scene_file.specs.Faults.{scene_fault_words};
 
 use board_io::Piece;
 use elem_read::ElemFault;
-use scene_json::JsonFault;
+use json_reader::JsonFault;
 
 /// Why a text is no scene. Of several faults the first in this order counts.
 #[derive(Clone, Copy, Debug, PartialEq, Eq, Drop)]

@@ -1,17 +1,18 @@
 //! What a scene has beside its elements.
 
 ghost use Rattle.std.specs.Prelude.{◌≡◌, List as Items, ◌++◌, ◌∷◌, [], IfOk, OnOk, OnErr, codes, if◌then◌else◌};
-ghost use Rattle.scene_json.specs.Compact.{Member as Pair};
-ghost use Rattle.scene_json.specs.Members.{pairs};
+ghost use Rattle.json_text.specs.Compact.{Member as Pair};
+ghost use Rattle.json_text.specs.Members.{pairs};
+ghost use Rattle.json_text.specs.Parts.{AreMembers};
 ghost use Rattle.scene_json.specs.Named.{AreSameMembers, HaveRisingNames};
-ghost use Rattle.scene_json.specs.Parts.{AreMembers};
 ghost use Rattle.file_table.specs.Table.{AreLeastEntries, EntriesNest};
 ghost use Rattle.scene_file.specs.Heads.{Heading, IsJoinedHead, lesser_source};
 ghost use Rattle.scene_file.specs.Reading.{value_unless_null, HasMembers, IsHeadOf};
 
 use board_io::List;
 use file_table::Files;
-use scene_json::{Member, Text, raw_text, text_named};
+use json_text::{Member, Text};
+use scene_json::{raw_text, text_named};
 use std::alloc::{AllocError, Global};
 use std::marker::Model;
 

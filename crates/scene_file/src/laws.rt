@@ -1,8 +1,8 @@
 //! Laws on scenes and heads, for all of them. They do nothing when they run.
 
 ghost use Rattle.std.specs.Prelude.{◌≡◌, ◌↔◌, ◌⊎◌, ◌<◌, ◌≤◌, ℕ, List, ◌++◌, All, Contains, true, Some, None, drop, flat_map, length, map};
-ghost use Rattle.scene_json.specs.Characters.{is_blank};
-ghost use Rattle.scene_json.specs.Value.{IsCompact};
+ghost use Rattle.json_text.specs.Characters.{is_blank};
+ghost use Rattle.json_text.specs.Value.{IsCompact};
 ghost use Rattle.elem.specs.ElementValue.{ElementValue};
 ghost use Rattle.elem_read.specs.Reading.{IsWholeElement};
 ghost use Rattle.elem_store.specs.Updates.{AreStored};

@@ -3,12 +3,12 @@
 ghost use Rattle.std.specs.Prelude.{◌≡◌, ℕ, List as Items, [], ◌++◌, bytes_eq, map, All, IfOk, OnOk};
 ghost use Rattle.std.specs.List.{IsDistinct, join_with_byte};
 ghost use Rattle.std.specs.Str.{IsUtf8};
-ghost use Rattle.scene_json.specs.Compact.{object_text};
+ghost use Rattle.json_text.specs.Compact.{object_text};
+ghost use Rattle.json_text.specs.Members.{pairs};
+ghost use Rattle.json_text.specs.Parts.{names_of};
+ghost use Rattle.json_text.specs.Value.{IsCompact};
 ghost use Rattle.scene_json.specs.Layout.{IsLaidOut};
 ghost use Rattle.scene_json.specs.Lines.{IsLaidOutSoFar};
-ghost use Rattle.scene_json.specs.Members.{pairs};
-ghost use Rattle.scene_json.specs.Parts.{names_of};
-ghost use Rattle.scene_json.specs.Value.{IsCompact};
 ghost use Rattle.elem.specs.Texts.{element_text, text_or_null};
 ghost use Rattle.file_table.specs.Table.{EntriesNest};
 ghost use Rattle.view.specs.Shown.{shown, HaveRisingKeys};
@@ -21,7 +21,8 @@ use crate::layout::Layout;
 use board_io::{Bytes, List};
 use elem::{Element, push_element, push_elements};
 use elem_store::Store;
-use scene_json::{Lines, Member, Text, push_comma, push_member, push_quote};
+use json_text::{Member, Text, push_quote};
+use scene_json::{Lines, push_comma, push_member};
 use std::alloc::{AllocError, Global};
 use view::View;
 

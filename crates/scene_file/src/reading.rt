@@ -2,8 +2,8 @@
 
 ghost use Rattle.std.specs.Prelude.{◌≡◌, ◌<◌, ◌≤◌, ℕ, List as Items, length, drop, Err, IfOk, MatchOption, option_copied, is_some};
 ghost use Rattle.std.specs.List.{list_all};
-ghost use Rattle.scene_json.specs.Compact.{Member as Pair};
-ghost use Rattle.scene_json.specs.Members.{pairs};
+ghost use Rattle.json_text.specs.Compact.{Member as Pair};
+ghost use Rattle.json_text.specs.Members.{pairs};
 ghost use Rattle.elem_read.specs.Elements.{AreRead, IsFirstFaulty};
 ghost use Rattle.elem_read.specs.declared.fault.ElemFault.{ElemFault};
 ghost use Rattle.scene_file.specs.Reading.{value_unless_null, loaded, HasItems, HasMembers, IsSceneOf, IsSceneFault, IsSceneAt, IsSceneFaultAt};
@@ -16,7 +16,9 @@ use crate::scene::Scene;
 use board_io::{List, Stop};
 use elem::Element;
 use elem_read::read_elements;
-use scene_json::{Member, Raw, has_value, is_null, items, members, scan, shaped, value_named};
+use json_reader::scan;
+use json_text::{Member, Raw};
+use scene_json::{has_value, is_null, items, members, shaped, value_named};
 use std::alloc::{AllocError, Global};
 use view::with_repaired_keys;
 

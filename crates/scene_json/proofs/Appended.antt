@@ -3,10 +3,10 @@ use Rattle.std.proofs.Common.{◌≡◌, ◌<◌, ◌≤◌, ℕ, ◌+◌, List,
 use Rattle.std.proofs.lemmas.List.{take_more, length-take-le, length-map, map-append}
 use Rattle.std.proofs.lemmas.List.Elements.{All-map, All-same, recursion_from_All}
 use Rattle.std.specs.List.{join_with_byte}
-use Rattle.scene_json.specs.Compact.{array_text}
-use Rattle.scene_json.specs.Value.{IsCompact}
-use Rattle.scene_json.proofs.CompactLaws.{array-compact}
-use Rattle.scene_json.proofs.Quoting.{join-push}
+use Rattle.json_text.specs.Compact.{array_text}
+use Rattle.json_text.specs.Value.{IsCompact}
+use Rattle.json_text.proofs.CompactLaws.{array-compact}
+use Rattle.json_text.proofs.Quoting.{join-push}
 
 -- one more text, behind a comma where it isn't the first
 joined_more : (start : List ℕ) (ts : List (List ℕ)) (t out comma : List ℕ) → out ≡ start ++ join_with_byte 44 ts →

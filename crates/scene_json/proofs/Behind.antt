@@ -6,11 +6,11 @@ use Rattle.std.proofs.lemmas.List.{append_cancel_right}
 use Rattle.std.proofs.lemmas.List.Sums.{prefix_len-le-length}
 use Rattle.std.proofs.lemmas.Bool.{cases_Bool, cases_lt, and_parts, cond_both}
 use Rattle.std.proofs.lemmas.Bool.Decides.{nat_tests}
-use Rattle.scene_json.specs.Characters.{is_hex, is_plain}
-use Rattle.scene_json.specs.Tree.{Piece, bare, letter, unit, IsPiece, piece_spelling}
+use Rattle.json_text.specs.Characters.{is_hex, is_plain}
+use Rattle.json_text.specs.Tree.{Piece, bare, letter, unit, IsPiece, piece_spelling}
 use Rattle.scene_json.specs.Passes.{behind_string}
-use Rattle.scene_json.proofs.Literals.{list_all-each}
-use Rattle.scene_json.proofs.Strings.{plain-bare}
+use Rattle.json_text.proofs.Literals.{list_all-each}
+use Rattle.json_text.proofs.Strings.{plain-bare, plain-quote, plain-slash, hex-plain}
 
 -- a string up to its end, of which these bytes are the rest
 abbrev pub string_front : Bool → List ℕ → List ℕ
@@ -30,15 +30,6 @@ length-behind_string escaped [] = omega arith
 length-behind_string escaped (b ∷ bs) =
     cond_both (b == 34 && not escaped) _ _ (λ (x : List ℕ). length x ≤ suc (length bs)) (λ _. omega arith)
     (λ _. omega (arith, length-behind_string (b == 92 && not escaped) bs))
-
-pub plain-quote : (b : ℕ) → is_plain b ≡ true → eqb b 34 ≡ false
-plain-quote b h = grind (arith, nat_tests)
-
-pub plain-slash : (b : ℕ) → is_plain b ≡ true → eqb b 92 ≡ false
-plain-slash b h = grind (arith, nat_tests)
-
-pub hex-plain : (b : ℕ) → is_hex b ≡ true → is_plain b ≡ true
-hex-plain b h = grind (arith, nat_tests)
 
 -- a pass inside a string goes over plain bytes
 plain-behind : (xs bs : List ℕ) → list_all is_plain xs ≡ true → behind_string false (xs ++ bs) ≡ behind_string false bs

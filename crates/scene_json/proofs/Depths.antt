@@ -4,10 +4,11 @@ use Rattle.std.specs.List.{count_by}
 use Rattle.std.proofs.lemmas.Bool.{cases_Bool}
 use Rattle.std.proofs.lemmas.Bool.Decides.{nat_tests}
 use Rattle.std.proofs.lemmas.List.Sums.{sum_by-cons}
-use Rattle.scene_json.specs.Tree.{Container, array, object, opening, closing, Tree, spelling, IsGood, depth}
-use Rattle.scene_json.specs.Value.{IsCompact}
-use Rattle.scene_json.specs.Passes.{behind_string, is_opening, is_closing}
-use Rattle.scene_json.specs.Lines.{Place, outside, inside}
+use Rattle.json_text.specs.Tree.{Container, array, object, opening, closing, Tree, spelling, IsGood, depth}
+use Rattle.json_text.specs.Value.{IsCompact}
+use Rattle.json_text.specs.Characters.{is_opening, is_closing}
+use Rattle.json_text.specs.Walk.{Place, outside, inside}
+use Rattle.scene_json.specs.Passes.{behind_string}
 use Rattle.scene_json.proofs.Passing.{is_inert, IsPass, tree-steps}
 
 abbrev pub level_after : ℕ → ℕ → ℕ

@@ -2,13 +2,13 @@
 use Rattle.std.proofs.Common.{◌≡◌, ◌-◌, ◌+◌, ◌≤◌, ◌<◌, ℕ, List, [], ◌∷◌, ◌++◌, length, take, drop, map, refl, sym, ap, subst, ◌∙◌, arith, append_assoc, length-append, length-drop, drop-drop, ◌≢◌, get_or, drop-cons, add-one, lit<}
 use Rattle.std.proofs.Math.Seq.{take-append_seam, drop-append_seam}
 use Rattle.std.proofs.lemmas.List.{map-id}
-use Rattle.scene_json.proofs.Strings.{heads-differ}
-use Rattle.scene_json.proofs.Reading.{begins_value, Head, tree-Head, head-apart, first-same, tail-same, closing-no-comma}
+use Rattle.json_text.proofs.Strings.{heads-differ}
+use Rattle.json_text.proofs.Reading.{begins_value, Head, tree-Head, head-apart, first-same, tail-same, closing-no-comma}
 use Rattle.std.specs.List.{AllByRecursion, join_with_byte}
-use Rattle.scene_json.specs.Tree.{Container, array, object, closing}
-use Rattle.scene_json.specs.Compact.{array_text}
-use Rattle.scene_json.specs.Value.{IsCompact}
-use Rattle.scene_json.specs.Walk.{Compacted, IsEnd}
+use Rattle.json_text.specs.Tree.{Container, array, object, closing}
+use Rattle.json_text.specs.Compact.{array_text}
+use Rattle.json_text.specs.Value.{IsCompact}
+use Rattle.scene_json.specs.Passes.{Compacted, IsEnd}
 
 -- All elements are those that were found and some more, whose texts stand here with the closing bracket.
 pub record IsLeft (c : Container) (X : Type 0) (text : X → List ℕ) (P : X → Type 0) (all found : List X) (bytes : List ℕ) : Type 0 where

@@ -1,11 +1,11 @@
 -- A value that is laid out is the same value.
 use Rattle.std.proofs.Common.{◌≡◌, ℕ, zero, suc, ◌+◌, max, List, true, replicate, refl, sym, ap, ap₂, ◌∙◌, arith}
 use Rattle.std.specs.List.{list_all}
-use Rattle.scene_json.specs.Characters.{is_space}
-use Rattle.scene_json.specs.Tree.{Container, array, object, Label, unnamed, named, IsLabel, Tree, scalar, text, empty, filled, Values, last, next, spelling, IsGood, AreGood, depth, values_depth}
-use Rattle.scene_json.specs.Compact.{label_name, container_text, compact, members}
+use Rattle.json_text.specs.Characters.{is_space}
+use Rattle.json_text.specs.Tree.{Container, array, object, Label, unnamed, named, IsLabel, Tree, scalar, text, empty, filled, Values, last, next, spelling, IsGood, AreGood, depth, values_depth}
+use Rattle.json_text.specs.Compact.{label_name, container_text, compact, members}
+use Rattle.json_text.specs.Value.{Value}
 use Rattle.scene_json.specs.Layout.{line, label_laid_out, laid_out, values_laid_out}
-use Rattle.scene_json.specs.Value.{Value}
 
 spaces-blank : (n : ℕ) → list_all is_space (replicate n 32) ≡ true
 spaces-blank zero = refl

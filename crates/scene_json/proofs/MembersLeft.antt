@@ -1,16 +1,17 @@
 -- The members of an object that are left while it is taken apart.
 use Rattle.std.proofs.Common.{◌≡◌, ◌≢◌, ℕ, List, [], ◌∷◌, ◌++◌, map, drop, refl, sym, ap, ◌∙◌, append_assoc, IsUtf8}
 use Rattle.std.specs.List.{AllByRecursion, join_with_byte}
-use Rattle.scene_json.specs.Characters.{quote}
-use Rattle.scene_json.specs.Tree.{object}
-use Rattle.scene_json.specs.Compact.{Member, member_text, object_text}
-use Rattle.scene_json.specs.Value.{IsCompact}
-use Rattle.scene_json.specs.Walk.{Quoted, Compacted}
-use Rattle.scene_json.specs.Parts.{AreMembers}
-use Rattle.scene_json.specs.Members.{pairs}
-use Rattle.scene_json.specs.declared.text.Member.{Member as Taken}
-use Rattle.scene_json.proofs.Forms.{quote-Quoted}
-use Rattle.scene_json.proofs.Strings.{heads-differ}
+use Rattle.json_text.specs.Characters.{quote}
+use Rattle.json_text.specs.Tree.{object}
+use Rattle.json_text.specs.Compact.{Member, member_text, object_text}
+use Rattle.json_text.specs.Value.{IsCompact}
+use Rattle.json_text.specs.Walk.{Quoted}
+use Rattle.json_text.specs.Parts.{AreMembers}
+use Rattle.json_text.specs.Members.{pairs}
+use Rattle.json_text.specs.declared.text.Member.{Member as Taken}
+use Rattle.scene_json.specs.Passes.{Compacted}
+use Rattle.json_text.proofs.Forms.{quote-Quoted}
+use Rattle.json_text.proofs.Strings.{heads-differ}
 use Rattle.scene_json.proofs.ItemsLeft.{IsLeft, after_item, items-split, item-ends}
 
 -- what holds of each member

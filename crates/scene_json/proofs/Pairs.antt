@@ -2,12 +2,12 @@
 use Rattle.std.proofs.Common.{◌≡◌, ◌≤◌, ℕ, List, [], ◌∷◌, refl, sym, ap, subst, map, All, IsUtf8, bytes_eq, take, length, take_all}
 use Rattle.std.proofs.lemmas.List.Elements.{recursion_from_All, All-from_recursion, All-map, All-same}
 use Rattle.std.specs.List.{AllByRecursion, IsDistinct}
-use Rattle.scene_json.specs.declared.text.Member.{Member}
-use Rattle.scene_json.specs.Compact.{Member as Pair}
-use Rattle.scene_json.specs.Members.{pairs, pair_of}
-use Rattle.scene_json.specs.Value.{IsCompact}
-use Rattle.scene_json.proofs.Collapsed.{names_of}
-use Rattle.scene_json.proofs.CompactLaws.{AreMembers}
+use Rattle.json_text.specs.declared.text.Member.{Member}
+use Rattle.json_text.specs.Compact.{Member as Pair}
+use Rattle.json_text.specs.Members.{pairs, pair_of}
+use Rattle.json_text.specs.Value.{IsCompact}
+use Rattle.json_text.proofs.Collapsed.{names_of}
+use Rattle.json_text.proofs.CompactLaws.{AreMembers}
 
 pub names-pairs : (ms : List Member) → names_of (pairs ms) ≡ map (λ m. m.name) ms
 names-pairs [] = refl

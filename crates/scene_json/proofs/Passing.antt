@@ -3,12 +3,12 @@ use Rattle.std.proofs.Common.{◌≡◌, ℕ, ◌+◌, ◌≤◌, max, List, [],
 use Rattle.std.specs.List.{list_all, AllByRecursion}
 use Rattle.std.proofs.lemmas.Bool.{and_parts}
 use Rattle.std.proofs.lemmas.Bool.Decides.{nat_tests}
-use Rattle.scene_json.specs.Characters.{is_space}
-use Rattle.scene_json.specs.Tree.{Piece, IsPiece, piece_spelling, string_spelling, Container, array, object, opening, closing, Label, unnamed, named, IsLabel, label_spelling, Tree, scalar, text, empty, filled, Values, last, next, spelling, values_spelling, IsGood, AreGood, depth, values_depth}
-use Rattle.scene_json.specs.Passes.{behind_string, is_opening, ends_value}
+use Rattle.json_text.specs.Characters.{is_space, is_opening, ends_value}
+use Rattle.json_text.specs.Tree.{Piece, IsPiece, piece_spelling, string_spelling, Container, array, object, opening, closing, Label, unnamed, named, IsLabel, label_spelling, Tree, scalar, text, empty, filled, Values, last, next, spelling, values_spelling, IsGood, AreGood, depth, values_depth}
+use Rattle.scene_json.specs.Passes.{behind_string}
+use Rattle.json_text.proofs.Literals.{is_part_of_literal, list_all-each, literal-plain}
+use Rattle.json_text.proofs.Reading.{regroup-last, regroup-next}
 use Rattle.scene_json.proofs.Behind.{pieces-behind}
-use Rattle.scene_json.proofs.Literals.{is_part_of_literal, list_all-each, literal-plain}
-use Rattle.scene_json.proofs.Reading.{regroup-last, regroup-next}
 
 -- a byte that is no quotation mark, no bracket and no comma
 abbrev pub is_inert : ℕ → Bool

@@ -1,9 +1,9 @@
 -- Items that are the quotes of texts.
 use Rattle.std.proofs.Common.{◌≡◌, ℕ, zero, suc, ◌<◌, List, [], ◌∷◌, ◌++◌, length, take, get_or, map, refl, subst, ap, ◌∙◌, arith, IsUtf8}
 use Rattle.std.specs.List.{AllByRecursion}
-use Rattle.scene_json.specs.Characters.{quote}
-use Rattle.scene_json.specs.Value.{IsCompact}
-use Rattle.scene_json.proofs.CompactLaws.{quote-compact}
+use Rattle.json_text.specs.Characters.{quote}
+use Rattle.json_text.specs.Value.{IsCompact}
+use Rattle.json_text.proofs.CompactLaws.{quote-compact}
 
 -- the item is the quote of this text and of no other
 pub record IsQuote (item text : List ℕ) : Type 0 where

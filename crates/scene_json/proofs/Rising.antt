@@ -5,9 +5,9 @@ use Rattle.std.specs.List.{list_any}
 use Rattle.std.specs.Ordering.{match_ordering}
 use Rattle.std.specs.declared.cmp.Ordering.TheVariants.{Less, Equal, Greater}
 use Rattle.std.proofs.lemmas.Bool.{cases_Bool}
-use Rattle.scene_json.specs.Compact.{Member as Pair}
+use Rattle.json_text.specs.Compact.{Member as Pair}
 use Rattle.scene_json.specs.Named.{value_at, HaveRisingNames}
-use Rattle.scene_json.proofs.Collapsed.{bytes_eq-true}
+use Rattle.json_text.proofs.Collapsed.{bytes_eq-true}
 use Rattle.scene_json.proofs.Lookups.{IsBelow, IsBelow-less, bytes_eq-less, bytes_eq-tied, less_turned, rising_parts, rising_from, rising_none}
 
 -- ---- a member that takes its place

@@ -2,10 +2,10 @@
 use Rattle.std.proofs.Common.{◌≡◌, ℕ, ◌+◌, ◌-◌, max, List, [], ◌∷◌, ◌++◌, Bool, true, false, not, ◌&&◌, ◌==◌, eqb, if◌then◌else◌, refl, sym, ap, ◌∙◌, arith, inl, inr}
 use Rattle.std.proofs.lemmas.Bool.{cases_Bool}
 use Rattle.std.proofs.lemmas.Bool.Decides.{nat_tests}
-use Rattle.scene_json.specs.Tree.{Container, array, object, opening, closing, depth}
-use Rattle.scene_json.specs.Passes.{behind_string, is_opening, is_closing, ends_value}
-use Rattle.scene_json.specs.Walk.{Compacted, IsEnd}
-use Rattle.scene_json.specs.Lines.{Place, outside, inside}
+use Rattle.json_text.specs.Tree.{Container, array, object, opening, closing, depth}
+use Rattle.json_text.specs.Characters.{is_opening, is_closing, ends_value}
+use Rattle.json_text.specs.Walk.{Place, outside, inside}
+use Rattle.scene_json.specs.Passes.{behind_string, Compacted, IsEnd}
 use Rattle.scene_json.proofs.Depths.{level_after}
 use Rattle.scene_json.proofs.Passing.{is_inert, IsPass, tree-steps}
 

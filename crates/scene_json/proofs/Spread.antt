@@ -4,14 +4,16 @@ use Rattle.std.specs.List.{list_all, AllByRecursion}
 use Rattle.std.proofs.lemmas.List.{take-append-drop}
 use Rattle.std.proofs.lemmas.Bool.{and_parts, cases_Bool}
 use Rattle.std.proofs.lemmas.Bool.Decides.{nat_tests}
-use Rattle.scene_json.specs.Characters.{is_space, is_plain}
-use Rattle.scene_json.specs.Tree.{Piece, IsPiece, piece_spelling, string_spelling, Container, array, object, opening, closing, Label, unnamed, named, IsLabel, label_spelling, Tree, scalar, text, empty, filled, Values, last, next, spelling, values_spelling, IsGood, AreGood}
+use Rattle.json_text.specs.Characters.{is_space, is_plain, is_opening, is_closing}
+use Rattle.json_text.specs.Tree.{Piece, IsPiece, piece_spelling, string_spelling, Container, array, object, opening, closing, Label, unnamed, named, IsLabel, label_spelling, Tree, scalar, text, empty, filled, Values, last, next, spelling, values_spelling, IsGood, AreGood}
+use Rattle.json_text.specs.Walk.{Place, outside, inside}
 use Rattle.scene_json.specs.Layout.{line, label_laid_out, laid_out, values_laid_out}
-use Rattle.scene_json.specs.Lines.{Place, outside, inside, Standing, layout, layout_from}
-use Rattle.scene_json.specs.Passes.{behind_string, is_opening, is_closing, spaces_from, put_before, put_behind}
-use Rattle.scene_json.proofs.Behind.{string_front, pieces-front, pieces-behind, plain-quote, plain-slash}
-use Rattle.scene_json.proofs.Literals.{is_part_of_literal, literal-plain}
-use Rattle.scene_json.proofs.Reading.{begins_value, begins-no-space, values-Front, regroup-last, regroup-next}
+use Rattle.scene_json.specs.Lines.{Standing, layout, layout_from}
+use Rattle.scene_json.specs.Passes.{behind_string, spaces_from, put_before, put_behind}
+use Rattle.json_text.proofs.Strings.{plain-quote, plain-slash}
+use Rattle.json_text.proofs.Literals.{is_part_of_literal, literal-plain}
+use Rattle.json_text.proofs.Reading.{begins_value, begins-no-space, values-Front, regroup-last, regroup-next}
+use Rattle.scene_json.proofs.Behind.{string_front, pieces-front, pieces-behind}
 
 -- a string is kept
 inside-string : (escaped first : Bool) (spaces : ℕ) (bs : List ℕ) → layout (inside escaped) first spaces bs ≡ string_front escaped bs ++ layout outside first spaces (behind_string escaped bs)

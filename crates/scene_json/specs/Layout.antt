@@ -1,6 +1,6 @@
 -- The layout of two spaces a level. This project's own choice of white space, which RFC 8259, section 2, leaves free.
 use Rattle.std.specs.Prelude.{◌≡◌, ℕ, ◌+◌, List, [], ◌∷◌, replicate}
-use Rattle.scene_json.specs.Tree.{Label, unnamed, named, Tree, scalar, text, empty, filled, Values, last, next, IsGood, spelling}
+use Rattle.json_text.specs.Tree.{Label, unnamed, named, Tree, scalar, text, empty, filled, Values, last, next, IsGood, spelling}
 
 -- a new line with so many spaces
 abbrev pub line : ℕ → List ℕ

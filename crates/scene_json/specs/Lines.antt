@@ -1,17 +1,10 @@
 -- How the layout of a text goes on behind a first part of it. This project's own.
 use Rattle.std.specs.Prelude.{◌≡◌, ℕ, List, [], ◌∷◌, ◌++◌, Bool, false, not, ◌&&◌, ◌==◌, if◌then◌else◌}
-use Rattle.scene_json.specs.Characters.{is_space, quotation_mark, backslash}
+use Rattle.json_text.specs.Characters.{is_space, quotation_mark, backslash, is_opening}
+use Rattle.json_text.specs.Walk.{Place, outside, inside}
+use Rattle.json_text.specs.Tree.{Tree, IsGood, spelling}
 use Rattle.scene_json.specs.Layout.{laid_out}
-use Rattle.scene_json.specs.Passes.{is_opening, spaces_from, put_before, put_behind}
-use Rattle.scene_json.specs.Tree.{Tree, IsGood, spelling}
-
--- outside strings, or in one and perhaps behind a backslash
-pub data Place : Type 0 where
-  outside : Place
-  inside : Bool → Place
-
-abbrev pub place_of : Bool → Bool → Place
-place_of quoted escaped = if quoted then inside escaped else outside
+use Rattle.scene_json.specs.Passes.{spaces_from, put_before, put_behind}
 
 -- Where a layout stands: in a string or not, whether a container was just opened, and how many spaces its lines have.
 pub record Standing : Type 0 where

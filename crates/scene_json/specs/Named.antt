@@ -4,8 +4,8 @@ use Rattle.std.specs.Cmp.Lexicographic.{slice_cmp}
 use Rattle.std.specs.List.Sorted.{IsStrictlySortedBy}
 use Rattle.std.specs.Map.{lookup}
 use Rattle.std.specs.Ordering.{nat_cmp}
-use Rattle.scene_json.specs.Compact.{Member as Pair}
-use Rattle.scene_json.specs.Parts.{names_of}
+use Rattle.json_text.specs.Compact.{Member as Pair}
+use Rattle.json_text.specs.Parts.{names_of}
 
 -- the value of the first member with this name
 abbrev pub value_at : List ℕ → List Pair → Option (List ℕ)

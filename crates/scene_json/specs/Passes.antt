@@ -1,6 +1,7 @@
 -- What a pass over the bytes of a text meets. Only contracts of private functions cite this.
-use Rattle.std.specs.Prelude.{ℕ, ◌+◌, ◌-◌, List, [], ◌∷◌, Bool, not, ◌&&◌, ◌||◌, ◌==◌, if◌then◌else◌}
-use Rattle.scene_json.specs.Characters.{quotation_mark, comma, colon, backslash}
+use Rattle.std.specs.Prelude.{◌≡◌, ℕ, ◌+◌, ◌-◌, List, [], ◌∷◌, ◌++◌, Bool, true, not, ◌&&◌, ◌==◌, if◌then◌else◌}
+use Rattle.json_text.specs.Characters.{quotation_mark, comma, colon, backslash, is_closing, ends_value}
+use Rattle.json_text.specs.Value.{IsCompact}
 use Rattle.scene_json.specs.Layout.{line}
 
 -- What stands behind a string, of which these bytes are the rest: it ends at the first `"` without a `\` before it that
@@ -9,18 +10,6 @@ abbrev pub behind_string : Bool → List ℕ → List ℕ
 behind_string escaped [] = []
 behind_string escaped (b ∷ bs) =
     if b == quotation_mark && not escaped then bs else behind_string (b == backslash && not escaped) bs
-
--- a bracket that opens an array or an object. RFC 8259, section 2.
-abbrev pub is_opening : ℕ → Bool
-is_opening b = b == 91 || b == 123
-
--- a bracket that closes one
-abbrev pub is_closing : ℕ → Bool
-is_closing b = b == 93 || b == 125
-
--- a byte that may stand behind a value in a container
-abbrev pub ends_value : ℕ → Bool
-ends_value b = b == comma || is_closing b
 
 -- How many spaces a line has from this byte on, in the layout: two more from the first one in a container on, two fewer
 -- from the bracket on that closes it, unless it is empty. This project's own.
@@ -36,3 +25,14 @@ put_before first spaces b =
 -- what the layout has behind a byte: a new line behind a comma, a space behind a colon
 abbrev pub put_behind : ℕ → ℕ → List ℕ
 put_behind spaces b = if b == comma then line spaces else (if b == colon then 32 ∷ [] else [])
+
+-- A comma or a closing bracket stands at the front.
+abbrev pub IsEnd : List ℕ → Type 0
+IsEnd [] = ⊥
+IsEnd (b ∷ bytes) = ends_value b ≡ true
+
+-- A value in a container that is its own compact text, and nests at most 127, stands at the front; the rest follows it.
+pub record Compacted (bytes text rest : List ℕ) : Type 0 where
+  pub compact : IsCompact 127 text
+  pub parts : bytes ≡ text ++ rest
+  pub ends : IsEnd rest

@@ -1,19 +1,18 @@
 //! Values made of their parts.
 
-ghost use Rattle.std.specs.Prelude.{◌≡◌, ◌⊎◌, ℕ, [], ◌∷◌, ◌++◌, ◌+◌, ◌<◌, map, take, IfOk, IsOk, OnOk, OnErr, if◌then◌else◌, decimal, All, bytes_eq, flat_map, position};
+ghost use Rattle.std.specs.Prelude.{◌≡◌, ◌⊎◌, ℕ, [], ◌∷◌, ◌++◌, ◌+◌, ◌<◌, map, IfOk, IsOk, OnOk, OnErr, if◌then◌else◌, decimal, All, bytes_eq};
 ghost use Rattle.std.specs.List.{IsDistinct};
 ghost use Rattle.std.specs.Str.{IsUtf8};
-ghost use Rattle.scene_json.specs.Appending.{Extends};
-ghost use Rattle.scene_json.specs.Characters;
-ghost use Rattle.scene_json.specs.Characters.{quote, quoted_byte, needs_escape};
-ghost use Rattle.scene_json.specs.Tree.{null_word, true_word, false_word};
-ghost use Rattle.scene_json.specs.Compact.{array_text, object_text, member_text};
-ghost use Rattle.scene_json.specs.Value.{IsCompact};
-ghost use Rattle.scene_json.specs.Members.{pairs};
+ghost use Rattle.json_text.specs.Appending.{Extends};
+ghost use Rattle.json_text.specs.Characters.{quote};
+ghost use Rattle.json_text.specs.Tree.{null_word, true_word, false_word};
+ghost use Rattle.json_text.specs.Compact.{array_text, object_text, member_text};
+ghost use Rattle.json_text.specs.Value.{IsCompact};
+ghost use Rattle.json_text.specs.Members.{pairs};
 
-use crate::text::{Member, Raw, Text};
 use board_io::List;
 use itoa::Buffer;
+use json_text::{Member, Raw, Text, push_quote, whole_or_cut};
 use std::alloc::{AllocError, Global};
 
 /// `null`. It takes no memory.
@@ -135,27 +134,8 @@ pub fn push_comma(out: &mut Vec<u8>, i: usize) -> Result<(), AllocError>
     Ok(())
 }
 
-/// Appends the quote of a text. For want of memory nothing is appended.
-pub fn push_quote(out: &mut Vec<u8>, text: &Text) -> Result<(), AllocError>
-    ensures ok { OnOk result (out.new.items ≡ out.old.items ++ quote text.now) }
-    ensures err { OnErr result (out.new.items ≡ out.old.items) }
-    ensures utf8 { IsUtf8 text.now }
-    ensures nests { IsCompact 0 (quote text.now) }
-{
-    push_quote_of(out, text.as_bytes())
-}
-
-/// Appends the quote of these characters. For want of memory nothing is appended.
-pub fn push_quoted(out: &mut Vec<u8>, characters: &str) -> Result<(), AllocError>
-    ensures ok { OnOk result (out.new.items ≡ out.old.items ++ quote characters.now) }
-    ensures err { OnErr result (out.new.items ≡ out.old.items) }
-    ensures nests { IsCompact 0 (quote characters.now) }
-{
-    push_quote_of(out, characters.as_bytes())
-}
-
 /// Appends a number in digits. For want of memory nothing is appended.
-#[tactic(auto, using(crate::proofs::CompactLaws::decimal_nests))]
+#[tactic(auto, using(json_text::proofs::CompactLaws::decimal_nests))]
 pub fn push_whole(out: &mut Vec<u8>, number: u64) -> Result<(), AllocError>
     ensures ok { OnOk result (out.new.items ≡ out.old.items ++ decimal number) }
     ensures err { OnErr result (out.new.items ≡ out.old.items) }
@@ -163,98 +143,4 @@ pub fn push_whole(out: &mut Vec<u8>, number: u64) -> Result<(), AllocError>
 {
     let mut buffer = Buffer::new();
     out.extend_from_slice(buffer.format(number).as_bytes())
-}
-
-/// What an append to a vector of this length came to. Where it failed, the vector is cut back to that length.
-pub fn whole_or_cut(
-    out: &mut Vec<u8>,
-    length: usize,
-    appended: Result<(), AllocError>,
-) -> Result<(), AllocError>
-    ensures same { result ≡ appended }
-    ensures ok { OnOk result (out.new.items ≡ out.old.items) }
-    ensures err { OnErr result (out.new.items ≡ take length out.old.items) }
-{
-    if appended.is_err() {
-        out.truncate(length);
-    }
-    appended
-}
-
-/// Appends the quote of a text of these bytes. For want of memory nothing is appended.
-fn push_quote_of(out: &mut Vec<u8>, text: &[u8]) -> Result<(), AllocError>
-    ensures ok { OnOk result (out.new.items ≡ out.old.items ++ quote text.now) }
-    ensures err { OnErr result (out.new.items ≡ out.old.items) }
-{
-    let start = out.len();
-    let appended = push_quote_parts(out, text);
-    whole_or_cut(out, start, appended)
-}
-
-/// Appends the quote of a text of these bytes. After want of memory a part of it may stand there.
-fn push_quote_parts(out: &mut Vec<u8>, text: &[u8]) -> Result<(), AllocError>
-    ensures ok { OnOk result (out.new.items ≡ out.old.items ++ quote text.now) }
-    ensures kept { OnErr result (Extends out.old.items out.new.items) }
-{
-    out.push(b'"')?;
-    push_escaped(out, text)?;
-    out.push(b'"')?;
-    Ok(())
-}
-
-/// Appends what stands between the quotation marks. Bytes that stand for themselves are copied together.
-fn push_escaped(out: &mut Vec<u8>, text: &[u8]) -> Result<(), AllocError>
-    ensures ok { OnOk result (out.new.items ≡ out.old.items ++ flat_map quoted_byte text.now) }
-    ensures kept { OnErr result (Extends out.old.items out.new.items) }
-{
-    let mut rest = text;
-    while let Some(plain) = first_escaped(rest) {
-        out.extend_from_slice(&rest[..plain])?;
-        push_quoted_byte(out, rest[plain])?;
-        rest = &rest[plain + 1..];
-    }
-    out.extend_from_slice(rest)
-}
-
-/// Where the first byte stands that needs an escape, if there is one.
-fn first_escaped(text: &[u8]) -> Option<usize>
-    ensures { result ≡ position needs_escape text.now }
-{
-    text.iter()
-        .position(|byte| *byte < b' ' || *byte == b'"' || *byte == b'\\')
-}
-
-/// Appends a byte as it stands in a quote.
-fn push_quoted_byte(out: &mut Vec<u8>, byte: u8) -> Result<(), AllocError>
-    ensures ok { OnOk result (out.new.items ≡ out.old.items ++ quoted_byte byte) }
-    ensures err { OnErr result (out.new.items ≡ out.old.items) }
-{
-    match byte {
-        b'"' | b'\\' => out.extend_from_slice(&[b'\\', byte]),
-        b' '.. => out.extend_from_slice(&[byte]),
-        0x08 => out.extend_from_slice(b"\\b"),
-        b'\t' => out.extend_from_slice(b"\\t"),
-        b'\n' => out.extend_from_slice(b"\\n"),
-        0x0c => out.extend_from_slice(b"\\f"),
-        b'\r' => out.extend_from_slice(b"\\r"),
-        _ => {
-            let digits = [
-                b'\\',
-                b'u',
-                b'0',
-                b'0',
-                hex_digit(byte / 16),
-                hex_digit(byte % 16),
-            ];
-            out.extend_from_slice(&digits)
-        }
-    }
-}
-
-/// The digit of base 16, in lower case.
-pub(crate) fn hex_digit(value: u8) -> u8
-    requires { value < 16 }
-    ensures { result ≡ Characters.hex_digit value }
-{
-    if value < 10 { value + b'0' } else { value + 87 }
 }

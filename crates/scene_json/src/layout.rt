@@ -2,20 +2,18 @@
 
 ghost use Rattle.std.specs.Prelude.{◌≡◌, ◌-◌, ◌*◌, ◌<◌, ◌≤◌, ℕ, List as Items, [], ◌∷◌, ◌++◌, true, false, take, length, IfOk, OnOk, OnErr};
 ghost use Rattle.std.specs.List.{AllByRecursion};
-ghost use Rattle.scene_json.specs.Appending.{Extends};
-ghost use Rattle.scene_json.specs.Characters.{is_plain};
+ghost use Rattle.json_text.specs.Appending.{Extends};
+ghost use Rattle.json_text.specs.Characters.{is_plain, is_closing};
+ghost use Rattle.json_text.specs.Walk.{inside};
+ghost use Rattle.json_text.specs.Tree.{Tree, IsGood, spelling};
+ghost use Rattle.json_text.specs.Value.{Value};
 ghost use Rattle.scene_json.specs.Layout.{line, laid_out};
-ghost use Rattle.scene_json.specs.Lines.{IsLaidOutSoFar, inside, layout_from};
-ghost use Rattle.scene_json.specs.Passes.{is_closing, spaces_from, put_before, put_behind};
-ghost use Rattle.scene_json.specs.Tree.{Tree, IsGood, spelling};
-ghost use Rattle.scene_json.specs.Value.{Value};
+ghost use Rattle.scene_json.specs.Lines.{IsLaidOutSoFar, layout_from};
+ghost use Rattle.scene_json.specs.Passes.{spaces_from, put_before, put_behind};
 
-use crate::build::whole_or_cut;
-use crate::content::run_end;
-use crate::machine::is_space;
 use crate::nesting::opens;
-use crate::text::Raw;
 use board_io::Bytes;
+use json_text::{Raw, is_space, run_end, whole_or_cut};
 use std::alloc::{AllocError, Global};
 use std::marker::Model;
 
@@ -46,7 +44,8 @@ pub struct Lines {
 
 impl Model for Lines {
     ghost use Rattle.std.specs.Prelude.{◌*◌};
-    ghost use Rattle.scene_json.specs.Lines.{Standing, place_of};
+    ghost use Rattle.json_text.specs.Walk.{place_of};
+    ghost use Rattle.scene_json.specs.Lines.{Standing};
 
     ghost Value = { Standing };
 
@@ -95,7 +94,7 @@ impl Lines {
     }
 
     /// Appends the layout of the next piece. After want of memory a part of it may stand there.
-    #[tactic(auto, using(crate::proofs::Appending::extends_same, crate::proofs::Appending::extends_by, crate::proofs::Appending::extends_then))]
+    #[tactic(auto, using(json_text::proofs::Appending::extends_same, json_text::proofs::Appending::extends_by, json_text::proofs::Appending::extends_then))]
     fn push_all(&mut self, out: &mut Vec<u8>, piece: &[u8]) -> Result<(), AllocError>
         ensures ok { OnOk result ((text : Items ℕ) → IsLaidOutSoFar self.old text out.old.items
             → IsLaidOutSoFar self.new (text ++ piece.now) out.new.items) }
@@ -110,7 +109,7 @@ impl Lines {
 
     /// Appends the layout of the plain characters of a string that stand at the front, and of the byte behind them, and
     /// gives what follows.
-    #[tactic(auto, using(crate::proofs::Appending::extends_same, crate::proofs::Appending::extends_by, crate::proofs::Appending::extends_then))]
+    #[tactic(auto, using(json_text::proofs::Appending::extends_same, json_text::proofs::Appending::extends_by, json_text::proofs::Appending::extends_then))]
     fn push_next<'a>(&mut self, out: &mut Vec<u8>, bytes: &'a [u8]) -> Result<&'a [u8], AllocError>
         ensures appended { IfOk result (λ rest. (more : Items ℕ) → out.new.items ++ layout_from self.new (rest.now ++ more)
             ≡ out.old.items ++ layout_from self.old (bytes.now ++ more)) }
@@ -140,7 +139,7 @@ impl Lines {
     }
 
     /// Appends the layout of a byte.
-    #[tactic(auto, using(crate::proofs::Appending::extends_same, crate::proofs::Appending::extends_by, crate::proofs::Appending::extends_then))]
+    #[tactic(auto, using(json_text::proofs::Appending::extends_same, json_text::proofs::Appending::extends_by, json_text::proofs::Appending::extends_then))]
     fn push_byte(&mut self, out: &mut Vec<u8>, byte: u8) -> Result<(), AllocError>
         ensures appended { OnOk result ((more : Items ℕ) → out.new.items ++ layout_from self.new more
             ≡ out.old.items ++ layout_from self.old (byte ∷ more)) }
@@ -163,7 +162,7 @@ impl Lines {
 }
 
 /// Begins the line of this byte, if it is the first in a container or closes one that isn't empty, and gives its level.
-#[tactic(auto, using(crate::proofs::Appending::extends_same, crate::proofs::Appending::extends_by, crate::proofs::Appending::extends_then))]
+#[tactic(auto, using(json_text::proofs::Appending::extends_same, json_text::proofs::Appending::extends_by, json_text::proofs::Appending::extends_then))]
 fn break_line(out: &mut Vec<u8>, level: u64, first: bool, byte: u8) -> Result<u64, AllocError>
     ensures level { IfOk result (λ now. 2 * now ≡ spaces_from first (2 * level) byte) }
     ensures written { OnOk result (out.new.items ≡ out.old.items ++ put_before first (2 * level) byte) }
@@ -184,7 +183,7 @@ fn break_line(out: &mut Vec<u8>, level: u64, first: bool, byte: u8) -> Result<u6
 }
 
 /// Parts this byte from what follows it, if it is a comma or a colon.
-#[tactic(auto, using(crate::proofs::Appending::extends_same, crate::proofs::Appending::extends_by, crate::proofs::Appending::extends_then))]
+#[tactic(auto, using(json_text::proofs::Appending::extends_same, json_text::proofs::Appending::extends_by, json_text::proofs::Appending::extends_then))]
 fn part(out: &mut Vec<u8>, level: u64, byte: u8) -> Result<(), AllocError>
     ensures written { OnOk result (out.new.items ≡ out.old.items ++ put_behind (2 * level) byte) }
     ensures kept { OnErr result (Extends out.old.items out.new.items) }

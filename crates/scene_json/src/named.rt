@@ -3,17 +3,16 @@
 ghost use Rattle.std.specs.Prelude.{◌≡◌, ◌↔◌, ◌≤◌, ℕ, List as Items, Bool, Some, IfOk, OnErr, IsTrue, if◌then◌else◌, decimal, option_copied, bytes_eq};
 ghost use Rattle.std.specs.List.{list_any};
 ghost use Rattle.std.specs.Str.{IsUtf8};
-ghost use Rattle.scene_json.specs.Characters.{quote};
-ghost use Rattle.scene_json.specs.Members.{pairs};
+ghost use Rattle.json_text.specs.Characters.{quote};
+ghost use Rattle.json_text.specs.Members.{pairs};
+ghost use Rattle.json_text.specs.Tree.{true_word, false_word};
 ghost use Rattle.scene_json.specs.Named.{value_at};
 ghost use Rattle.scene_json.specs.TheOne.{IsTheOne};
-ghost use Rattle.scene_json.specs.Tree.{true_word, false_word};
 
-use crate::fault::Shape;
-use crate::parts::text_of;
+use crate::parts::{Shape, text_of};
 use crate::scalar::{GREATEST_WHOLE, truth_of, whole_of};
-use crate::text::{Member, Raw, Text};
 use board_io::{List, Stop};
+use json_text::{Member, Raw, Text};
 use std::alloc::{AllocError, Global};
 
 /// The value of the first member with this name, if there is one. It takes no memory.

@@ -2,11 +2,11 @@
 
 ghost use Rattle.std.specs.Prelude.{◌≡◌, ◌↔◌, ℕ, ◌≤◌, false, IsTrue};
 ghost use Rattle.std.specs.List.{count_by};
-ghost use Rattle.scene_json.specs.Value.{IsCompact};
-ghost use Rattle.scene_json.specs.Passes.{behind_string, is_opening};
+ghost use Rattle.json_text.specs.Value.{IsCompact};
+ghost use Rattle.json_text.specs.Characters.{is_opening};
+ghost use Rattle.scene_json.specs.Passes.{behind_string};
 
-use crate::content::run_end;
-use crate::text::Raw;
+use json_text::{Raw, run_end};
 
 /// How many brackets are open at once where most are: 0 for a number, a word or a string. It takes no memory.
 pub fn depth_of(value: &Raw) -> u64

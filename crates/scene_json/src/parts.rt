@@ -3,21 +3,24 @@
 ghost use Rattle.std.specs.Prelude.{◌≡◌, ◌≢◌, ◌-◌, ◌≤◌, ℕ, List as Items, ◌∷◌, length, take, drop, false, IsTrue, IfOk};
 ghost use Rattle.std.specs.Str.{IsUtf8};
 ghost use Rattle.std.specs.List.{AllByRecursion};
-ghost use Rattle.scene_json.specs.Characters.{quote};
-ghost use Rattle.scene_json.specs.Compact.{Member as Pair, array_text, object_text};
-ghost use Rattle.scene_json.specs.Members.{pairs};
-ghost use Rattle.scene_json.specs.Parts.{AreMembers};
-ghost use Rattle.scene_json.specs.Passes.{ends_value};
-ghost use Rattle.scene_json.specs.Value.{IsCompact};
-ghost use Rattle.scene_json.specs.Walk.{Compacted};
+ghost use Rattle.json_text.specs.Characters.{quote, ends_value};
+ghost use Rattle.json_text.specs.Compact.{Member as Pair, array_text, object_text};
+ghost use Rattle.json_text.specs.Members.{pairs};
+ghost use Rattle.json_text.specs.Parts.{AreMembers};
+ghost use Rattle.json_text.specs.Value.{IsCompact};
+ghost use Rattle.scene_json.specs.Passes.{Compacted};
 
-use crate::collapsing::FEW;
-use crate::content::text_at;
-use crate::fault::Shape;
 use crate::nesting::after_string;
-use crate::text::{Member, Raw, Text};
 use board_io::{List, Stop};
+use json_text::{Member, Raw, Text, text_at};
 use std::alloc::{AllocError, Global};
+
+/// The value is of another form.
+#[derive(Clone, Copy, Debug, PartialEq, Eq)]
+pub struct Shape;
+
+/// Room is made for so many members at once, as an element has.
+const FEW: usize = 40;
 
 /// The text of a string. `Shape` comes exactly where the value is no string.
 pub fn text_of(alloc: Global, value: &Raw) -> Result<Text, Stop<Shape>>

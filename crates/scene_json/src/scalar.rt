@@ -1,9 +1,9 @@
 //! Numbers, truths and null.
 
 ghost use Rattle.std.specs.Prelude.{◌≡◌, ℕ, ◌<◌, ◌≤◌, ◌↔◌, length, slice_index, IsTrue, IfSome, Some, true, false, decimal};
-ghost use Rattle.scene_json.specs.Tree.{null_word, true_word, false_word};
+ghost use Rattle.json_text.specs.Tree.{null_word, true_word, false_word};
 
-use crate::text::Raw;
+use json_text::Raw;
 
 /// The greatest whole number that is read: the greatest that JavaScript counts exactly, one below 2 to the 53rd.
 pub const GREATEST_WHOLE: u64 = 9_007_199_254_740_991;

@@ -3,14 +3,14 @@
 ghost use Rattle.std.specs.Prelude.{◌≡◌, ℕ, List as Items, map, IfOk};
 ghost use Rattle.std.specs.List.{AllByRecursion};
 ghost use Rattle.std.specs.Str.{IsUtf8};
-ghost use Rattle.scene_json.specs.Characters.{quote};
-ghost use Rattle.scene_json.specs.Compact.{array_text};
+ghost use Rattle.json_text.specs.Characters.{quote};
+ghost use Rattle.json_text.specs.Compact.{array_text};
 ghost use Rattle.scene_json.specs.TheOne.{IsTheOne};
 
 use crate::named::shaped;
 use crate::parts::{items, text_of};
-use crate::text::{Raw, Text};
 use board_io::List;
+use json_text::{Raw, Text};
 use std::alloc::{AllocError, Global};
 
 /// The texts that the value is an array of, if it is one of texts alone.

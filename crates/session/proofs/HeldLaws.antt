@@ -6,7 +6,7 @@ use Rattle.std.specs.List.Sorted.{IsStrictlySortedBy}
 use Rattle.std.proofs.lemmas.Bool.{cases_Bool}
 use Rattle.std.proofs.lemmas.List.Kept.{IsStrictlySortedBy-filter}
 use Rattle.std.proofs.lemmas.Map.Views.{any-filter_same}
-use Rattle.scene_json.proofs.Collapsed.{bytes_eq-true}
+use Rattle.json_text.proofs.Collapsed.{bytes_eq-true}
 use Rattle.frac_keys.specs.Keys.{bytes_less}
 use Rattle.elem.proofs.Sorting.{AllByRecursion-weaker, bytes_less-trans, bytes_less-turned}
 use Rattle.delta.proofs.Placing.{each-put}

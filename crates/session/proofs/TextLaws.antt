@@ -1,8 +1,8 @@
 -- The parts of a report's text, appended one after the other.
 use Rattle.std.proofs.Common.{◌≡◌, ℕ, List, [], ◌∷◌, ◌++◌, map, codes, decimal, refl, sym, ap, ◌∙◌, append_assoc}
 use Rattle.std.specs.List.{join_with_byte}
-use Rattle.scene_json.specs.Characters.{quote}
-use Rattle.scene_json.specs.Compact.{member_text, array_text, object_text}
+use Rattle.json_text.specs.Characters.{quote}
+use Rattle.json_text.specs.Compact.{member_text, array_text, object_text}
 use Rattle.session.specs.declared.report.Report.{Report}
 use Rattle.session.specs.declared.report.ReplicaReport.{ReplicaReport}
 use Rattle.session.specs.declared.report.RefusedEvent.{RefusedEvent}

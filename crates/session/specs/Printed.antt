@@ -1,6 +1,6 @@
 -- The text of the report of a session, as a function of its last world and the number of clashes. This project's own.
 use Rattle.std.specs.Prelude.{◌≡◌, ℕ, List, [], ◌∷◌, map, length, codes, decimal}
-use Rattle.scene_json.specs.Compact.{Member as Pair, array_text, object_text}
+use Rattle.json_text.specs.Compact.{Member as Pair, array_text, object_text}
 use Rattle.scene_file.specs.Heads.{Heading}
 use Rattle.scene_file.specs.Scenes.{scene_text}
 use Rattle.view.specs.Shown.{live_elements}

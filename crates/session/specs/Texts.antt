@@ -1,8 +1,8 @@
 -- The text of a report. This project's own.
 use Rattle.std.specs.Prelude.{ℕ, List, [], ◌∷◌, Option, Some, None, map, codes, decimal}
-use Rattle.scene_json.specs.Characters.{quote}
-use Rattle.scene_json.specs.Compact.{Member as Pair, array_text, object_text}
-use Rattle.scene_json.specs.Tree.{null_word}
+use Rattle.json_text.specs.Characters.{quote}
+use Rattle.json_text.specs.Compact.{Member as Pair, array_text, object_text}
+use Rattle.json_text.specs.Tree.{null_word}
 use Rattle.effects.specs.declared.command.Refusal.{Refusal}
 use Rattle.effects.specs.declared.command.Refusal.TheVariants.{Exists, NoElement, WrongKind, Protected, VersionFull}
 use Rattle.session.specs.declared.report.Report.{Report}

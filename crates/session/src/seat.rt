@@ -14,8 +14,8 @@ use delta::VersionFull;
 use effects::{Capture, Command, Refusal};
 use elem::Element;
 use history::Step;
+use json_text::Text;
 use replica::Replica;
-use scene_json::Text;
 use std::alloc::{AllocError, Global};
 
 /// A replica, and how many updates it took.

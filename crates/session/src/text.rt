@@ -2,13 +2,14 @@
 
 ghost use Rattle.std.specs.Prelude.{◌≡◌, ◌∷◌, ◌++◌, decimal, map, IfOk, OnOk};
 ghost use Rattle.std.specs.List.{join_with_byte};
-ghost use Rattle.scene_json.specs.Compact.{member_text};
+ghost use Rattle.json_text.specs.Compact.{member_text};
 ghost use Rattle.session.specs.Texts as texts;
 
 use crate::report::{RefusedEvent, ReplicaReport, Report};
 use board_io::Bytes;
 use effects::Refusal;
-use scene_json::{push_comma, push_quote, push_quoted, push_whole};
+use json_text::{push_quote, push_quoted};
+use scene_json::{push_comma, push_whole};
 use std::alloc::{AllocError, Global};
 
 /// The compact text of a report; no line feed ends it. Fails only for want of memory.

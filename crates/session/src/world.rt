@@ -14,10 +14,10 @@ use crate::seat::Seat;
 use board_io::List;
 use effects::{Capture, Command};
 use elem::Element;
+use json_text::Text;
 use rand_core::SeedableRng;
 use rand_core::utils::NextWord;
 use rand_pcg::Pcg32;
-use scene_json::Text;
 use session_text::{Event, Pick, Session};
 use std::alloc::{AllocError, Global};
 

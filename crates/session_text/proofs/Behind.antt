@@ -3,10 +3,10 @@ use Rattle.std.proofs.Common.{◌≡◌, ◌⊎◌, inl, inr, ℕ, ◌+◌, ◌=
 use Rattle.std.specs.List.{list_all, prefix_len}
 use Rattle.std.proofs.lemmas.Bool.{false≢true}
 use Rattle.std.proofs.lemmas.Bool.Decides.{nat_tests}
-use Rattle.scene_json.specs.Characters.{is_blank, is_space}
-use Rattle.scene_json.specs.Faults.{IsFirstFault}
-use Rattle.scene_json.specs.Value.{Stands}
-use Rattle.scene_json.specs.declared.fault.JsonFault.{JsonFault}
+use Rattle.json_text.specs.Characters.{is_blank, is_space}
+use Rattle.json_text.specs.Value.{Stands}
+use Rattle.json_reader.specs.Faults.{IsFirstFault}
+use Rattle.json_reader.specs.declared.fault.JsonFault.{JsonFault}
 use Rattle.session_text.specs.Events.{HeaderText, EventText, header}
 use Rattle.session_text.specs.Sessions.{most_events, IsTextFaultAt, made_after, EventsLead, LeadTo, IsSessionOf, IsSessionFault}
 use Rattle.session_text.specs.Taken.{TakesText, IsNextFault, is_full, texts_in, LeadsUpTo}

@@ -2,18 +2,18 @@
 use Rattle.std.proofs.Common.{◌≡◌, ◌≢◌, ◌⊎◌, inl, inr, ℕ, ◌<◌, ◌≤◌, ◌^◌, List, [], ◌∷◌, Option, Some, None, length, get_or, codes, decimal, bytes_eq, refl, sym, ap, ap₂, subst, ◌∙◌, arith, lit≤}
 use Rattle.std.specs.List.{AllByRecursion}
 use Rattle.std.proofs.lemmas.Bool.{cases_Bool, cases_lt, both_ways}
-use Rattle.scene_json.specs.Characters.{quote}
-use Rattle.scene_json.specs.Compact.{Member as Pair, array_text, object_text}
+use Rattle.json_text.specs.Characters.{quote}
+use Rattle.json_text.specs.Compact.{Member as Pair, array_text, object_text}
+use Rattle.json_text.specs.Parts.{AreMembers}
+use Rattle.json_text.specs.Value.{IsCompact}
+use Rattle.json_text.specs.declared.text.Member.{Member}
 use Rattle.scene_json.specs.Named.{value_at}
-use Rattle.scene_json.specs.Parts.{AreMembers}
-use Rattle.scene_json.specs.Value.{IsCompact}
-use Rattle.scene_json.specs.declared.text.Member.{Member}
-use Rattle.scene_json.proofs.Collapsed.{bytes_eq-true, bytes_eq-same}
-use Rattle.scene_json.proofs.CompactLaws.{Value-deeper}
-use Rattle.scene_json.proofs.Decided.{array-or-not, object-or-not, nests-or-not}
+use Rattle.json_text.proofs.Collapsed.{bytes_eq-true, bytes_eq-same}
+use Rattle.json_text.proofs.CompactLaws.{Value-deeper}
+use Rattle.json_text.proofs.Decided.{array-or-not, object-or-not, nests-or-not}
+use Rattle.json_text.proofs.Forms.{StartsWith, quote-starts, array-starts, object-starts}
+use Rattle.json_text.proofs.Strings.{heads-differ}
 use Rattle.scene_json.proofs.Decimals.{digit_of_decimal}
-use Rattle.scene_json.proofs.Forms.{StartsWith, quote-starts, array-starts, object-starts}
-use Rattle.scene_json.proofs.Strings.{heads-differ}
 use Rattle.first_texts.specs.FirstOccurrences.{first_texts}
 use Rattle.elem.specs.Facts.{greatest_whole}
 use Rattle.elem.specs.Forms.{find_in, IsText, IsWholeNumber, IsObject, AreTexts, AreOthers}

@@ -1,7 +1,7 @@
 -- A text that is there has no fault of its JSON form.
 use Rattle.std.proofs.Common.{◌≡◌, ℕ, List, Option, Some, None, Result, Err, codes, sym, subst}
-use Rattle.scene_json.specs.Compact.{Member as Pair}
-use Rattle.scene_json.specs.declared.fault.JsonFault.{JsonFault}
+use Rattle.json_text.specs.Compact.{Member as Pair}
+use Rattle.json_reader.specs.declared.fault.JsonFault.{JsonFault}
 use Rattle.elem.specs.Forms.{IsText, IsObject, IsWholeNumber}
 use Rattle.elem_read.specs.declared.fault.ElemFault.{ElemFault}
 use Rattle.scene_file.specs.Reading.{value_unless_null}

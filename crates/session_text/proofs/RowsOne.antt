@@ -1,9 +1,9 @@
 -- Each text of a session is read as one thing, or has one first fault.
 use Rattle.std.proofs.Common.{◌≡◌, ℕ, List, Option, Some, Result, Ok, codes, refl, sym, subst, ◌∙◌, lit≤}
-use Rattle.scene_json.specs.Compact.{Member as Pair}
+use Rattle.json_text.specs.Compact.{Member as Pair}
+use Rattle.json_text.specs.Parts.{AreMembers}
+use Rattle.json_text.specs.Value.{IsCompact}
 use Rattle.scene_json.specs.Named.{value_at}
-use Rattle.scene_json.specs.Parts.{AreMembers}
-use Rattle.scene_json.specs.Value.{IsCompact}
 use Rattle.elem.specs.Forms.{IsText, IsWholeNumber, IsObject}
 use Rattle.elem.proofs.FormsOnce.{text-once, whole-once, members-once}
 use Rattle.elem_read.proofs.Decided.{Decided, Fits, fits-in, text-or-not, whole-or-not}

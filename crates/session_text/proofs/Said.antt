@@ -1,9 +1,9 @@
 -- What members say that have the name of a command, or of an event, and what belongs to it.
 use Rattle.std.proofs.Common.{◌≡◌, ℕ, List, Some, Ok, codes, refl}
-use Rattle.scene_json.specs.Characters.{quote}
-use Rattle.scene_json.specs.Compact.{Member as Pair}
+use Rattle.json_text.specs.Characters.{quote}
+use Rattle.json_text.specs.Compact.{Member as Pair}
+use Rattle.json_text.specs.declared.text.Member.{Member}
 use Rattle.scene_json.specs.Named.{value_at}
-use Rattle.scene_json.specs.declared.text.Member.{Member}
 use Rattle.elem.specs.ElementValue.{ElementValue}
 use Rattle.elem.specs.Forms.{IsText}
 use Rattle.effects.specs.declared.command.Capture.{Capture}

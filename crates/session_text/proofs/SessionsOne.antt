@@ -1,14 +1,14 @@
 -- Bytes are one session, or have one first fault, and not both.
 use Rattle.std.proofs.Common.{◌≡◌, ◌≢◌, ◌⊎◌, inl, inr, ℕ, zero, suc, ◌+◌, ◌≤◌, ◌<◌, List, [], ◌∷◌, ◌++◌, Bool, true, false, Result, Ok, Err, length, drop, refl, sym, ap, ap₂, subst, ◌∙◌, arith, length-drop, length-append}
 use Rattle.std.proofs.lemmas.Bool.{cases_Bool, cases_lt, both_ways}
-use Rattle.scene_json.specs.Characters.{is_blank}
-use Rattle.scene_json.specs.Faults.{IsFirstFault}
-use Rattle.scene_json.specs.Value.{IsCompact, Stands}
-use Rattle.scene_json.specs.declared.fault.JsonFault.{JsonFault}
-use Rattle.scene_json.proofs.CompactLaws.{Value-compact}
-use Rattle.scene_json.proofs.Decided.{value-or-fault}
-use Rattle.scene_json.proofs.FirstFaults as json
-use Rattle.scene_json.proofs.Reading.{Stands-once}
+use Rattle.json_text.specs.Characters.{is_blank}
+use Rattle.json_text.specs.Value.{IsCompact, Stands}
+use Rattle.json_reader.specs.Faults.{IsFirstFault}
+use Rattle.json_reader.specs.declared.fault.JsonFault.{JsonFault}
+use Rattle.json_text.proofs.CompactLaws.{Value-compact}
+use Rattle.json_text.proofs.Reading.{Stands-once}
+use Rattle.json_reader.proofs.Outcomes.{value-or-fault}
+use Rattle.json_reader.proofs.FirstFaults as json
 use Rattle.scene_file.proofs.Blanks.{Stands-no_blank, Stands-behind}
 use Rattle.session_text.specs.Events.{HeaderText, EventText, header}
 use Rattle.session_text.specs.Sessions.{most_events, StandsAs, IsTextFaultAt, messages_of, made_after, EventsLead, LeadTo, IsSessionOf, HasFaultyEvent, HasTooMany, IsSessionFault}

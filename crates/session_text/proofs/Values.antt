@@ -1,12 +1,12 @@
 -- Scenes and elements that stand in a session's text: each is read or has a first fault, and one of both alone.
 use Rattle.std.proofs.Common.{◌≡◌, ◌⊎◌, inl, inr, ℕ, List, [], Option, Some, None, Result, Ok, Err, append-nil, bytes_eq, cond, codes, Bool, true, false, if◌then◌else◌, refl, sym, ap, ap₂, subst, ◌∙◌, arith, lit≤}
 use Rattle.std.specs.List.{AllByRecursion}
-use Rattle.scene_json.specs.Compact.{Member as Pair}
+use Rattle.json_text.specs.Compact.{Member as Pair}
+use Rattle.json_text.specs.Parts.{AreMembers}
+use Rattle.json_text.specs.Tree.{null_word}
+use Rattle.json_text.specs.Value.{IsCompact, Stands}
 use Rattle.scene_json.specs.Named.{value_at}
-use Rattle.scene_json.specs.Parts.{AreMembers}
-use Rattle.scene_json.specs.Tree.{null_word}
-use Rattle.scene_json.specs.Value.{IsCompact, Stands}
-use Rattle.scene_json.proofs.Reading.{Stands-once}
+use Rattle.json_text.proofs.Reading.{Stands-once}
 use Rattle.elem.specs.ElementValue.{ElementValue}
 use Rattle.elem_read.specs.Elements.{AreRead, IsFirstFaulty}
 use Rattle.elem_read.specs.Reading.{IsSelection, IsElementIn, IsFaultIn}

@@ -1,8 +1,8 @@
 -- Things that are told by words.
 use Rattle.std.proofs.Common.{◌≡◌, ◌⊎◌, inl, inr, ℕ, List, [], ◌∷◌, Option, Some, None, bytes_eq, if◌then◌else◌, true, false, refl, sym, ap, ◌∙◌}
 use Rattle.std.proofs.lemmas.Bool.{cases_Bool}
-use Rattle.scene_json.proofs.Collapsed.{bytes_eq-true}
-use Rattle.scene_json.specs.Characters.{quote}
+use Rattle.json_text.proofs.Collapsed.{bytes_eq-true}
+use Rattle.json_text.specs.Characters.{quote}
 use Rattle.effects.specs.declared.command.Side.{Side}
 use Rattle.effects.specs.declared.command.Side.TheVariants as sides
 use Rattle.elem_read.proofs.Decided.{Decided}

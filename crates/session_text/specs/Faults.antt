@@ -1,6 +1,6 @@
 -- What is told of the fault of a session's text. This project's own.
 use Rattle.std.specs.Prelude.{ℕ, List, ◌++◌, codes, decimal}
-use Rattle.scene_json.specs.Faults.{json_words}
+use Rattle.json_reader.specs.Faults.{json_words}
 use Rattle.elem_read.specs.Faults as elements
 use Rattle.scene_file.specs.Faults as scenes
 use Rattle.session_text.specs.Names.{word_of}

@@ -2,11 +2,11 @@
 -- the member's name and what that is read as. This project's own.
 use Rattle.std.specs.Prelude.{◌≡◌, ◌⊎◌, ℕ, ◌<◌, ◌≤◌, List, [], ◌∷◌, Option, Some, None, codes, bytes_eq}
 use Rattle.std.specs.List.{AllByRecursion}
-use Rattle.scene_json.specs.Characters.{quote}
-use Rattle.scene_json.specs.Compact.{Member as Pair, array_text}
+use Rattle.json_text.specs.Characters.{quote}
+use Rattle.json_text.specs.Compact.{Member as Pair, array_text}
+use Rattle.json_text.specs.Value.{IsCompact}
+use Rattle.json_text.specs.declared.text.Member.{Member}
 use Rattle.scene_json.specs.Named.{value_at}
-use Rattle.scene_json.specs.Value.{IsCompact}
-use Rattle.scene_json.specs.declared.text.Member.{Member}
 use Rattle.first_texts.specs.FirstOccurrences.{first_texts}
 use Rattle.elem.specs.Forms.{find_in, IsText, IsWholeNumber, IsObject, AreTexts, AreOthers}
 use Rattle.effects.specs.declared.command.Side.{Side}

@@ -1,6 +1,6 @@
 //! The commands of a session.
 
-ghost use Rattle.scene_json.specs.Members.{pairs};
+ghost use Rattle.json_text.specs.Members.{pairs};
 ghost use Rattle.session_text.specs.Commands.{IsAsked, IsDrawnAs, ElementOf, IdsAnd, EndOf, CommandNamed, CommandOf};
 ghost use Rattle.session_text.specs.Reads.{MemberOf, IsReadResult};
 ghost use Rattle.session_text.specs.declared.command.Asked.TheVariants as asks;
@@ -13,7 +13,8 @@ use board_io::{List, Stop};
 use effects::{Command, Side};
 use elem::Element;
 use elem_read::{ElemFault, read_element};
-use scene_json::{Member, Raw, Text, has_value};
+use json_text::{Member, Raw, Text};
+use scene_json::has_value;
 use std::alloc::Global;
 
 /// Which command is asked for.
@@ -42,7 +43,7 @@ pub(crate) fn command_of(alloc: Global, members: &List<Member>) -> Result<Comman
 }
 
 /// Which command the members ask for. It takes no memory.
-#[tactic(auto, unfolding(scene_json::specs::Characters::quote))]
+#[tactic(auto, unfolding(json_text::specs::Characters::quote))]
 fn which(members: &List<Member>) -> Result<Asked, Stop<TextFault>>
     ensures { IsReadResult (MemberOf names.Name IsAsked (pairs members.now)) result }
 {

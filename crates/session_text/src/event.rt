@@ -3,7 +3,7 @@
 use board_io::List;
 use effects::{Capture, Command};
 use elem::Element;
-use scene_json::Text;
+use json_text::Text;
 
 /// What is delivered of a message. Messages are counted from 0, and so are the elements of one.
 #[derive(Clone, Copy, Debug, PartialEq, Eq)]

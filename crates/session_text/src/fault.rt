@@ -7,8 +7,8 @@ ghost use Rattle.session_text.specs.Faults.{session_fault_words};
 use crate::name::MemberName;
 use board_io::Piece;
 use elem_read::ElemFault;
+use json_reader::JsonFault;
 use scene_file::SceneFault;
-use scene_json::JsonFault;
 
 /// Why a text of a session can't be read: its first fault, in the order of its members.
 #[derive(Clone, Copy, Debug, PartialEq, Eq, Drop)]

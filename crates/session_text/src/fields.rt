@@ -2,7 +2,7 @@
 
 ghost use Rattle.std.specs.Prelude.{◌≡◌, ◌↔◌, Some, IfOk, IsTrue, MatchOption, codes, bytes_eq, map};
 ghost use Rattle.std.specs.List.{IsDistinct};
-ghost use Rattle.scene_json.specs.Members.{pairs};
+ghost use Rattle.json_text.specs.Members.{pairs};
 ghost use Rattle.elem_read.specs.Faults.{Lacks};
 ghost use Rattle.elem.specs.Forms.{find_in, IsText, IsWholeNumber, IsObject, AreOthers};
 ghost use Rattle.session_text.specs.Forms.{IsFrom, IsThere, IsArray, IsShallow, AreIds, IsCapture, IsSide, IsSpot, IsRest};
@@ -14,9 +14,10 @@ use crate::name::MemberName;
 use board_io::{List, Stop};
 use effects::{Capture, Side, Spot};
 use first_texts::first_occurrences;
+use json_text::{Member, Raw, Text};
 use scene_json::{
-    Member, Raw, Text, has_value, items, members, nests_at_most, shaped, text_named, texts_of,
-    value_named, whole_named,
+    has_value, items, members, nests_at_most, shaped, text_named, texts_of, value_named,
+    whole_named,
 };
 use std::alloc::{AllocError, Global};
 
@@ -114,7 +115,7 @@ pub(crate) fn ids(alloc: Global, members: &List<Member>) -> Result<List<Text>, S
 }
 
 /// How a change is captured; now where nothing is said. It takes no memory.
-#[tactic(auto, unfolding(scene_json::specs::Characters::quote))]
+#[tactic(auto, unfolding(json_text::specs::Characters::quote))]
 pub(crate) fn capture(members: &List<Member>) -> Result<Capture, Stop<TextFault>>
     ensures { IsReadResult (MemberOf names.Capture IsCapture (pairs members.now)) result }
 {
@@ -133,7 +134,7 @@ pub(crate) fn capture(members: &List<Member>) -> Result<Capture, Stop<TextFault>
 }
 
 /// The end of an arrow. It takes no memory.
-#[tactic(auto, unfolding(scene_json::specs::Characters::quote))]
+#[tactic(auto, unfolding(json_text::specs::Characters::quote))]
 pub(crate) fn side(members: &List<Member>) -> Result<Side, Stop<TextFault>>
     ensures { IsReadResult (MemberOf names.End IsSide (pairs members.now)) result }
 {
@@ -160,7 +161,7 @@ pub(crate) fn spot(alloc: Global, members: &List<Member>) -> Result<Spot, Stop<T
 }
 
 /// The place in the order that the value is, if it is one.
-#[tactic(auto, unfolding(scene_json::specs::Characters::quote))]
+#[tactic(auto, unfolding(json_text::specs::Characters::quote))]
 fn spot_in(alloc: Global, value: &Raw) -> Result<Option<Spot>, AllocError>
     ensures { IfOk result (λ found. MatchOption found
         (Lacks (IsSpot (Some value.now))) (IsSpot (Some value.now))) }

@@ -1,7 +1,7 @@
 //! The events of a session are read.
 
 ghost use Rattle.std.specs.Prelude.{ℕ};
-ghost use Rattle.scene_json.specs.Members.{pairs};
+ghost use Rattle.json_text.specs.Members.{pairs};
 ghost use Rattle.session_text.specs.Events.{IsHappening, AreDrawnAs, TimeOf, HeldOf, CommandIn, ElementsIn, EventNamed, EventOf, EventText};
 ghost use Rattle.session_text.specs.Reads.{MemberOf, IsReadResult};
 ghost use Rattle.session_text.specs.declared.happening.Happening.TheVariants as happenings;
@@ -17,7 +17,8 @@ use board_io::{List, Stop};
 use effects::Command;
 use elem::Element;
 use elem_read::read_elements;
-use scene_json::{Member, Raw, Text, has_value, value_named};
+use json_text::{Member, Raw, Text};
+use scene_json::{has_value, value_named};
 use std::alloc::Global;
 
 /// Which event it is.
@@ -61,7 +62,7 @@ fn event_of(
 }
 
 /// Which event the members are. It takes no memory.
-#[tactic(auto, unfolding(scene_json::specs::Characters::quote))]
+#[tactic(auto, unfolding(json_text::specs::Characters::quote))]
 fn which(members: &List<Member>) -> Result<Happening, Stop<TextFault>>
     ensures { IsReadResult (MemberOf names.Do IsHappening (pairs members.now)) result }
 {

@@ -1,7 +1,7 @@
 //! The header of a session.
 
 ghost use Rattle.std.specs.Prelude.{◌≡◌, Some, codes, option_copied};
-ghost use Rattle.scene_json.specs.Members.{pairs};
+ghost use Rattle.json_text.specs.Members.{pairs};
 ghost use Rattle.scene_file.specs.Reading.{value_unless_null};
 ghost use Rattle.session_text.specs.Events.{SceneOf, HeaderOf, HeaderText};
 ghost use Rattle.session_text.specs.Reads.{IsReadResult};
@@ -10,8 +10,9 @@ use crate::fault::TextFault;
 use crate::fields::{number_from, object, whole};
 use crate::name::MemberName;
 use board_io::{List, Stop};
+use json_text::{Member, Raw};
 use scene_file::{Scene, scene_of};
-use scene_json::{Member, Raw, is_null, value_named};
+use scene_json::{is_null, value_named};
 use std::alloc::Global;
 
 /// What the first text of a session says.

@@ -1,7 +1,7 @@
 //! What is picked of messages.
 
 ghost use Rattle.std.specs.Prelude.{Some, IfOk, MatchOption};
-ghost use Rattle.scene_json.specs.Members.{pairs};
+ghost use Rattle.json_text.specs.Members.{pairs};
 ghost use Rattle.elem_read.specs.Faults.{Lacks};
 ghost use Rattle.session_text.specs.Forms.{IsFrom, IsPair, IsPick, ArePicks, HasPicks};
 ghost use Rattle.session_text.specs.Reads.{MemberOf, IsReadResult};
@@ -11,7 +11,8 @@ use crate::event::Pick;
 use crate::fault::TextFault;
 use crate::name::MemberName;
 use board_io::{List, Stop};
-use scene_json::{Member, Raw, items, shaped, value_named, whole_of};
+use json_text::{Member, Raw};
+use scene_json::{items, shaped, value_named, whole_of};
 use std::alloc::{AllocError, Global};
 
 /// What is picked, where so many messages were made before.

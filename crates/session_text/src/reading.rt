@@ -1,7 +1,7 @@
 //! Reading sessions.
 
 ghost use Rattle.std.specs.Prelude.{◌≡◌, ◌⊎◌, ◌<◌, ◌≤◌, true, false, is_none, Err, IfOk, OnOk, length, drop};
-ghost use Rattle.scene_json.specs.Characters.{is_blank};
+ghost use Rattle.json_text.specs.Characters.{is_blank};
 ghost use Rattle.session_text.specs.Facts.{IsSession};
 ghost use Rattle.session_text.specs.Sessions.{IsSessionOf, IsSessionFault};
 ghost use Rattle.session_text.specs.Taken.{is_full, LeadsUpTo};
@@ -11,7 +11,8 @@ use crate::fault::{SessionFault, TextFault};
 use crate::session::Session;
 use crate::taking::SessionFeed;
 use board_io::Stop;
-use scene_json::{scan, skip_space};
+use json_reader::scan;
+use json_text::skip_space;
 use std::alloc::Global;
 
 /// The session that the bytes are, or their first fault: of texts with faults the first counts, and of the faults of a text

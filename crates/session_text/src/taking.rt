@@ -1,7 +1,7 @@
 //! The texts of a session are taken, one after the other.
 
 ghost use Rattle.std.specs.Prelude.{◌≡◌, ◌≢◌, ◌+◌, ◌≤◌, [], ◌∷◌, ◌++◌, false, is_none, None, Ok, Err, IfSome, OnOk, OnErr};
-ghost use Rattle.scene_json.specs.declared.fault.JsonFault.{JsonFault};
+ghost use Rattle.json_reader.specs.declared.fault.JsonFault.{JsonFault};
 ghost use Rattle.session_text.specs.Events.{EventText};
 ghost use Rattle.session_text.specs.Facts.{IsSession};
 ghost use Rattle.session_text.specs.Sessions as sessions;
@@ -16,7 +16,7 @@ use crate::happening::read_event;
 use crate::header::{Header, read_header};
 use crate::session::Session;
 use board_io::{List, Stop};
-use scene_json::Raw;
+use json_text::Raw;
 use std::alloc::Global;
 use std::marker::Model;
 

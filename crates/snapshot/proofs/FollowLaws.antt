@@ -3,7 +3,7 @@
 use Rattle.std.proofs.Common.{◌≡◌, ℕ, true, false, List, ◌++◌, IfSome, codes, bytes_eq, inl, inr, refl, sym, ap, ◌∙◌, subst}
 use Rattle.std.specs.List.{list_any}
 use Rattle.std.proofs.lemmas.Bool.{cases_Bool, cond-true, cond-false, cond_both, both_ways}
-use Rattle.scene_json.specs.Value.{IsCompact}
+use Rattle.json_text.specs.Value.{IsCompact}
 use Rattle.frac_keys.specs.Rising.{are_rising}
 use Rattle.elem.specs.declared.kind.Kind.TheVariants.{Arrow, Image, Text}
 use Rattle.elem.specs.ElementValue.{ElementValue}

@@ -3,7 +3,7 @@
 ghost use Rattle.std.specs.Prelude.{◌≡◌, IfOk};
 
 use elem::Element;
-use scene_json::Text;
+use json_text::Text;
 use std::alloc::{AllocError, Global};
 use std::marker::Model;
 

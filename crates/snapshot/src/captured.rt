@@ -11,7 +11,7 @@ ghost use Rattle.snapshot.specs.Carried.{with_made};
 
 use crate::boxed::Boxed;
 use elem::Element;
-use scene_json::Text;
+use json_text::Text;
 use std::alloc::{AllocError, Global};
 use std::cmp::Ordering;
 

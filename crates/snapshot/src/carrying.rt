@@ -14,7 +14,7 @@ use crate::captured::{find, put, put_made};
 use delta::{apply, are_one_kind, difference};
 use elem::{Element, beats};
 use elem_store::Store;
-use scene_json::Text;
+use json_text::Text;
 use std::alloc::{AllocError, Global};
 
 /// Carries a stored change into the elements.

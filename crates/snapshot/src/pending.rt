@@ -15,7 +15,7 @@ use crate::captured::{find, put};
 use delta::{Part, are_one_kind, difference};
 use elem::{Element, same, same_but_stamp};
 use elem_store::Store;
-use scene_json::Text;
+use json_text::Text;
 use std::alloc::{AllocError, Global};
 use std::collections::BTreeSet;
 

@@ -22,7 +22,7 @@ use board_io::List;
 use delta::Entry;
 use elem::Element;
 use elem_store::Store;
-use scene_json::Text;
+use json_text::Text;
 use std::alloc::{AllocError, Global};
 use std::marker::Model;
 

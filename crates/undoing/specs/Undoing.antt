@@ -1,7 +1,7 @@
 -- What undoing a change makes of an element that others may have changed since, as a function. This project's own, after
 -- Excalidraw's history.
 use Rattle.std.specs.Prelude.{ℕ, List, [], ◌∷◌, ◌++◌, bytes_eq, if◌then◌else◌}
-use Rattle.scene_json.specs.declared.text.Member.{Member}
+use Rattle.json_text.specs.declared.text.Member.{Member}
 use Rattle.elem.specs.ElementValue.{ElementValue}
 use Rattle.elem.specs.Facts.{names}
 use Rattle.elem.specs.Texts.{truth_text, text_or_null, binding_text}

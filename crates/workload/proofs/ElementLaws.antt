@@ -6,13 +6,13 @@ use Rattle.std.proofs.lemmas.Fmt.{decimal_digit}
 use Rattle.std.proofs.lemmas.List.Sorted.{IsPermutation-refl}
 use Rattle.std.proofs.lemmas.Map.Made.{IsDistinct-from_count}
 use Rattle.std.proofs.lemmas.Option.{none-some}
-use Rattle.scene_json.specs.Characters.{quote}
-use Rattle.scene_json.specs.Compact.{Member as Pair, array_text, object_text}
+use Rattle.json_text.specs.Characters.{quote}
+use Rattle.json_text.specs.Compact.{Member as Pair, array_text, object_text}
+use Rattle.json_text.specs.Parts.{AreMembers}
+use Rattle.json_text.specs.Value.{IsCompact}
 use Rattle.scene_json.specs.Named.{HaveRisingNames}
-use Rattle.scene_json.specs.Parts.{AreMembers}
-use Rattle.scene_json.specs.Value.{IsCompact}
-use Rattle.scene_json.proofs.Collapsed.{bytes_eq-same}
-use Rattle.scene_json.proofs.CompactLaws.{Value-deeper, object-compact}
+use Rattle.json_text.proofs.Collapsed.{bytes_eq-same}
+use Rattle.json_text.proofs.CompactLaws.{Value-deeper, object-compact}
 use Rattle.scene_json.proofs.Lookups.{rising_from, rising_none}
 use Rattle.restore_table.specs.Merged.{merged}
 use Rattle.restore_table.specs.Restored.{AreRestored}

@@ -5,9 +5,9 @@ use Rattle.std.proofs.lemmas.Bool.{cases_lt}
 use Rattle.std.proofs.lemmas.Fmt.{decimal_digit}
 use Rattle.std.proofs.lemmas.List.{get_or_past}
 use Rattle.std.proofs.lemmas.Str.{IsUtf8-from_ascii}
-use Rattle.scene_json.specs.Characters.{quote}
-use Rattle.scene_json.specs.Value.{IsCompact}
-use Rattle.scene_json.proofs.CompactLaws.{decimal_nests, quote-compact}
+use Rattle.json_text.specs.Characters.{quote}
+use Rattle.json_text.specs.Value.{IsCompact}
+use Rattle.json_text.proofs.CompactLaws.{decimal_nests, quote-compact}
 use Rattle.scene_json.proofs.Decimals.{digit_of_decimal}
 use Rattle.workload.specs.Texts.{numbered_id, id_text}
 

@@ -1,6 +1,6 @@
 -- Lines of events lead up to the last line feed.
 use Rattle.std.proofs.Common.{◌≡◌, ℕ, ◌+◌, List, [], ◌∷◌, ◌++◌, flat_map, refl, sym, ap, ◌∙◌, append_assoc}
-use Rattle.scene_json.specs.Value.{Stands}
+use Rattle.json_text.specs.Value.{Stands}
 use Rattle.session_text.specs.Sessions.{messages_of, made_after, EventsLead}
 use Rattle.session_text.specs.declared.event.Event.{Event}
 use Rattle.workload.specs.Texts.{line}

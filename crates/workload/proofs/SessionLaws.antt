@@ -6,8 +6,8 @@ use Rattle.std.proofs.lemmas.List.{length-map, length-reverse, get_or-reverse}
 use Rattle.std.proofs.lemmas.List.Elements.{All-from_recursion, recursion_from_All, Contains-get_or}
 use Rattle.std.proofs.lemmas.List.FromFn.{get_or-range_with_len, length-range_with_len}
 use Rattle.std.proofs.lemmas.List.Sorted.{All-permutation, IsPermutation-reverse}
-use Rattle.scene_json.specs.Characters.{is_blank}
-use Rattle.scene_json.specs.Value.{Stands}
+use Rattle.json_text.specs.Characters.{is_blank}
+use Rattle.json_text.specs.Value.{Stands}
 use Rattle.delta.proofs.RisingIds.{Contains-to_map}
 use Rattle.elem.specs.Facts.{greatest_whole}
 use Rattle.session_text.specs.Sessions.{EventsLead, IsSessionOf}

@@ -3,8 +3,8 @@ use Rattle.std.proofs.Common.{◌≡◌, ◌<◌, ◌≤◌, ◌^◌, ℕ, suc, 
 use Rattle.std.specs.Int.{IsInRange}
 use Rattle.std.specs.List.{join_with_byte}
 use Rattle.std.proofs.lemmas.Bool.Decides.{nat_tests}
-use Rattle.scene_json.specs.Characters.{quote, quoted_byte}
-use Rattle.scene_json.specs.Compact.{member_text, array_text, object_text}
+use Rattle.json_text.specs.Characters.{quote, quoted_byte}
+use Rattle.json_text.specs.Compact.{member_text, array_text, object_text}
 use Rattle.scene_json.proofs.Decimals.{digit_of_decimal}
 use Rattle.elem.specs.Texts.{kind_name}
 use Rattle.effects.specs.declared.command.Capture.{Capture}

@@ -1,8 +1,8 @@
 -- The elements that commands of a drill make. This project's own.
 use Rattle.std.specs.Prelude.{ℕ, List, [], not, Bool, false, None, map, filter, bytes_eq}
 use Rattle.std.specs.List.{list_any}
-use Rattle.scene_json.specs.Compact.{Member as Pair}
-use Rattle.scene_json.specs.declared.text.Member.{Member}
+use Rattle.json_text.specs.Compact.{Member as Pair}
+use Rattle.json_text.specs.declared.text.Member.{Member}
 use Rattle.restore_table.specs.Table.{defaults}
 use Rattle.elem.specs.ElementValue.{ElementValue}
 use Rattle.elem.specs.Facts.{header_names}

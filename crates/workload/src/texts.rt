@@ -2,8 +2,8 @@
 
 ghost use Rattle.std.specs.Prelude.{◌≡◌, ◌++◌, OnOk, decimal, map};
 ghost use Rattle.std.specs.List.{join_with_byte};
-ghost use Rattle.scene_json.specs.Characters.{quote};
-ghost use Rattle.scene_json.specs.Compact.{object_text};
+ghost use Rattle.json_text.specs.Characters.{quote};
+ghost use Rattle.json_text.specs.Compact.{object_text};
 ghost use Rattle.elem.specs.Texts.{kind_name};
 ghost use Rattle.session_text.specs.Forms.{capture_text, side_text};
 ghost use Rattle.workload.specs.Texts as texts;
@@ -11,7 +11,8 @@ ghost use Rattle.workload.specs.declared.deed.Order.TheVariants as orders;
 
 use crate::deed::{Deed, Order};
 use effects::{Capture, Side};
-use scene_json::{push_comma, push_quoted, push_whole};
+use json_text::push_quoted;
+use scene_json::{push_comma, push_whole};
 use std::alloc::AllocError;
 
 /// Appends the text of the header.

@@ -1,5 +1,5 @@
 use Rattle.std.proofs.Common.{take}
-use Rattle.scene_json.specs.Members.{pairs}
+use Rattle.json_text.specs.Members.{pairs}
 use Rattle.commands.specs.Pictures.{AreLines}
 use Rattle.commands.proofs.pictures.picture_lines.Given as goal
 

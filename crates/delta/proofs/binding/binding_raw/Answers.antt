@@ -1,12 +1,12 @@
 -- The target goes among the further members, whose names rise and are others.
 use Rattle.std.proofs.Common.{◌≡◌, ℕ, ◌≤◌, All, Some, codes, sym, ap, ◌∙◌, arith}
 use Rattle.std.proofs.lemmas.List.Elements.{All-from_recursion}
-use Rattle.scene_json.specs.Characters.{quote}
-use Rattle.scene_json.specs.Compact.{object_text}
-use Rattle.scene_json.specs.Members.{pairs}
-use Rattle.scene_json.specs.Value.{IsCompact}
-use Rattle.scene_json.specs.declared.text.Member.{Member}
-use Rattle.scene_json.proofs.CompactLaws.{Value-deeper}
+use Rattle.json_text.specs.Characters.{quote}
+use Rattle.json_text.specs.Compact.{object_text}
+use Rattle.json_text.specs.Members.{pairs}
+use Rattle.json_text.specs.Value.{IsCompact}
+use Rattle.json_text.specs.declared.text.Member.{Member}
+use Rattle.json_text.proofs.CompactLaws.{Value-deeper}
 use Rattle.elem.specs.Facts.{IsBinding}
 use Rattle.elem.proofs.Sorting.{AllByRecursion-weaker}
 use Rattle.delta.specs.Rest.{with_value}

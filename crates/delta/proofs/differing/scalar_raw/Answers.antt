@@ -1,7 +1,7 @@
 -- The further members nest at most as deep as they may.
 use Rattle.std.proofs.Common.{◌≡◌, None, IfSome, sym, ap, ◌∙◌, subst}
 use Rattle.std.proofs.lemmas.Result.{IfOk-weaker}
-use Rattle.scene_json.specs.Value.{IsCompact}
+use Rattle.json_text.specs.Value.{IsCompact}
 use Rattle.delta.specs.Facts.{IsScalar}
 use Rattle.delta.specs.Headers.{header_named}
 use Rattle.delta.proofs.ToldLaws.{value-nests}

@@ -1,7 +1,7 @@
 -- The change is made where the name belongs.
 use Rattle.std.proofs.Common.{◌≡◌, ℕ, ◌≤◌, ◌∷◌, ◌++◌, List, Option, length, take, drop, insert, Some, None, refl, sym, ap, ◌∙◌, length-take, arith}
 use Rattle.std.proofs.Math.Seq.{take-append_seam, drop-append_seam}
-use Rattle.scene_json.specs.declared.text.Member.{Member}
+use Rattle.json_text.specs.declared.text.Member.{Member}
 use Rattle.delta.specs.Rest.{made, without_first, with_value}
 use Rattle.delta.proofs.RestLaws.{with_value-at}
 use Rattle.delta.proofs.rest.put_value.Goals as goal

@@ -1,8 +1,8 @@
 use Rattle.std.proofs.Common.{◌≡◌, ◌++◌, take, drop, sym, ap, ◌∙◌, subst}
 use Rattle.std.specs.Str.{IsUtf8}
 use Rattle.std.proofs.lemmas.List.Elements.{All-same}
-use Rattle.scene_json.specs.Members.{pairs}
-use Rattle.scene_json.specs.declared.text.Member.{Member}
+use Rattle.json_text.specs.Members.{pairs}
+use Rattle.json_text.specs.declared.text.Member.{Member}
 use Rattle.elem.specs.Printing.{IsBegun, members_below}
 use Rattle.elem.proofs.Merging.{members_below-take, members_not_below-drop}
 use Rattle.elem.proofs.object.push_below.Goals as goal

@@ -1,9 +1,9 @@
 use Rattle.std.proofs.Common.{◌<◌, ◌++◌, length, take_all, sym, ap, ◌∙◌, subst, append-nil, refl, arith}
 use Rattle.std.specs.Str.{IsUtf8}
 use Rattle.std.proofs.lemmas.List.Elements.{All-more, All-same, All-nil}
-use Rattle.scene_json.specs.Compact.{member_text}
-use Rattle.scene_json.specs.Members.{pairs, pair_of}
-use Rattle.scene_json.specs.declared.text.Member.{Member}
+use Rattle.json_text.specs.Compact.{member_text}
+use Rattle.json_text.specs.Members.{pairs, pair_of}
+use Rattle.json_text.specs.declared.text.Member.{Member}
 use Rattle.elem.specs.Printing.{IsBegun}
 use Rattle.elem.proofs.Appending.{extends_same, extends_by, extends_then}
 use Rattle.elem.proofs.Merging.{opened-step, members-more}

@@ -1,9 +1,9 @@
 -- The first members are appended, and their names are texts.
 use Rattle.std.proofs.Common.{◌≡◌, ℕ, List, ◌++◌, All, length, take}
 use Rattle.std.specs.Str.{IsUtf8}
-use Rattle.scene_json.specs.Appending.{Extends}
-use Rattle.scene_json.specs.Compact.{Member as Pair}
-use Rattle.scene_json.specs.Members.{pairs}
+use Rattle.json_text.specs.Appending.{Extends}
+use Rattle.json_text.specs.Compact.{Member as Pair}
+use Rattle.json_text.specs.Members.{pairs}
 use Rattle.elem.specs.Printing.{IsBegun}
 use Rattle.elem.proofs.object.push_members.Given as goal
 

@@ -1,9 +1,9 @@
 -- The text stands in bytes of its own.
 use Rattle.std.proofs.Common.{◌≡◌, ap, ◌∙◌, ◌++◌, sym, subst, arith}
 use Rattle.std.proofs.lemmas.Result.{IfOk-weaker}
-use Rattle.scene_json.proofs.CompactLaws.{Value-deeper}
-use Rattle.scene_json.specs.Members.{pairs}
-use Rattle.scene_json.specs.Value.{IsCompact}
+use Rattle.json_text.proofs.CompactLaws.{Value-deeper}
+use Rattle.json_text.specs.Members.{pairs}
+use Rattle.json_text.specs.Value.{IsCompact}
 use Rattle.elem.specs.Texts.{header_members, element_members, element_text}
 use Rattle.elem.proofs.Sorting.{IsPermutation-sorted}
 use Rattle.elem.proofs.raw.element_raw.Goals as goal

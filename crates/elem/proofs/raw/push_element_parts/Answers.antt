@@ -2,8 +2,8 @@
 use Rattle.std.proofs.Common.{◌≡◌, ℕ, ◌+◌, get_or, ◌<◌, List, [], ◌∷◌, length, map, drop, drop_of_length-le, drop-cons, add-one, refl, rules, ap, ◌∙◌, subst, arith}
 use Rattle.std.specs.Str.{IsUtf8}
 use Rattle.std.proofs.lemmas.List.Elements.{recursion_from_All}
-use Rattle.scene_json.specs.declared.text.Member.{Member}
-use Rattle.scene_json.proofs.Appending.{extends_same, extends_by, extends_then, on_err}
+use Rattle.json_text.specs.declared.text.Member.{Member}
+use Rattle.json_text.proofs.Appending.{extends_same, extends_by, extends_then, on_err}
 use Rattle.elem.specs.declared.header.Header.{Header}
 use Rattle.elem.specs.declared.header.Header.TheVariants.{BoundElements}
 use Rattle.elem.specs.ElementValue.{ElementValue}

@@ -1,9 +1,9 @@
 use Rattle.std.proofs.Common.{◌<◌, inl, inr, ◌++◌, sym, ap, ◌∙◌, subst, length, map, take_all, arith}
 use Rattle.std.proofs.lemmas.List.Elements.{All-more, All-same}
 use Rattle.std.specs.List.{join_with_byte}
-use Rattle.scene_json.specs.Value.{IsCompact}
+use Rattle.json_text.specs.Value.{IsCompact}
+use Rattle.json_text.proofs.Appending.{extends_same, extends_by, extends_then, on_err}
 use Rattle.scene_json.proofs.Appended.{mapped-step}
-use Rattle.scene_json.proofs.Appending.{extends_same, extends_by, extends_then, on_err}
 use Rattle.elem.specs.Texts.{element_text}
 use Rattle.elem.proofs.raw.push_elements_parts.Goals as goal
 

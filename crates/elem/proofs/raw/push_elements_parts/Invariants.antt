@@ -1,7 +1,7 @@
 -- The first elements' texts stand between commas.
 use Rattle.std.proofs.Common.{◌≡◌, ◌++◌, All, map, take}
 use Rattle.std.specs.List.{join_with_byte}
-use Rattle.scene_json.specs.Value.{IsCompact}
+use Rattle.json_text.specs.Value.{IsCompact}
 use Rattle.elem.specs.Texts.{element_text}
 use Rattle.elem.proofs.raw.push_elements_parts.Given as goal
 

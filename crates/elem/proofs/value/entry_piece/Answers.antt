@@ -1,5 +1,5 @@
 use Rattle.std.proofs.Common.{refl}
-use Rattle.scene_json.specs.Characters.{quote}
+use Rattle.json_text.specs.Characters.{quote}
 use Rattle.elem.specs.Texts.{role_name}
 use Rattle.elem.proofs.Leaving.{entry_left}
 use Rattle.elem.proofs.value.entry_piece.Goals as goal

@@ -1,6 +1,6 @@
 use Rattle.std.proofs.Common.{◌≡◌, [], ◌∷◌, codes, if◌then◌else◌, append-nil, arith}
-use Rattle.scene_json.specs.Characters.{quote}
-use Rattle.scene_json.specs.Compact.{Member as Pair, member_text}
+use Rattle.json_text.specs.Characters.{quote}
+use Rattle.json_text.specs.Compact.{Member as Pair, member_text}
 use Rattle.elem.proofs.Leaving.{header-splits}
 use Rattle.elem.proofs.value.next_bound.Goals as goal
 

@@ -1,6 +1,6 @@
 -- The members are begun one after another, and their names rise.
 use Rattle.std.proofs.Common.{◌≡◌, [], ◌∷◌, codes, length, rules, refl, sym, append-nil, arith}
-use Rattle.scene_json.specs.Characters.{quote}
+use Rattle.json_text.specs.Characters.{quote}
 use Rattle.elem.specs.Texts.{role_name}
 use Rattle.elem.proofs.Merging.{begun-step, closed, sound-compact}
 use Rattle.elem.proofs.values.push_entry.Goals as goal

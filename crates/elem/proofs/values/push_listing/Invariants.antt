@@ -1,7 +1,7 @@
 -- The first items stand between commas.
 use Rattle.std.proofs.Common.{◌≡◌, ◌++◌, All, map, take}
 use Rattle.std.specs.List.{join_with_byte}
-use Rattle.scene_json.specs.Value.{IsCompact}
+use Rattle.json_text.specs.Value.{IsCompact}
 use Rattle.elem.specs.Texts.{bound_text}
 use Rattle.elem.proofs.values.push_listing.Given as goal
 

@@ -1,8 +1,8 @@
 -- The first items stand between commas.
 use Rattle.std.proofs.Common.{◌≡◌, ◌++◌, All, map, take}
 use Rattle.std.specs.List.{join_with_byte}
-use Rattle.scene_json.specs.Value.{IsCompact}
-use Rattle.scene_json.specs.Characters.{quote}
+use Rattle.json_text.specs.Value.{IsCompact}
+use Rattle.json_text.specs.Characters.{quote}
 use Rattle.elem.proofs.values.push_texts.Given as goal
 
 abbrev pub invariant-loop-i : goal.invariant-loop-i

@@ -4,8 +4,8 @@ use Rattle.std.specs.Cmp.Lexicographic.{slice_cmp, nat_list_cmp_total}
 use Rattle.std.specs.List.Sorted.{IsSortedBy, IsPermutation}
 use Rattle.std.proofs.lemmas.Fn.{filter_same}
 use Rattle.std.proofs.lemmas.List.Sorted.{ranks_by, answers_always}
-use Rattle.scene_json.specs.Members.{pairs}
-use Rattle.scene_json.specs.declared.text.Member.{Member}
+use Rattle.json_text.specs.Members.{pairs}
+use Rattle.json_text.specs.declared.text.Member.{Member}
 use Rattle.elem.specs.Forms.{find_in, AreOthers}
 use Rattle.elem_read.proofs.Others.{kept, sorted-others}
 use Rattle.elem_read.proofs.binding.further.Goals as goal

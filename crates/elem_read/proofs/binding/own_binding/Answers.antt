@@ -1,5 +1,5 @@
 use Rattle.std.proofs.Common.{sym, subst, Bool}
-use Rattle.scene_json.specs.Members.{pairs}
+use Rattle.json_text.specs.Members.{pairs}
 use Rattle.scene_json.specs.Named.{value_at}
 use Rattle.elem.specs.Forms.{IsBindingOrNull}
 use Rattle.elem.specs.Said.{IsOwn}

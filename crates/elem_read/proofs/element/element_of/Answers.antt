@@ -1,7 +1,7 @@
 -- Each part is read in the order of the faults.
 use Rattle.std.proofs.Common.{codes, inl, inr, subst, sym}
 use Rattle.std.proofs.lemmas.Result.{err_from_is_err_and}
-use Rattle.scene_json.specs.Members.{pairs}
+use Rattle.json_text.specs.Members.{pairs}
 use Rattle.elem.specs.Facts.{is_header}
 use Rattle.elem.specs.Forms.{Find, find_in, IsTextOrNull, IsBindingOrNull, AreOthers}
 use Rattle.elem_read.specs.declared.fault.ElemFault.TheVariants.{Container, Binding, File}

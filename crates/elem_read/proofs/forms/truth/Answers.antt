@@ -1,5 +1,5 @@
 use Rattle.std.proofs.Common.{Bool, true, false, refl}
-use Rattle.scene_json.specs.Members.{pairs}
+use Rattle.json_text.specs.Members.{pairs}
 use Rattle.scene_json.specs.Named.{value_at}
 use Rattle.elem.specs.Forms.{IsTruth}
 use Rattle.elem_read.proofs.forms.truth.Goals as goal

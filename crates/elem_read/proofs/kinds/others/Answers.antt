@@ -1,6 +1,6 @@
 use Rattle.std.proofs.Common.{not, filter, rules, ap, ◌∙◌}
 use Rattle.std.proofs.lemmas.Fn.{filter_same}
-use Rattle.scene_json.specs.declared.text.Member.{Member}
+use Rattle.json_text.specs.declared.text.Member.{Member}
 use Rattle.elem.specs.Facts.{is_header}
 use Rattle.elem_read.proofs.kinds.others.Goals as goal
 

@@ -1,7 +1,7 @@
 use Rattle.std.proofs.Common.{codes, refl}
 use Rattle.std.proofs.lemmas.Bool.{both_ways}
-use Rattle.scene_json.specs.Characters.{quote}
-use Rattle.scene_json.specs.Members.{pairs}
+use Rattle.json_text.specs.Characters.{quote}
+use Rattle.json_text.specs.Members.{pairs}
 use Rattle.scene_json.specs.Named.{value_at}
 use Rattle.elem.proofs.Saying.{literal}
 use Rattle.elem_read.proofs.Parts.{no-role}

@@ -2,8 +2,8 @@
 use Rattle.std.proofs.Common.{◌≡◌, Ok, Err, ap, subst, ◌∙◌, lit≤}
 use Rattle.std.proofs.lemmas.Bool.{both_ways}
 use Rattle.std.proofs.lemmas.Result.{IfOk-at_ok, err_from_is_err_and}
-use Rattle.scene_json.specs.Characters.{quote}
-use Rattle.scene_json.specs.Members.{pairs}
+use Rattle.json_text.specs.Characters.{quote}
+use Rattle.json_text.specs.Members.{pairs}
 use Rattle.scene_json.proofs.Pairs.{AreMembers-distinct}
 use Rattle.elem_read.specs.Reading.{IsFaultIn}
 use Rattle.elem_read.specs.declared.fault.ElemFault.TheVariants.{Depth}

@@ -1,7 +1,7 @@
 use Rattle.std.proofs.Common.{◌≤◌, length, take_all, ◌∙◌, subst, arith}
 use Rattle.std.specs.List.{AllByRecursion}
 use Rattle.std.specs.Str.{IsUtf8}
-use Rattle.scene_json.specs.declared.text.Member.{Member}
+use Rattle.json_text.specs.declared.text.Member.{Member}
 use Rattle.elem_store.proofs.TellingLaws.{each-more, names-each}
 use Rattle.elem_store.proofs.telling.tell_names.Goals as goal
 

@@ -1,7 +1,7 @@
 use Rattle.std.proofs.Common.{take}
 use Rattle.std.specs.List.{AllByRecursion}
 use Rattle.std.specs.Str.{IsUtf8}
-use Rattle.scene_json.specs.declared.text.Member.{Member}
+use Rattle.json_text.specs.declared.text.Member.{Member}
 use Rattle.elem_store.proofs.telling.tell_names.Given as goal
 
 abbrev pub invariant-loop-member : goal.invariant-loop-member

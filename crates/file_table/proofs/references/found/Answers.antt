@@ -1,6 +1,6 @@
 use Rattle.std.proofs.Common.{[], ◌∷◌, ◌++◌, Some, sym, ap, ◌∙◌}
 use Rattle.std.proofs.lemmas.List.{map-append}
-use Rattle.scene_json.specs.Members.{pairs, pair_of}
+use Rattle.json_text.specs.Members.{pairs, pair_of}
 use Rattle.file_table.proofs.Referred.{found-some, found-none}
 use Rattle.file_table.proofs.references.found.Goals as goal
 

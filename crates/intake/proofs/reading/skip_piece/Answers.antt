@@ -1,8 +1,8 @@
 use Rattle.std.proofs.Common.{◌≡◌, ℕ, ◌+◌, List, ◌++◌, drop, Err, sym, ap, subst, ◌∙◌, arith}
 use Rattle.std.proofs.lemmas.List.{drop_all}
 use Rattle.std.specs.List.{prefix_len}
-use Rattle.scene_json.specs.Characters.{is_space}
-use Rattle.scene_json.specs.Feeding.{IsAt}
+use Rattle.json_text.specs.Characters.{is_space}
+use Rattle.json_reader.specs.Feeding.{IsAt}
 use Rattle.intake.specs.declared.reading.Stopped.TheVariants as stopped
 use Rattle.intake.specs.Texts.{IsLed, IsStopped}
 use Rattle.intake.proofs.Blanks.{blank-all}

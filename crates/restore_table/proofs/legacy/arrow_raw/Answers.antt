@@ -2,9 +2,9 @@
 use Rattle.std.proofs.Common.{[], ◌∷◌, refl, ap, arith}
 use Rattle.std.specs.List.{IsDistinct}
 use Rattle.std.proofs.lemmas.List.Elements.{All-from_recursion}
-use Rattle.scene_json.specs.Value.{IsCompact}
-use Rattle.scene_json.specs.declared.text.Member.{Member}
-use Rattle.scene_json.proofs.CompactLaws.{Value-deeper}
+use Rattle.json_text.specs.Value.{IsCompact}
+use Rattle.json_text.specs.declared.text.Member.{Member}
+use Rattle.json_text.proofs.CompactLaws.{Value-deeper}
 use Rattle.restore_table.proofs.legacy.arrow_raw.Goals as goal
 
 pub raw_object-requires-clause-distinct : goal.raw_object-requires-clause-distinct

@@ -1,6 +1,6 @@
 -- The items made so far are the texts of the first ids.
 use Rattle.std.proofs.Common.{◌≡◌, All, map, take}
-use Rattle.scene_json.specs.Value.{IsCompact}
+use Rattle.json_text.specs.Value.{IsCompact}
 use Rattle.restore_table.specs.Restored.{arrow_text}
 use Rattle.restore_table.proofs.legacy.arrows_raw.Given as goal
 

@@ -3,13 +3,13 @@ use Rattle.std.proofs.Common.{◌≡◌, ℕ, Vec, Global, All, List, [], ◌∷
 use Rattle.std.specs.List.{IsDistinct}
 use Rattle.std.specs.Option.{option_map}
 use Rattle.std.proofs.lemmas.Result.{IfOk-weaker}
-use Rattle.scene_json.specs.Compact.{has_other_name}
-use Rattle.scene_json.specs.Members.{pairs}
-use Rattle.scene_json.specs.Parts.{names_of}
+use Rattle.json_text.specs.Compact.{has_other_name}
+use Rattle.json_text.specs.Members.{pairs}
+use Rattle.json_text.specs.Parts.{names_of}
+use Rattle.json_text.specs.Value.{IsCompact}
+use Rattle.json_text.specs.declared.text.Member.{Member}
 use Rattle.scene_json.specs.TheOne.{IsTheOne}
-use Rattle.scene_json.specs.Value.{IsCompact}
-use Rattle.scene_json.specs.declared.text.Member.{Member}
-use Rattle.scene_json.proofs.CompactLaws.{Value-deeper}
+use Rattle.json_text.proofs.CompactLaws.{Value-deeper}
 use Rattle.scene_json.proofs.Pairs.{names-pairs}
 use Rattle.restore_table.specs.Merged.{AreOldIds, AreUpdated}
 use Rattle.restore_table.specs.Restored.{listing_name, old_name, listing_text}

@@ -1,9 +1,9 @@
 -- What is kept are the members that the test keeps.
 use Rattle.std.proofs.Common.{◌≡◌, ℕ, List, [], ◌∷◌, not, filter, bytes_eq, refl, ap, ◌∙◌, rules, cond, true, false}
 use Rattle.std.proofs.lemmas.Fn.{filter_same}
-use Rattle.scene_json.specs.Compact.{has_other_name}
-use Rattle.scene_json.specs.Members.{pairs, pair_of}
-use Rattle.scene_json.specs.declared.text.Member.{Member}
+use Rattle.json_text.specs.Compact.{has_other_name}
+use Rattle.json_text.specs.Members.{pairs, pair_of}
+use Rattle.json_text.specs.declared.text.Member.{Member}
 use Rattle.restore_table.proofs.legacy.without.Goals as goal
 
 filter-pairs : (name : List ℕ) (ms : List Member) → pairs (filter (λ (m : Member). not (bytes_eq name m.name)) ms) ≡ filter (has_other_name name) (pairs ms)

@@ -1,8 +1,8 @@
 use Rattle.std.proofs.Common.{◌≡◌, ◌++◌, List, map, length}
 use Rattle.std.specs.List.{AllByRecursion}
-use Rattle.scene_json.specs.Compact.{Member as Pair}
-use Rattle.scene_json.specs.Members.{pairs, pair_of}
-use Rattle.scene_json.specs.Value.{IsCompact}
+use Rattle.json_text.specs.Compact.{Member as Pair}
+use Rattle.json_text.specs.Members.{pairs, pair_of}
+use Rattle.json_text.specs.Value.{IsCompact}
 use Rattle.restore_table.specs.declared.table.Row.{Row}
 use Rattle.restore_table.specs.Merged.{row_pair, spliced}
 use Rattle.restore_table.proofs.restoring.place.Given as goal

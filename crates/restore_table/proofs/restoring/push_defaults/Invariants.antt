@@ -1,5 +1,5 @@
 use Rattle.std.proofs.Common.{◌≡◌, ◌++◌, map, take}
-use Rattle.scene_json.specs.Members.{pairs}
+use Rattle.json_text.specs.Members.{pairs}
 use Rattle.restore_table.specs.Merged.{row_pair}
 use Rattle.restore_table.proofs.restoring.push_defaults.Given as goal
 

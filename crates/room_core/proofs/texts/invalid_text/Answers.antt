@@ -1,5 +1,5 @@
 use Rattle.std.proofs.Common.{◌++◌, ap, ◌∙◌}
-use Rattle.scene_json.specs.Characters.{quote}
+use Rattle.json_text.specs.Characters.{quote}
 use Rattle.room_core.proofs.Printed.{invalid-written}
 use Rattle.room_core.proofs.texts.invalid_text.Goals as goal
 

@@ -1,8 +1,8 @@
 use Rattle.std.proofs.Common.{◌≡◌, Ok, Err, inl, inr, refl, ap, subst, ◌∙◌}
 use Rattle.std.proofs.lemmas.Bool.{both_ways}
 use Rattle.std.proofs.lemmas.Result.{IfOk-at_ok, err_from_is_err_and}
-use Rattle.scene_json.specs.Characters.{quote}
-use Rattle.scene_json.specs.Members.{pairs}
+use Rattle.json_text.specs.Characters.{quote}
+use Rattle.json_text.specs.Members.{pairs}
 use Rattle.scene_json.specs.TheOne.{IsTheOne}
 use Rattle.elem_read.proofs.NoSelections.{is-object}
 use Rattle.elem_read.proofs.Parts.{stop-same}

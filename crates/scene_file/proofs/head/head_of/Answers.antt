@@ -1,5 +1,5 @@
 use Rattle.std.proofs.Common.{◌++◌, codes, subst}
-use Rattle.scene_json.specs.Members.{pairs}
+use Rattle.json_text.specs.Members.{pairs}
 use Rattle.file_table.specs.Table.{AreLeastEntries}
 use Rattle.scene_file.proofs.HeadsTold.{head-told}
 use Rattle.scene_file.proofs.Nesting.{nests-value_unless_null}

@@ -1,9 +1,9 @@
 use Rattle.std.proofs.Common.{List, rules, sym, subst}
 use Rattle.std.specs.Cmp.Lexicographic.{nat_list_cmp_total}
 use Rattle.std.proofs.lemmas.List.Sorted.{ranks_by, answers_always}
-use Rattle.scene_json.specs.Members.{pairs}
-use Rattle.scene_json.specs.Parts.{AreMembers}
-use Rattle.scene_json.specs.declared.text.Member.{Member}
+use Rattle.json_text.specs.Members.{pairs}
+use Rattle.json_text.specs.Parts.{AreMembers}
+use Rattle.json_text.specs.declared.text.Member.{Member}
 use Rattle.scene_file.proofs.Ordered.{is_lower, AreOrdered, AreOrdered-from}
 use Rattle.scene_file.proofs.head.in_order.Goals as goal
 

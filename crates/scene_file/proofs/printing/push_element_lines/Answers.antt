@@ -1,8 +1,8 @@
 use Rattle.std.proofs.Common.{◌≡◌, ◌<◌, ℕ, ◌+◌, List, [], ◌∷◌, ◌++◌, ◌⊎◌, sym, ap, ◌∙◌, subst, refl, length, map, take, get_or, take_all, append-nil, append_assoc, inl, inr, arith}
 use Rattle.std.specs.List.{join_with_byte}
 use Rattle.std.proofs.lemmas.List.Elements.{All-more, All-same}
+use Rattle.json_text.specs.Value.{IsCompact}
 use Rattle.scene_json.specs.Lines.{IsLaidOutSoFar}
-use Rattle.scene_json.specs.Value.{IsCompact}
 use Rattle.scene_json.proofs.Appended.{mapped-step}
 use Rattle.elem.specs.ElementValue.{ElementValue}
 use Rattle.elem.specs.Texts.{element_text}

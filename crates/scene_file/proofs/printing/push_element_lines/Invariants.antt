@@ -1,8 +1,8 @@
 -- The first elements' texts are laid out, with commas between them.
 use Rattle.std.proofs.Common.{ℕ, List, ◌++◌, All, map, take}
 use Rattle.std.specs.List.{join_with_byte}
+use Rattle.json_text.specs.Value.{IsCompact}
 use Rattle.scene_json.specs.Lines.{IsLaidOutSoFar}
-use Rattle.scene_json.specs.Value.{IsCompact}
 use Rattle.elem.specs.Texts.{element_text}
 use Rattle.scene_file.proofs.printing.push_element_lines.Given as goal
 

@@ -2,9 +2,9 @@
 use Rattle.std.proofs.Common.{◌≡◌, ◌++◌, All, map, take}
 use Rattle.std.specs.List.{join_with_byte}
 use Rattle.std.specs.Str.{IsUtf8}
-use Rattle.scene_json.specs.Compact.{member_text}
-use Rattle.scene_json.specs.Members.{pair_of}
-use Rattle.scene_json.specs.declared.text.Member.{Member}
+use Rattle.json_text.specs.Compact.{member_text}
+use Rattle.json_text.specs.Members.{pair_of}
+use Rattle.json_text.specs.declared.text.Member.{Member}
 use Rattle.scene_file.proofs.printing.push_object.Given as goal
 
 abbrev pub invariant-loop-i : goal.invariant-loop-i

@@ -1,6 +1,6 @@
 use Rattle.std.proofs.Common.{◌≡◌, ◌++◌, ap, ◌∙◌, subst}
-use Rattle.scene_json.specs.Members.{pairs}
-use Rattle.scene_json.specs.Value.{IsCompact}
+use Rattle.json_text.specs.Members.{pairs}
+use Rattle.json_text.specs.Value.{IsCompact}
 use Rattle.scene_json.proofs.Lookups.{rising_distinct}
 use Rattle.scene_file.specs.Heads.{Heading}
 use Rattle.scene_file.specs.Scenes.{scene_text}

@@ -1,10 +1,10 @@
 use Rattle.std.proofs.Common.{◌≡◌, ℕ, List, [], ◌++◌, map, sym, ap, ◌∙◌, refl, subst, append-nil}
 use Rattle.std.proofs.lemmas.Result.{on_ok_weaker}
 use Rattle.std.specs.List.{join_with_byte}
+use Rattle.json_text.specs.Members.{pairs}
+use Rattle.json_text.specs.Value.{IsCompact}
 use Rattle.scene_json.specs.Layout.{IsLaidOut}
 use Rattle.scene_json.specs.Lines.{Standing, IsLaidOutSoFar}
-use Rattle.scene_json.specs.Members.{pairs}
-use Rattle.scene_json.specs.Value.{IsCompact}
 use Rattle.scene_json.proofs.Lookups.{rising_distinct}
 use Rattle.elem.specs.Texts.{element_text}
 use Rattle.scene_file.specs.Heads.{Heading}

@@ -2,8 +2,8 @@ use Rattle.std.proofs.Common.{◌≡◌, None, Ok, Err, refl, sym, ap, subst, �
 use Rattle.std.proofs.lemmas.Bool.{both_ways}
 use Rattle.std.proofs.lemmas.Option.{MatchOption-at_some, MatchOption-at_none}
 use Rattle.std.proofs.lemmas.Result.{IfOk-at_ok, err_from_is_err_and}
-use Rattle.scene_json.specs.Characters.{quote}
-use Rattle.scene_json.specs.Members.{pairs}
+use Rattle.json_text.specs.Characters.{quote}
+use Rattle.json_text.specs.Members.{pairs}
 use Rattle.elem_read.proofs.Parts.{stop-same}
 use Rattle.scene_file.specs.Reading.{IsSceneFault, loaded}
 use Rattle.scene_file.specs.declared.fault.SceneFault.TheVariants.{NotScene, Elements, AppState, Files}

@@ -1,10 +1,10 @@
 use Rattle.std.proofs.Common.{◌≡◌, [], ◌∷◌, ◌+◌, ◌<◌, ◌≤◌, length, inl, inr, arith, ap, ◌∙◌, sym, subst}
 use Rattle.std.proofs.lemmas.List.Elements.{recursion_from_All}
 use Rattle.std.proofs.lemmas.Result.{IfOk-weaker}
-use Rattle.scene_json.specs.Compact.{array_text}
-use Rattle.scene_json.specs.Value.{IsCompact}
-use Rattle.scene_json.proofs.CompactLaws.{array-compact}
-use Rattle.scene_json.proofs.Quoting.{items-step, array-written}
+use Rattle.json_text.specs.Compact.{array_text}
+use Rattle.json_text.specs.Value.{IsCompact}
+use Rattle.json_text.proofs.CompactLaws.{array-compact}
+use Rattle.json_text.proofs.Quoting.{items-step, array-written}
 use Rattle.scene_json.proofs.build.raw_array.Goals as goal
 use Rattle.scene_json.proofs.build.raw_array.Goals.{In_ok-push-3, then-i-gt0+in_ok-push-2, else-i-gt0}
 

@@ -1,13 +1,13 @@
 use Rattle.std.proofs.Common.{◌≡◌, ℕ, ◌+◌, ◌<◌, ◌≤◌, All, length, inl, inr, arith, ap, ◌∙◌, sym, subst}
 use Rattle.std.proofs.lemmas.List.{length-map, get_or-map}
 use Rattle.std.proofs.lemmas.Result.{IfOk-weaker}
-use Rattle.scene_json.specs.Compact.{object_text}
-use Rattle.scene_json.specs.Members.{pairs, pair_of}
-use Rattle.scene_json.specs.Value.{IsCompact}
-use Rattle.scene_json.specs.declared.text.Member.{Member}
-use Rattle.scene_json.proofs.CompactLaws.{object-compact}
+use Rattle.json_text.specs.Compact.{object_text}
+use Rattle.json_text.specs.Members.{pairs, pair_of}
+use Rattle.json_text.specs.Value.{IsCompact}
+use Rattle.json_text.specs.declared.text.Member.{Member}
+use Rattle.json_text.proofs.CompactLaws.{object-compact}
+use Rattle.json_text.proofs.Quoting.{members-step, object-written}
 use Rattle.scene_json.proofs.Pairs.{pairs-AreMembers}
-use Rattle.scene_json.proofs.Quoting.{members-step, object-written}
 use Rattle.scene_json.proofs.build.raw_object.Goals as goal
 use Rattle.scene_json.proofs.build.raw_object.Goals.{In_ok-push-3, then-i-gt0+in_ok-push-2, else-i-gt0}
 

@@ -1,8 +1,8 @@
 use Rattle.std.proofs.Common.{◌≡◌, ◌∙◌, refl, sym, subst}
 use Rattle.std.proofs.lemmas.Result.{IfOk-weaker}
-use Rattle.scene_json.specs.Characters.{quote}
-use Rattle.scene_json.specs.Value.{IsCompact}
-use Rattle.scene_json.proofs.CompactLaws.{quote-compact}
+use Rattle.json_text.specs.Characters.{quote}
+use Rattle.json_text.specs.Value.{IsCompact}
+use Rattle.json_text.proofs.CompactLaws.{quote-compact}
 use Rattle.scene_json.proofs.build.raw_text.Goals as goal
 
 pub from_compact-requires : goal.from_compact-requires

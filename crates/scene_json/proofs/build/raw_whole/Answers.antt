@@ -1,7 +1,7 @@
 use Rattle.std.proofs.Common.{◌≡◌, decimal, ap, ◌∙◌, sym, subst, arith}
 use Rattle.std.proofs.lemmas.Result.{IfOk-weaker}
-use Rattle.scene_json.specs.Value.{IsCompact}
-use Rattle.scene_json.proofs.CompactLaws.{decimal_nests}
+use Rattle.json_text.specs.Value.{IsCompact}
+use Rattle.json_text.proofs.CompactLaws.{decimal_nests}
 use Rattle.scene_json.proofs.build.raw_whole.Goals as goal
 
 pub from_compact-requires : goal.from_compact-requires

@@ -1,6 +1,6 @@
 use Rattle.std.proofs.Common.{◌≡◌, [], sym, ◌∙◌, append-nil}
+use Rattle.json_text.specs.Tree.{Tree, IsGood, spelling}
 use Rattle.scene_json.specs.Layout.{laid_out}
-use Rattle.scene_json.specs.Tree.{Tree, IsGood, spelling}
 use Rattle.scene_json.proofs.Laid.{laid-Value}
 use Rattle.scene_json.proofs.layout.pretty.Goals as goal
 use Rattle.scene_json.proofs.layout.pretty.Goals.{After-from_vec}

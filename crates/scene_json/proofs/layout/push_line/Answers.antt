@@ -1,7 +1,7 @@
 use Rattle.std.proofs.Common.{◌≡◌, ℕ, ◌+◌, ◌*◌, [], ◌∷◌, ◌++◌, replicate, ap, ◌∙◌, append_assoc, arith}
 use Rattle.std.proofs.lemmas.List.{replicate-append-replicate}
 use Rattle.scene_json.specs.Layout.{line}
-use Rattle.scene_json.proofs.Appending.{extends_by, extends_then, extends_same, on_err}
+use Rattle.json_text.proofs.Appending.{extends_by, extends_then, extends_same, on_err}
 use Rattle.scene_json.proofs.layout.push_line.Goals as goal
 
 -- two more spaces

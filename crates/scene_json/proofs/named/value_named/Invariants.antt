@@ -1,5 +1,5 @@
 use Rattle.std.proofs.Common.{◌≡◌, drop}
-use Rattle.scene_json.specs.Members.{pairs}
+use Rattle.json_text.specs.Members.{pairs}
 use Rattle.scene_json.specs.Named.{value_at}
 use Rattle.scene_json.proofs.named.value_named.Given as goal
 

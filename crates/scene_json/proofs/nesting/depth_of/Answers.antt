@@ -1,8 +1,8 @@
 use Rattle.std.proofs.Common.{◌≡◌, ℕ, List, ◌∷◌, false, length, sym, ap, ◌∙◌, arith}
 use Rattle.std.proofs.lemmas.List.{nil_from_length}
-use Rattle.scene_json.specs.Value.{IsCompact}
-use Rattle.scene_json.specs.Tree.{depth}
-use Rattle.scene_json.specs.Lines.{outside}
+use Rattle.json_text.specs.Value.{IsCompact}
+use Rattle.json_text.specs.Tree.{depth}
+use Rattle.json_text.specs.Walk.{outside}
 use Rattle.scene_json.proofs.Behind.{length-behind_string}
 use Rattle.scene_json.proofs.Depths.{deepest, quote-step, deepest-depth}
 use Rattle.scene_json.proofs.nesting.depth_of.Goals as goal

@@ -1,5 +1,5 @@
 use Rattle.std.proofs.Common.{◌≡◌, ◌+◌, ◌≤◌, length}
-use Rattle.scene_json.specs.Lines.{outside}
+use Rattle.json_text.specs.Walk.{outside}
 use Rattle.scene_json.proofs.Depths.{deepest}
 use Rattle.scene_json.proofs.nesting.depth_of.Given as goal
 

@@ -1,8 +1,8 @@
 use Rattle.std.proofs.Common.{◌≤◌, ap, arith}
 use Rattle.std.specs.List.{count_by}
 use Rattle.std.proofs.lemmas.Bool.{leb-true, le-leb}
-use Rattle.scene_json.specs.Passes.{is_opening}
-use Rattle.scene_json.proofs.CompactLaws.{Value-deeper}
+use Rattle.json_text.specs.Characters.{is_opening}
+use Rattle.json_text.proofs.CompactLaws.{Value-deeper}
 use Rattle.scene_json.proofs.Depths.{counted-nests}
 use Rattle.scene_json.proofs.nesting.nests_at_most.Goals as goal
 

@@ -1,7 +1,7 @@
 use Rattle.std.proofs.Common.{◌≡◌, ◌∷◌, false, length, sym, ap, ◌∙◌, arith}
 use Rattle.std.proofs.lemmas.List.{nil_from_length}
-use Rattle.scene_json.specs.Walk.{IsEnd}
-use Rattle.scene_json.specs.Lines.{outside}
+use Rattle.json_text.specs.Walk.{outside}
+use Rattle.scene_json.specs.Passes.{IsEnd}
 use Rattle.scene_json.proofs.Behind.{length-behind_string}
 use Rattle.scene_json.proofs.Skipped.{skipped, quote-step, end-step, skipped-value}
 use Rattle.scene_json.proofs.parts.after_value.Goals as goal

@@ -1,9 +1,9 @@
 use Rattle.std.proofs.Common.{drop, refl, sym, ap, subst, ◌∙◌}
 use Rattle.std.specs.List.{AllByRecursion}
-use Rattle.scene_json.specs.Compact.{array_text}
-use Rattle.scene_json.specs.Value.{IsCompact}
-use Rattle.scene_json.proofs.CompactLaws.{Value-Form}
-use Rattle.scene_json.proofs.Forms.{starts-same, array-starts, form-listed}
+use Rattle.json_text.specs.Compact.{array_text}
+use Rattle.json_text.specs.Value.{IsCompact}
+use Rattle.json_text.proofs.CompactLaws.{Value-Form}
+use Rattle.json_text.proofs.Forms.{starts-same, array-starts, form-listed}
 use Rattle.scene_json.proofs.ItemsLeft.{closed-empty, filled-some}
 use Rattle.scene_json.proofs.parts.items.Goals as goal
 

@@ -1,6 +1,6 @@
 use Rattle.std.proofs.Common.{◌≡◌, ◌-◌, take, ◌+◌, ℕ, List, [], ◌∷◌, ◌++◌, length, drop, ap, ◌∙◌, arith}
-use Rattle.scene_json.specs.Tree.{array}
-use Rattle.scene_json.proofs.Forms.{array-starts}
+use Rattle.json_text.specs.Tree.{array}
+use Rattle.json_text.proofs.Forms.{array-starts}
 use Rattle.scene_json.proofs.ItemsLeft.{IsLeft-all, IsLeft-Compacted, IsLeft-end, IsLeft-next, after-here}
 use Rattle.scene_json.proofs.parts.items_from.Goals as goal
 use Rattle.scene_json.proofs.parts.items_from.Goals.{In_ok-cut}

@@ -1,7 +1,7 @@
 use Rattle.std.proofs.Common.{◌≡◌, ◌≤◌, ◌-◌, List, ℕ, length, drop}
 use Rattle.std.specs.List.{AllByRecursion}
-use Rattle.scene_json.specs.Compact.{array_text}
-use Rattle.scene_json.specs.Value.{IsCompact}
+use Rattle.json_text.specs.Compact.{array_text}
+use Rattle.json_text.specs.Value.{IsCompact}
 use Rattle.scene_json.proofs.ItemsLeft.{AreItemsLeft}
 use Rattle.scene_json.proofs.parts.items_from.Given as goal
 

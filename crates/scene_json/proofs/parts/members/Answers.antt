@@ -1,9 +1,9 @@
 use Rattle.std.proofs.Common.{drop, refl, sym, ap, subst, ◌∙◌}
-use Rattle.scene_json.specs.Members.{pairs}
-use Rattle.scene_json.specs.Parts.{AreMembers}
-use Rattle.scene_json.specs.Compact.{object_text}
-use Rattle.scene_json.proofs.CompactLaws.{Value-Form}
-use Rattle.scene_json.proofs.Forms.{starts-same, object-starts, form-membered}
+use Rattle.json_text.specs.Members.{pairs}
+use Rattle.json_text.specs.Parts.{AreMembers}
+use Rattle.json_text.specs.Compact.{object_text}
+use Rattle.json_text.proofs.CompactLaws.{Value-Form}
+use Rattle.json_text.proofs.Forms.{starts-same, object-starts, form-membered}
 use Rattle.scene_json.proofs.MembersLeft.{closed-empty, filled-some}
 use Rattle.scene_json.proofs.parts.members.Goals as goal
 

@@ -1,12 +1,12 @@
 use Rattle.std.proofs.Common.{◌≡◌, ◌<◌, List, get_or, ◌+◌, ℕ, [], ◌∷◌, ◌++◌, length, drop, map, sym, ap, ap₂, subst, ◌∙◌, arith}
-use Rattle.scene_json.specs.Tree.{object}
-use Rattle.scene_json.specs.Compact.{Member, member_text}
-use Rattle.scene_json.specs.Members.{pairs}
-use Rattle.scene_json.specs.Value.{IsCompact}
-use Rattle.scene_json.specs.Walk.{Quoted}
-use Rattle.scene_json.proofs.Forms.{object-starts}
-use Rattle.scene_json.proofs.CompactLaws.{Value-deeper}
-use Rattle.scene_json.proofs.Contents.{drop-after, inside-after}
+use Rattle.json_text.specs.Tree.{object}
+use Rattle.json_text.specs.Compact.{Member, member_text}
+use Rattle.json_text.specs.Members.{pairs}
+use Rattle.json_text.specs.Value.{IsCompact}
+use Rattle.json_text.specs.Walk.{Quoted}
+use Rattle.json_text.proofs.Forms.{object-starts}
+use Rattle.json_text.proofs.CompactLaws.{Value-deeper}
+use Rattle.json_text.proofs.Contents.{drop-after, inside-after}
 use Rattle.scene_json.proofs.ItemsLeft.{after-here, IsLeft-end, IsLeft-next}
 use Rattle.scene_json.proofs.MembersLeft.{AreMembersLeft, after_member, IsLeft-all, IsLeft-Quoted, IsLeft-Compacted, pairs-push}
 use Rattle.scene_json.proofs.parts.members_from.Goals as goal

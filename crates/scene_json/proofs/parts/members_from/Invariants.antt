@@ -1,7 +1,7 @@
 use Rattle.std.proofs.Common.{◌≡◌, ◌≤◌, ◌-◌, List, length, drop}
-use Rattle.scene_json.specs.Members.{pairs}
-use Rattle.scene_json.specs.Parts.{AreMembers}
-use Rattle.scene_json.specs.Compact.{Member, object_text}
+use Rattle.json_text.specs.Members.{pairs}
+use Rattle.json_text.specs.Parts.{AreMembers}
+use Rattle.json_text.specs.Compact.{Member, object_text}
 use Rattle.scene_json.proofs.MembersLeft.{AreMembersLeft}
 use Rattle.scene_json.proofs.parts.members_from.Given as goal
 

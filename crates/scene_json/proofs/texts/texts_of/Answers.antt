@@ -1,6 +1,6 @@
 use Rattle.std.proofs.Common.{◌≡◌, Ok, map, take_all, sym, ap, ◌∙◌, arith, add-one, rules}
-use Rattle.scene_json.specs.Characters.{quote}
-use Rattle.scene_json.specs.Compact.{array_text}
+use Rattle.json_text.specs.Characters.{quote}
+use Rattle.json_text.specs.Compact.{array_text}
 use Rattle.scene_json.proofs.Quotes.{IsQuote, AreQuotes, quotes-more, quotes-texts, quotes-only, quotes-compact, quoted-at}
 use Rattle.scene_json.proofs.texts.texts_of.Goals as goal
 

@@ -1,6 +1,6 @@
 use Rattle.std.proofs.Common.{refl}
 use Rattle.std.proofs.lemmas.Option.{MatchOption-at_some, MatchOption-at_none}
-use Rattle.scene_json.specs.Members.{pairs}
+use Rattle.json_text.specs.Members.{pairs}
 use Rattle.session_text.proofs.Readings.{stopped, went_on}
 use Rattle.session_text.proofs.happening.read_event.Goals as goal
 

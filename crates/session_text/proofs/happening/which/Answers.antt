@@ -1,7 +1,7 @@
 use Rattle.std.proofs.Common.{codes, refl}
 use Rattle.std.proofs.lemmas.Bool.{both_ways}
-use Rattle.scene_json.specs.Characters.{quote}
-use Rattle.scene_json.specs.Members.{pairs}
+use Rattle.json_text.specs.Characters.{quote}
+use Rattle.json_text.specs.Members.{pairs}
 use Rattle.scene_json.specs.Named.{value_at}
 use Rattle.session_text.proofs.Lacking.{no-happening}
 use Rattle.session_text.proofs.happening.which.Goals as goal

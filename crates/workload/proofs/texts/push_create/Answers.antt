@@ -1,5 +1,5 @@
 use Rattle.std.proofs.Common.{ℕ, List, ◌++◌, ◌∙◌, codes, sym, ap}
-use Rattle.scene_json.specs.Characters.{quote}
+use Rattle.json_text.specs.Characters.{quote}
 use Rattle.elem.specs.Texts.{kind_name}
 use Rattle.workload.specs.Texts.{id_text, kind_of}
 use Rattle.workload.proofs.TextLaws.{appended5, create-parts}

@@ -1,5 +1,5 @@
 use Rattle.std.proofs.Common.{ℕ, List, ◌++◌, ◌∙◌, codes, sym, ap, decimal}
-use Rattle.scene_json.specs.Characters.{quote}
+use Rattle.json_text.specs.Characters.{quote}
 use Rattle.workload.specs.Texts.{id_text}
 use Rattle.workload.proofs.TextLaws.{appended7, set-parts}
 use Rattle.workload.proofs.texts.push_set.Goals as goal

@@ -1,5 +1,5 @@
 use Rattle.std.proofs.Common.{sym, ap, subst, ◌∙◌}
-use Rattle.scene_json.specs.Members.{pairs}
+use Rattle.json_text.specs.Members.{pairs}
 use Rattle.scene_json.specs.Named.{HaveRisingNames}
 use Rattle.file_table.specs.Table.{EntriesNest}
 use Rattle.file_table.proofs.ById.{rising-by_id, nest-by_id}

@@ -1,7 +1,7 @@
 use Rattle.std.proofs.Common.{bytes_eq, sym, ap, ◌∙◌, subst}
 use Rattle.std.specs.List.{IsDistinct}
-use Rattle.scene_json.specs.Members.{pairs}
-use Rattle.scene_json.specs.Parts.{names_of}
+use Rattle.json_text.specs.Members.{pairs}
+use Rattle.json_text.specs.Parts.{names_of}
 use Rattle.first_texts.specs.FirstOccurrences.{first_texts}
 use Rattle.elem.specs.Texts.{sorted_members}
 use Rattle.file_table.specs.References.{referred_files}

@@ -1,5 +1,6 @@
 use Rattle.std.proofs.Common.{◌∙◌, sym, ap}
-use Rattle.scene_json.specs.Lines.{layout, outside}
+use Rattle.json_text.specs.Walk.{outside}
+use Rattle.scene_json.specs.Lines.{layout}
 use Rattle.std.proofs.Common.{false}
 use Rattle.scene_json.proofs.Spread.{layout-tree}
 use Rattle.scene_json.proofs.layout.Lines.new.Goals as goal

@@ -1,5 +1,5 @@
 use Rattle.std.proofs.Common.{◌≡◌, ◌++◌, List, ℕ, length}
-use Rattle.scene_json.specs.Appending.{Extends}
+use Rattle.json_text.specs.Appending.{Extends}
 use Rattle.scene_json.specs.Lines.{layout_from}
 use Rattle.scene_json.proofs.layout.Lines.push_all.Given as goal
 

@@ -1,7 +1,7 @@
 use Rattle.std.proofs.Common.{◌≡◌, ◌-◌, take, true, subst, arith}
 use Rattle.std.specs.List.{AllByRecursion}
-use Rattle.scene_json.specs.Characters.{is_plain}
-use Rattle.scene_json.proofs.Stays.{passed_all}
+use Rattle.json_text.specs.Characters.{is_plain}
+use Rattle.json_text.proofs.Passed.{passed_all}
 use Rattle.scene_json.proofs.layout.Lines.run_length.Goals as goal
 
 pub returns-then-not-self-clause-plain : goal.returns-then-not-self-clause-plain

@@ -1,0 +1,45 @@
+use Rattle.std.proofs.Common.{◌≡◌, ℕ, ◌+◌, List, [], ◌++◌, Err, drop, sym, ap, subst, ◌∙◌}
+use Rattle.json_reader.specs.Faults.{IsFirstFault}
+use Rattle.json_reader.specs.Feeding.{behind_space, Feeding, IsAt}
+use Rattle.json_reader.proofs.Feeds.{going_on, value_there, fault_there, fault_apart, under_way}
+use Rattle.json_reader.proofs.feed.Feed.feed.Goals as goal
+
+pub returns-in-Ok-clause-under_way : goal.returns-in-Ok-clause-under_way
+returns-in-Ok-clause-under_way c none =
+    let fed = rw none at c.in-Ok.ensures.fed in
+    under_way c.read_piece.new.rest.items fed.2.mode fed.2.brackets fed.2.ran fed.2.goes_on
+
+pub returns-in-Ok-clause-going : goal.returns-in-Ok-clause-going
+returns-in-Ok-clause-going c none stream begin at =
+    let piece = c.args.piece.now in
+    let feed : Feeding = record { rest = c.self.inside.rest.items; used = c.self.inside.used; fault = c.self.inside.fault } in
+    let here : IsAt stream begin piece feed = subst (IsAt stream begin piece) (sym c.self.view_is) at in
+    let fed = rw none at c.in-Ok.ensures.fed in
+    subst (λ (rest : List ℕ). IsAt stream begin [] (record { rest = rest; used = c.self.inside.used + c.in-Ok.fed.used; fault = c.self.inside.fault })) (sym fed.1)
+    (subst (λ (n : ℕ). IsAt stream begin [] (record { rest = behind_space (c.self.inside.rest.items ++ piece); used = c.self.inside.used + n; fault = c.self.inside.fault })) (sym fed.0)
+    (going_on stream begin piece feed here))
+
+pub returns-in-Ok-clause-value : goal.returns-in-Ok-clause-value
+returns-in-Ok-clause-value c text is stream begin at =
+    let piece = c.args.piece.now in
+    let feed : Feeding = record { rest = c.self.inside.rest.items; used = c.self.inside.used; fault = c.self.inside.fault } in
+    let here : IsAt stream begin piece feed = subst (IsAt stream begin piece) (sym c.self.view_is) at in
+    let fed = rw is at c.in-Ok.ensures.fed in
+    let e = fed.1 in
+    let found = value_there stream begin piece feed here c.in-Ok.fed.used e.mode e.brackets e.ran e.within e.ends text fed.2 in (
+      found.0,
+      subst (λ (rest : List ℕ). IsAt stream found.0 (drop c.in-Ok.fed.used piece) (record { rest = rest; used = c.self.inside.used + c.in-Ok.fed.used; fault = c.self.inside.fault }))
+          (sym fed.0) found.1,
+      found.2,
+    )
+
+pub returns-in-Err-Fault-clause-first : goal.returns-in-Err-Fault-clause-first
+returns-in-Err-Fault-clause-first c fault is stream begin at =
+    let piece = c.args.piece.now in
+    let feed : Feeding = record { rest = c.self.inside.rest.items; used = c.self.inside.used; fault = c.self.inside.fault } in
+    let here : IsAt stream begin piece feed = subst (IsAt stream begin piece) (sym c.self.view_is) at in
+    let same : c.in-Err-Fault.fault ≡ fault = cc in
+    let r = c.in-Err-Fault.ensures.fault c.in-Err-Fault.fault (ap Err c.in-Err-Fault.field-0-is) in (
+      fault_apart stream begin piece feed here r.at r.mode r.brackets r.ran r.within r.stuck,
+      λ more. subst (IsFirstFault (stream ++ more) begin) (sym r.told ∙ same) (fault_there stream begin piece feed here r.at r.mode r.brackets r.ran r.within r.stuck more),
+    )

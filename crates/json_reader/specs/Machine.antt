@@ -1,0 +1,372 @@
+-- What each byte does to the machine that reads a value. This project's own, over the grammar of RFC 8259.
+-- Only contracts of private functions cite this.
+use Rattle.std.specs.Prelude.{◌≡◌, ℕ, ◌+◌, ◌-◌, Option, Some, None, List, [], ◌∷◌, length, drop, is_none, is_some, Bool, true, false, not, ◌&&◌, ◌||◌, ◌==◌, nat_lt, nat_le, if◌then◌else◌}
+use Rattle.json_text.specs.Characters.{is_space, is_digit, is_hex}
+use Rattle.json_text.specs.Tree.{Container, array, object, closing, letter_meaning}
+use Rattle.json_text.specs.Value.{extends_number}
+use Rattle.json_reader.specs.declared.fault.JsonFault.{JsonFault}
+use Rattle.json_reader.specs.declared.fault.JsonFault.TheVariants.{Syntax, Depth, Utf8}
+use Rattle.json_reader.specs.declared.number.Part.{Part}
+use Rattle.json_reader.specs.declared.number.Part.TheVariants.{Minus, Zero, Whole, Dot, Fraction, Letter, Sign, Exponent}
+use Rattle.json_reader.specs.declared.sequence.Tail.{Tail}
+use Rattle.json_reader.specs.declared.sequence.Tail.TheVariants.{One, Two, Three, Long3, Low3, Long4, Low4}
+use Rattle.json_reader.specs.declared.brackets.Bracket.{Bracket}
+use Rattle.json_reader.specs.declared.brackets.Bracket.TheVariants.{Square, Curly}
+use Rattle.json_reader.specs.declared.machine.Role.{Role}
+use Rattle.json_reader.specs.declared.machine.Role.TheVariants as role
+use Rattle.json_reader.specs.declared.machine.Place.{Place}
+use Rattle.json_reader.specs.declared.machine.Place.TheVariants.{Plain, Escape, Hex, Sequence}
+use Rattle.json_reader.specs.declared.machine.Letters.{Letters}
+use Rattle.json_reader.specs.declared.machine.Letters.TheVariants.{Ull, Ll, L, Rue, Ue, Alse, Lse, Se, E}
+use Rattle.json_reader.specs.declared.machine.Mode.{Mode}
+use Rattle.json_reader.specs.declared.machine.Mode.TheVariants.{Fresh, Name, Colon, After, Quoted, Number, Word}
+use Rattle.json_reader.specs.declared.machine.Mode.TheVariants as mode
+use Rattle.json_reader.specs.declared.machine.Machine.{Machine}
+use Rattle.json_reader.specs.declared.machine.Step.{Step}
+use Rattle.json_reader.specs.declared.machine.Step.TheVariants.{On, Ended, Refused}
+use Rattle.json_reader.specs.declared.machine.Move.{Move}
+use Rattle.json_reader.specs.declared.machine.Move.TheVariants.{To, Open, Close, End, Refuse}
+
+-- ---- numbers
+-- the part that this byte begins a whole number with
+abbrev pub whole_begun : ℕ → Option Part
+whole_begun b = if b == 48 then Some Zero else (if is_digit b then Some Whole else None)
+
+-- the part that this byte begins a number with
+abbrev pub part_begun : ℕ → Option Part
+part_begun b = if b == 45 then Some Minus else whole_begun b
+
+-- the part that may follow a fraction: an exponent
+abbrev pub after_fraction : ℕ → Option Part
+after_fraction b = if b == 101 || b == 69 then Some Letter else None
+
+-- the part that may follow a whole number: a fraction or an exponent
+abbrev pub after_whole : ℕ → Option Part
+after_whole b = if b == 46 then Some Dot else after_fraction b
+
+-- the part that a number has come to after one more byte
+abbrev pub part_after : Part → ℕ → Option Part
+part_after Minus b = whole_begun b
+part_after Zero b = after_whole b
+part_after Whole b = if is_digit b then Some Whole else after_whole b
+part_after Dot b = if is_digit b then Some Fraction else None
+part_after Fraction b = if is_digit b then Some Fraction else after_fraction b
+part_after Letter b = if b == 43 || b == 45 then Some Sign else (if is_digit b then Some Exponent else None)
+part_after Sign b = if is_digit b then Some Exponent else None
+part_after Exponent b = if is_digit b then Some Exponent else None
+
+-- a number may end after this part
+abbrev pub is_complete : Part → Bool
+is_complete Minus = false
+is_complete Zero = true
+is_complete Whole = true
+is_complete Dot = false
+is_complete Fraction = true
+is_complete Letter = false
+is_complete Sign = false
+is_complete Exponent = true
+
+-- ---- sequences of UTF-8: Unicode, table 3-7
+-- what must come after a byte that begins a sequence of more than one
+abbrev pub tail_led : ℕ → Option Tail
+tail_led b =
+    if nat_le 0xC2 b && nat_le b 0xDF then Some One
+    else (if b == 0xE0 then Some Long3
+    else (if b == 0xED then Some Low3
+    else (if nat_le 0xE1 b && nat_le b 0xEF then Some Two
+    else (if b == 0xF0 then Some Long4
+    else (if nat_le 0xF1 b && nat_le b 0xF3 then Some Three
+    else (if b == 0xF4 then Some Low4
+    else None))))))
+
+-- this byte may be the next
+abbrev pub tail_fits : Tail → ℕ → Bool
+tail_fits One b = nat_le 0x80 b && nat_le b 0xBF
+tail_fits Two b = nat_le 0x80 b && nat_le b 0xBF
+tail_fits Three b = nat_le 0x80 b && nat_le b 0xBF
+tail_fits Long3 b = nat_le 0xA0 b && nat_le b 0xBF
+tail_fits Low3 b = nat_le 0x80 b && nat_le b 0x9F
+tail_fits Long4 b = nat_le 0x90 b && nat_le b 0xBF
+tail_fits Low4 b = nat_le 0x80 b && nat_le b 0x8F
+
+-- what must come after one byte more
+abbrev pub tail_after : Tail → Option Tail
+tail_after One = None
+tail_after Two = Some One
+tail_after Three = Some Two
+tail_after Long3 = Some One
+tail_after Low3 = Some One
+tail_after Long4 = Some Two
+tail_after Low4 = Some Two
+
+-- how many bytes must still come
+abbrev pub tail_length : Tail → ℕ
+tail_length One = 1
+tail_length Two = 2
+tail_length Three = 3
+tail_length Long3 = 2
+tail_length Low3 = 2
+tail_length Long4 = 3
+tail_length Low4 = 3
+
+-- ---- words
+-- the letter that must come next
+abbrev pub first_letter : Letters → ℕ
+first_letter Ull = 117
+first_letter Ll = 108
+first_letter L = 108
+first_letter Rue = 114
+first_letter Ue = 117
+first_letter Alse = 97
+first_letter Lse = 108
+first_letter Se = 115
+first_letter E = 101
+
+-- the letters that must come after it
+abbrev pub letters_after : Letters → Option Letters
+letters_after Ull = Some Ll
+letters_after Ll = Some L
+letters_after L = None
+letters_after Rue = Some Ue
+letters_after Ue = Some E
+letters_after Alse = Some Lse
+letters_after Lse = Some Se
+letters_after Se = Some E
+letters_after E = None
+
+-- what a letter does, by what must come after it
+abbrev pub word_on : Option Letters → Move
+word_on (Some letters) = To (Word letters)
+word_on None = To After
+
+-- a letter of a word
+abbrev pub word_move : Letters → ℕ → Move
+word_move letters b = if first_letter letters == b then word_on (letters_after letters) else Refuse
+
+-- ---- between values
+-- what the bracket opens
+abbrev pub container_of : Bracket → Container
+container_of Square = array
+container_of Curly = object
+
+-- this byte closes the bracket
+abbrev pub closes_bracket : Bracket → ℕ → Bool
+closes_bracket bracket b = b == closing (container_of bracket)
+
+-- what must come after a comma
+abbrev pub after_comma : Bracket → Mode
+after_comma Square = mode.Value
+after_comma Curly = Name
+
+-- behind a value
+abbrev pub after_move : Option Bracket → ℕ → Move
+after_move None b = End
+after_move (Some bracket) b =
+    if is_space b then To After
+    else (if closes_bracket bracket b then Close
+    else (if b == 44 then To (after_comma bracket)
+    else Refuse))
+
+-- what a byte does that begins a number, by the part that it begins with
+abbrev pub number_on : Option Part → Move
+number_on (Some part) = To (Number part)
+number_on None = Refuse
+
+-- what a byte does in a number, by the part that it goes on with and by whether the number may end before it
+abbrev pub number_move_on : Option Part → Bool → Option Bracket → ℕ → Move
+number_move_on (Some part) ends top b = To (Number part)
+number_move_on None ends top b = if ends then after_move top b else Refuse
+
+-- in a number
+abbrev pub number_move : Part → Option Bracket → ℕ → Move
+number_move part top b = number_move_on (part_after part b) (is_complete part && not (extends_number b)) top b
+
+-- where a value must come, but for white space
+abbrev pub value_begun : ℕ → Move
+value_begun b =
+    if b == 34 then To (Quoted role.Value Plain)
+    else (if b == 91 then Open Square
+    else (if b == 123 then Open Curly
+    else (if b == 110 then To (Word Ull)
+    else (if b == 116 then To (Word Rue)
+    else (if b == 102 then To (Word Alse)
+    else number_on (part_begun b))))))
+
+-- where a value must come
+abbrev pub value_move : ℕ → Move
+value_move b = if is_space b then To mode.Value else value_begun b
+
+-- where a name must come, but for white space
+abbrev pub name_begun : ℕ → Move
+name_begun b = if b == 34 then To (Quoted role.Name Plain) else Refuse
+
+-- where a name must come
+abbrev pub name_move : ℕ → Move
+name_move b = if is_space b then To Name else name_begun b
+
+-- where a colon must come
+abbrev pub colon_move : ℕ → Move
+colon_move b = if is_space b then To Colon else (if b == 58 then To mode.Value else Refuse)
+
+-- the first value or name in a container
+abbrev pub first_move : Bracket → ℕ → Move
+first_move Square b = value_begun b
+first_move Curly b = name_begun b
+
+-- behind an opening bracket
+abbrev pub fresh_move : Option Bracket → ℕ → Move
+fresh_move None b = End
+fresh_move (Some bracket) b =
+    if is_space b then To Fresh else (if closes_bracket bracket b then Close else first_move bracket b)
+
+-- ---- strings
+-- what comes behind a string
+abbrev pub after_string : Role → Mode
+after_string role.Name = Colon
+after_string role.Value = After
+
+-- what a byte of 0x80 or more does between two characters, by what must come after it
+abbrev pub led_on : Role → Option Tail → Move
+led_on r (Some tail) = To (Quoted r (Sequence (tail_length tail + 1) tail))
+led_on r None = Refuse
+
+-- a byte of 0x80 or more between two characters
+abbrev pub led_move : Role → ℕ → Move
+led_move r b = led_on r (tail_led b)
+
+-- an ASCII character that stands in a string as it is
+abbrev pub is_bare : ℕ → Bool
+is_bare b = nat_le 0x20 b && (nat_lt b 0x80 && (not (b == 34) && not (b == 92)))
+
+-- between two characters of a string
+abbrev pub plain_move : Role → ℕ → Move
+plain_move r b =
+    if b == 34 then To (after_string r)
+    else (if b == 92 then To (Quoted r Escape)
+    else (if nat_lt b 0x20 then Refuse
+    else (if nat_lt b 0x80 then To (Quoted r Plain)
+    else led_move r b)))
+
+-- behind a `\`
+abbrev pub escape_move : Role → ℕ → Move
+escape_move r b =
+    if b == 117 then To (Quoted r (Hex 3)) else (if letter_meaning b == 0 then Refuse else To (Quoted r Plain))
+
+-- among the digits of base 16 of an escape
+abbrev pub hex_move : Role → ℕ → ℕ → Move
+hex_move r more b =
+    if is_hex b then (if more == 0 then To (Quoted r Plain) else To (Quoted r (Hex (more - 1)))) else Refuse
+
+-- what a byte does in a sequence, by what must come after it
+abbrev pub sequence_on : Role → ℕ → Option Tail → Move
+sequence_on r length (Some tail) = To (Quoted r (Sequence length tail))
+sequence_on r length None = To (Quoted r Plain)
+
+-- in a sequence of UTF-8
+abbrev pub sequence_move : Role → ℕ → Tail → ℕ → Move
+sequence_move r length tail b = if tail_fits tail b then sequence_on r length (tail_after tail) else Refuse
+
+-- in a string
+abbrev pub string_move : Role → Place → ℕ → Move
+string_move r Plain b = plain_move r b
+string_move r Escape b = escape_move r b
+string_move r (Hex more) b = hex_move r more b
+string_move r (Sequence length tail) b = sequence_move r length tail b
+
+-- ---- the machine
+-- what a byte does in a mode, where this bracket is the innermost open one
+abbrev pub moved : Mode → Option Bracket → ℕ → Move
+moved mode.Value top b = value_move b
+moved Fresh top b = fresh_move top b
+moved Name top b = name_move b
+moved Colon top b = colon_move b
+moved After top b = after_move top b
+moved (Quoted r place) top b = string_move r place b
+moved (Number part) top b = number_move part top b
+moved (Word letters) top b = word_move letters b
+
+-- where an ASCII character that stands in a string as it is leaves the mode as it is
+abbrev pub keeps_bare : Mode → Bool
+keeps_bare (Quoted r Plain) = true
+keeps_bare m = false
+
+-- where a digit does
+abbrev pub keeps_digits : Mode → Bool
+keeps_digits (Number Whole) = true
+keeps_digits (Number Fraction) = true
+keeps_digits (Number Exponent) = true
+keeps_digits m = false
+
+-- where white space does
+abbrev pub keeps_space : Mode → Option Bracket → Bool
+keeps_space mode.Value top = true
+keeps_space Name top = true
+keeps_space Colon top = true
+keeps_space Fresh top = is_some top
+keeps_space After top = is_some top
+keeps_space m top = false
+
+-- What comes of a byte: a mode and the open brackets, the innermost first; the value has ended before this byte; or no
+-- value goes on with it.
+pub data Outcome : Type 0 where
+  state : Mode → List Bracket → Outcome
+  ended : ℕ → Outcome
+  refused : Outcome
+
+-- the innermost open bracket
+abbrev pub top : List Bracket → Option Bracket
+top [] = None
+top (bracket ∷ st) = Some bracket
+
+-- what comes of a move, where at most so many brackets may be open
+abbrev pub applied : ℕ → List Bracket → ℕ → Move → Outcome
+applied limit st b (To m) = state m st
+applied limit st b (Open bracket) = if nat_lt (length st) limit then state Fresh (bracket ∷ st) else refused
+applied limit st b Close = state After (drop 1 st)
+applied limit st b End = ended b
+applied limit st b Refuse = refused
+
+-- what comes of a byte, where at most so many brackets may be open
+abbrev pub step : ℕ → Mode → List Bracket → ℕ → Outcome
+step limit m st b = applied limit st b (moved m (top st) b)
+
+-- ---- the fault where a text ends or goes on with this byte, and no value does
+-- a byte that begins no sequence of UTF-8, though it is not below 0x80
+abbrev pub is_stray : ℕ → Bool
+is_stray b = nat_le 0x80 b && is_none (tail_led b)
+
+-- the fault in a string, outside a sequence
+abbrev pub stray_fault : Option ℕ → ℕ → JsonFault
+stray_fault None n = Syntax n
+stray_fault (Some b) n = if is_stray b then Utf8 n else Syntax n
+
+-- the fault in a string; that of a sequence is at its first byte
+abbrev pub string_fault : Place → Option ℕ → ℕ → JsonFault
+string_fault Plain byte n = stray_fault byte n
+string_fault Escape byte n = stray_fault byte n
+string_fault (Hex more) byte n = stray_fault byte n
+string_fault (Sequence length tail) byte n = Utf8 (n - (length - tail_length tail))
+
+-- the move opens a bracket
+abbrev pub opens : Move → Bool
+opens (To m) = false
+opens (Open bracket) = true
+opens Close = false
+opens End = false
+opens Refuse = false
+
+-- the fault outside strings: a bracket is refused only where one too many is open
+abbrev pub bracket_fault : Mode → Option Bracket → Option ℕ → ℕ → JsonFault
+bracket_fault m top None n = Syntax n
+bracket_fault m top (Some b) n = if opens (moved m top b) then Depth n else Syntax n
+
+-- the fault at the offset n
+abbrev pub fault_of : Mode → Option Bracket → Option ℕ → ℕ → JsonFault
+fault_of (Quoted r place) top byte n = string_fault place byte n
+fault_of m top byte n = bracket_fault m top byte n
+
+-- What a step of the code said: gone on, the value has ended before the byte, or refused.
+abbrev pub Stepped : Machine → Machine → Step → ℕ → Type 0
+Stepped old new On b = step 128 old.mode old.brackets b ≡ state new.mode new.brackets
+Stepped old new Ended b = (step 128 old.mode old.brackets b ≡ ended b) × (new ≡ old)
+Stepped old new Refused b = (step 128 old.mode old.brackets b ≡ refused) × (new ≡ old)

@@ -1,0 +1,30 @@
+-- Where members stand in a text that is written. Only contracts of private functions cite this.
+use Rattle.std.specs.Prelude.{ℕ, ◌+◌, ◌-◌, ◌%◌, ◌≤◌, List, map, take, drop, length, slice_index, nat_lt, if◌then◌else◌, All}
+use Rattle.json_text.specs.Characters.{quote}
+use Rattle.json_text.specs.Compact.{Member}
+use Rattle.json_reader.specs.declared.collapsing.Span.{Span}
+use Rattle.json_reader.specs.declared.collapsing.Place.{Place}
+
+abbrev pub cut : List ℕ → Span → List ℕ
+cut bytes span = take (span.end - span.start) (drop span.start bytes)
+
+-- the quoted name and the value of the member that stands there
+abbrev pub entry : List ℕ → Place → Member
+entry bytes place = (cut bytes place.name, cut bytes place.value)
+
+abbrev pub entries : List ℕ → List Place → List Member
+entries bytes places = map (entry bytes) places
+
+-- a number below 256 by a name's length and two of its bytes
+abbrev pub mark_of : List ℕ → ℕ
+mark_of name = if nat_lt (length name) 3 then 0 else ((length name + slice_index name 1) + slice_index name (length name - 3)) % 256
+
+abbrev pub IsWithin : ℕ → Span → Type 0
+IsWithin size span = (span.start ≤ span.end) × (span.end ≤ size)
+
+abbrev pub AreWithin : ℕ → List Place → Type 0
+AreWithin size places = All (λ (place : Place). IsWithin size place.name × IsWithin size place.value) places
+
+-- a member with its name quoted
+abbrev pub quoted : Member → Member
+quoted member = (quote member.0, member.1)

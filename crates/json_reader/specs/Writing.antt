@@ -1,0 +1,184 @@
+-- What each byte of a value makes of what was written of the value. Only contracts of private functions cite this.
+-- This project's own, over RFC 8259, sections 2 to 7.
+use Rattle.std.specs.Prelude.{◌≡◌, ℕ, ◌+◌, ◌-◌, ◌<◌, ◌≤◌, length, take, drop, slice_index, List, [], ◌∷◌, ◌++◌, None, Some, Bool, true, false, ◌==◌, ◌⊎◌, if◌then◌else◌}
+use Rattle.std.specs.List.{AllByRecursion}
+use Rattle.json_text.specs.Characters.{is_space, is_blank, is_plain, is_digit, quote}
+use Rattle.json_text.specs.Compact.{compact}
+use Rattle.json_text.specs.Walk.{Place, outside, inside, place_of, Quoted}
+use Rattle.json_text.specs.Tree.{Tree, IsGood, spelling}
+use Rattle.json_text.specs.Value.{Stands}
+use Rattle.json_reader.specs.Drafts.{Drafted, fresh, grown, closed}
+use Rattle.json_reader.specs.Machine.{state, refused, step}
+use Rattle.json_reader.specs.Runs.{run, start, is_over, EndsBefore}
+use Rattle.json_reader.specs.declared.brackets.Bracket.{Bracket}
+use Rattle.json_reader.specs.declared.machine.Machine.{Machine}
+use Rattle.json_reader.specs.declared.machine.Mode.{Mode}
+use Rattle.json_reader.specs.declared.reader.Reader.{Reader}
+use Rattle.json_reader.specs.declared.reader.Taken.{Taken}
+use Rattle.json_reader.specs.declared.reader.Taken.TheVariants as taken
+use Rattle.json_reader.specs.declared.staying.Ground.{Ground}
+use Rattle.json_reader.specs.declared.staying.Ground.TheVariants as ground
+use Rattle.json_reader.specs.declared.writing.Deed.{Deed}
+use Rattle.json_reader.specs.declared.writing.Deed.TheVariants.{Skip, Begin, Keep, Slash, Finish, Open, Shut, Name, Part, Deepen, Rise, Push}
+use Rattle.json_reader.specs.declared.writing.Writer.{Writer}
+
+-- Where a writer stands: in a string, of which these bytes came, an escape among them; in the innermost object that is open,
+-- and in those around it, the outermost first.
+pub record Writing : Type 0 where
+  pub place : Place
+  pub escapes : Bool
+  pub string : List ℕ
+  pub here : Drafted
+  pub around : List Drafted
+
+-- outside strings
+abbrev pub between : Drafted → List Drafted → Writing
+between here around = record { place = outside; escapes = false; string = []; here = here; around = around }
+
+-- the bytes between two offsets
+abbrev pub stretch : List ℕ → ℕ → ℕ → List ℕ
+stretch bytes from to = take (to - from) (drop from bytes)
+
+-- where the bytes end that are still to be appended as they stand: at the string that is open
+abbrev pub kept_to : ℕ → Writer → ℕ
+kept_to next w = if w.quoted then w.start else next
+
+-- where the writer stands before an offset of these bytes
+abbrev pub writing_at : List ℕ → ℕ → Writer → Writing
+writing_at bytes next w = record {
+  place = place_of w.quoted w.escaped;
+  escapes = w.escapes;
+  string = if w.quoted then stretch bytes w.start next else [];
+  here = grown w.here (stretch bytes w.from (kept_to next w));
+  around = w.around.items;
+}
+
+-- The writer's offsets lie before this one.
+pub record Fits (next : ℕ) (w : Writer) : Type 0 where
+  pub from : w.from ≤ kept_to next w
+  pub to : kept_to next w ≤ next
+
+-- what is done with a byte, where so many arrays are open in the innermost object
+abbrev pub deed : Place → ℕ → ℕ → Deed
+deed outside level b =
+    if is_space b then Skip
+    else (if b == 34 then Begin
+    else (if b == 44 then (if level == 0 then Part else Push)
+    else (if b == 58 then Name
+    else (if b == 91 then Deepen
+    else (if b == 93 then Rise
+    else (if b == 123 then Open
+    else (if b == 125 then Shut
+    else Push)))))))
+deed (inside true) level b = Keep
+deed (inside false) level b = if b == 34 then Finish else (if b == 92 then Slash else Keep)
+
+-- The string that ends is whole, and is its own quote where no escape came.
+pub record IsStringWhole (w : Writing) (b : ℕ) : Type 0 where
+  pub text : List ℕ
+  pub quoted : Quoted (w.string ++ b ∷ []) text []
+  pub same : w.escapes ≡ false → w.string ++ b ∷ [] ≡ quote text
+
+-- An object is open, and its last member has a name, or it has no member.
+pub record IsObjectWhole (w : Writing) : Type 0 where
+  pub outer : List Drafted
+  pub next : Drafted
+  pub open_in : w.around ≡ outer ++ next ∷ []
+  pub none : w.here.name ≡ None → (w.here.members ≡ []) × (w.here.current ≡ [])
+
+-- what it takes to do so with a byte
+abbrev pub Can : Deed → Writing → ℕ → Type 0
+Can Finish w b = IsStringWhole w b
+Can Shut w b = IsObjectWhole w
+Can Name w b = w.here.name ≡ None
+Can Part w b = (name : List ℕ) × (w.here.name ≡ Some name)
+Can d w b = Unit {0}
+
+-- what comes of it
+abbrev pub Done : Deed → Writing → ℕ → Writing → Type 0
+Done Skip w b new = new ≡ w
+Done Begin w b new = new ≡ record w { place = inside false; escapes = false; string = w.string ++ b ∷ [] }
+Done Keep w b new = new ≡ record w { place = inside false; string = w.string ++ b ∷ [] }
+Done Slash w b new = new ≡ record w { place = inside true; escapes = true; string = w.string ++ b ∷ [] }
+Done Finish w b new = (text : List ℕ) → Quoted (w.string ++ b ∷ []) text [] → new ≡ between (grown w.here (quote text)) w.around
+Done Open w b new = new ≡ record w { here = fresh; around = w.around ++ grown w.here (b ∷ []) ∷ [] }
+Done Shut w b new = (outer : List Drafted) (next : Drafted) → w.around ≡ outer ++ next ∷ []
+    → new ≡ record w { here = grown (grown next (closed w.here)) (b ∷ []); around = outer }
+Done Name w b new = new ≡ record w { here = record w.here { name = Some w.here.current; current = [] } }
+Done Part w b new = (name : List ℕ) → w.here.name ≡ Some name
+    → new ≡ record w { here = record w.here { members = w.here.members ++ (name, w.here.current) ∷ []; name = None; current = [] } }
+Done Deepen w b new = new ≡ record w { here = record (grown w.here (b ∷ [])) { level = w.here.level + 1 } }
+Done Rise w b new = new ≡ record w { here = record (grown w.here (b ∷ [])) { level = w.here.level - 1 } }
+Done Push w b new = new ≡ record w { here = grown w.here (b ∷ []) }
+
+abbrev pub deed_at : Writing → ℕ → Deed
+deed_at w b = deed w.place w.here.level b
+
+-- the ground on which the writer stands
+abbrev pub ground_of : Writer → Ground
+ground_of w = if w.quoted then ground.Quoted else ground.Between
+
+-- These bytes are taken together on this ground.
+abbrev pub AreAlike : Ground → List ℕ → Type 0
+AreAlike ground.Quoted bytes = AllByRecursion (λ b. is_plain b ≡ true) bytes
+AreAlike ground.Between bytes = AllByRecursion (λ b. is_space b ≡ true) bytes ⊎ AllByRecursion (λ b. is_digit b ≡ true) bytes
+
+-- the writer with the bytes before an offset copied
+abbrev pub copied : List ℕ → ℕ → Writer → Writer
+copied bytes to w = record w { here = grown w.here (stretch bytes w.from to); from = to }
+
+-- what it takes to do with the byte at an offset what is to be done, and what comes of it
+abbrev pub CanPut : List ℕ → ℕ → Writer → Type 0
+CanPut bytes next w = Can (deed_at (writing_at bytes next w) (slice_index bytes next)) (writing_at bytes next w) (slice_index bytes next)
+
+pub record HasPut (d : Deed) (bytes : List ℕ) (next : ℕ) (old new : Writer) : Type 0 where
+  pub done : Done d (writing_at bytes next old) (slice_index bytes next) (writing_at bytes (next + 1) new)
+  pub fits : Fits (next + 1) new
+
+-- Each of these bytes may be taken, and however they are, this text and nothing else is written then.
+abbrev pub Ready : List ℕ → Writing → List ℕ → Type 0
+Ready text w [] = w ≡ between (grown fresh text) []
+Ready text w (b ∷ bytes) = Can (deed_at w b) w b × ((new : Writing) → Done (deed_at w b) w b new → Ready text new bytes)
+
+-- Whatever value behind white space these bytes begin, the writer is ready for the rest of it.
+pub record HasWritten (bytes : List ℕ) (w : Writing) : Type 0 where
+  pub ready : (blank more : List ℕ) (tree : Tree) → is_blank blank ≡ true → IsGood tree → blank ++ spelling tree ≡ bytes ++ more
+      → Ready (compact tree) w more
+
+-- The machine has run over the bytes from an offset to the next one, and what they make is written.
+pub record HasRead (bytes : List ℕ) (at next : ℕ) (machine : Machine) (writer : Writer) : Type 0 where
+  pub low : at ≤ next
+  pub high : next ≤ length bytes
+  pub runs : run 128 start (stretch bytes at next) ≡ state machine.mode machine.brackets
+  pub fits : Fits next writer
+  pub written : HasWritten (stretch bytes at next) (writing_at bytes next writer)
+
+-- A step takes the machine on over this byte.
+abbrev pub GoesOn : Machine → ℕ → Machine → Type 0
+GoesOn before byte machine = step 128 before.mode before.brackets byte ≡ state machine.mode machine.brackets
+
+-- Wherever the bytes were read from on: what was read up to an offset is read up to a later one.
+abbrev pub ReadsOn : List ℕ → ℕ → Machine → Writer → ℕ → Machine → Writer → Type 0
+ReadsOn bytes next machine writer end after written =
+    (next ≤ end) × (end ≤ length bytes) × ((at : ℕ) → HasRead bytes at next machine writer → HasRead bytes at end after written)
+
+-- what a reader has read of these bytes from an offset on
+abbrev pub IsRead : List ℕ → ℕ → Reader → Type 0
+IsRead bytes at reader = HasRead bytes at reader.next reader.machine reader.writer
+
+-- The value from an offset on has ended before a later one.
+pub record HasEnded (bytes : List ℕ) (at end : ℕ) : Type 0 where
+  pub mode : Mode
+  pub brackets : List Bracket
+  pub low : at ≤ end
+  pub high : end ≤ length bytes
+  pub ran : run 128 start (stretch bytes at end) ≡ state mode brackets
+  pub ends : EndsBefore mode brackets (drop end bytes)
+
+-- what came of reading on in these bytes, which were read from an offset on
+abbrev pub Came : List ℕ → ℕ → Taken → Type 0
+Came bytes at (taken.Through reader) = IsRead bytes at reader × (reader.next ≡ length bytes) × (is_over reader.machine.mode reader.machine.brackets ≡ false)
+Came bytes at (taken.Ended value end) = HasEnded bytes at end × Stands (drop at bytes) value (drop end bytes)
+Came bytes at (taken.Refused machine next) =
+    (at ≤ next) × (next < length bytes) × (run 128 start (stretch bytes at next) ≡ state machine.mode machine.brackets)
+    × (step 128 machine.mode machine.brackets (slice_index bytes next) ≡ refused)

@@ -1,0 +1,186 @@
+//! What is written of an object under way.
+
+ghost use Rattle.std.specs.Prelude.{◌≡◌, ℕ, [], ◌∷◌, ◌++◌, List, Some, None, ◌+◌, ◌-◌, IfOk, OnOk};
+ghost use Rattle.json_text.specs.Characters.{quote};
+ghost use Rattle.json_reader.specs.Drafts.{fresh, grown, closed};
+
+use crate::collapsing::{FEW, Place, Span, collapse};
+use json_text::{Text, push_quote};
+use std::alloc::{AllocError, Global};
+use std::marker::Model;
+
+/// What is written of the innermost object that is open, behind its bracket, or of the text outside objects.
+#[derive(Drop)]
+pub(crate) struct Draft {
+    text: Vec<u8>,
+    /// Where the text behind the last colon or comma of the object begins.
+    from: usize,
+    /// Where the quoted name of the member under way stands, if its colon has come.
+    name: Option<Span>,
+    /// Where the whole members stand.
+    places: Vec<Place>,
+    /// How many arrays are open in the object.
+    level: u64,
+}
+
+impl Model for Draft {
+    ghost use Rattle.std.specs.Prelude.{drop};
+    ghost use Rattle.json_reader.specs.Drafts.{Drafted, IsDraft, named_there};
+    ghost use Rattle.json_reader.specs.Places.{entries};
+
+    ghost Value = { Drafted };
+
+    ghost view = { λ d. record {
+      members = entries d.text.items d.places.items;
+      name = named_there d.text.items d.name;
+      current = drop d.from d.text.items;
+      level = d.level;
+    } };
+
+    ghost invariant = { λ d. IsDraft d.text.items d.from d.name d.places.items };
+}
+
+impl Draft {
+    /// Nothing is written outside objects.
+    pub(crate) fn new(alloc: Global) -> Draft
+        ensures { result ≡ fresh }
+    {
+        Draft {
+            text: Vec::new(alloc),
+            from: 0,
+            name: None,
+            places: Vec::new(alloc),
+            level: 0,
+        }
+    }
+
+    /// Nothing is written of an object. There is room for one like an element.
+    pub(crate) fn of_object(alloc: Global) -> Result<Draft, AllocError>
+        ensures { IfOk result (λ draft. draft ≡ fresh) }
+    {
+        let text = Vec::with_capacity(alloc, 512)?;
+        let places = Vec::with_capacity(alloc, FEW)?;
+        Ok(Draft {
+            text,
+            from: 0,
+            name: None,
+            places,
+            level: 0,
+        })
+    }
+
+    /// How many arrays are open.
+    pub(crate) fn level(&self) -> u64
+        ensures { result ≡ self.now.level }
+    {
+        self.level
+    }
+
+    /// Appends these bytes.
+    pub(crate) fn extend(&mut self, bytes: &[u8]) -> Result<(), AllocError>
+        ensures { OnOk result (self.new ≡ grown self.old bytes.now) }
+    {
+        self.text.extend_from_slice(bytes)?;
+        Ok(())
+    }
+
+    /// Appends the quote of a text.
+    pub(crate) fn push_quote(&mut self, text: &Text) -> Result<(), AllocError>
+        ensures { OnOk result (self.new ≡ grown self.old (quote text.now)) }
+    {
+        push_quote(&mut self.text, text)?;
+        Ok(())
+    }
+
+    /// An array is opened.
+    pub(crate) fn deepen(&mut self) -> Result<(), AllocError>
+        ensures { OnOk result (self.new ≡ record self.old { level = self.old.level + 1 }) }
+    {
+        // So many arrays would find no memory.
+        self.level = self.level.checked_add(1).ok_or(AllocError)?;
+        Ok(())
+    }
+
+    /// An array is closed.
+    pub(crate) fn rise(&mut self)
+        ensures { self.new ≡ record self.old { level = self.old.level - 1 } }
+    {
+        self.level = self.level.saturating_sub(1);
+    }
+
+    /// A colon comes: what is current is a name.
+    pub(crate) fn end_name(&mut self) -> Result<(), AllocError>
+        requires { self.old.name ≡ None }
+        ensures { OnOk result (self.new ≡ record self.old { name = Some self.old.current; current = [] }) }
+    {
+        let end = self.text.len();
+        self.text.push(b':')?;
+        self.name = Some(Span {
+            start: self.from,
+            end,
+        });
+        self.from = self.text.len();
+        Ok(())
+    }
+
+    /// A comma comes: the member is whole.
+    pub(crate) fn end_member(&mut self) -> Result<(), AllocError>
+        requires { (name : List ℕ) × (self.old.name ≡ Some name) }
+        ensures { OnOk result ((name : List ℕ) → self.old.name ≡ Some name
+            → self.new ≡ record self.old { members = self.old.members ++ (name, self.old.current) ∷ []; name = None; current = [] }) }
+    {
+        let end = self.text.len();
+        self.text.push(b',')?;
+        let Some(name) = self.name else {
+            unreachable!()
+        };
+        self.places.push(Place {
+            name,
+            value: Span {
+                start: self.from,
+                end,
+            },
+        })?;
+        self.name = None;
+        self.from = self.text.len();
+        Ok(())
+    }
+
+    /// What stands between the brackets of the object, each name once.
+    pub(crate) fn close(self, alloc: Global) -> Result<Vec<u8>, AllocError>
+        requires { self.name ≡ None → (self.members ≡ []) × (self.current ≡ []) }
+        ensures { IfOk result (λ text. text.items ≡ closed self) }
+    {
+        let Draft {
+            mut text,
+            from,
+            name,
+            mut places,
+            level: _level,
+        } = self;
+        if let Some(name) = name {
+            let end = text.len();
+            places.push(Place {
+                name,
+                value: Span { start: from, end },
+            })?;
+        }
+        collapse(alloc, &mut text, places.as_slice())?;
+        Ok(text)
+    }
+
+    /// The text, where no object is open.
+    pub(crate) fn into_text(self) -> Vec<u8>
+        requires { (self.members ≡ []) × (self.name ≡ None) }
+        ensures { result.items ≡ self.current }
+    {
+        let Draft {
+            text,
+            from: _from,
+            name: _name,
+            places: _places,
+            level: _level,
+        } = self;
+        text
+    }
+}

@@ -1,0 +1,479 @@
+//! The machine that reads one value, a byte at a time.
+//!
+//! Its state is a mode and the brackets that are open. It takes no memory and can be kept between calls.
+
+ghost use Rattle.std.specs.Prelude.{◌≡◌, ◌↔◌, ◌-◌, ◌≤◌, IsTrue, [], false, take, drop, length};
+ghost use Rattle.std.specs.List.{AllByRecursion};
+ghost use Rattle.json_text.specs.Characters.{is_space, is_hex};
+ghost use Rattle.json_reader.specs.Machine.{closes_bracket, after_comma, after_string, value_begun, value_move, fresh_move, name_begun, name_move, colon_move, after_move, plain_move, led_move, escape_move, hex_move, sequence_move, string_move, number_move, first_letter, letters_after, word_move, moved, string_fault, bracket_fault, fault_of, top, step, state, ended, Stepped};
+ghost use Rattle.json_reader.specs.Runs.{is_over};
+ghost use Rattle.json_reader.specs.Writing.{AreAlike};
+ghost use Rattle.json_reader.specs.declared.machine.Move.TheVariants.{To};
+
+use crate::brackets::{Bracket, Brackets};
+use crate::fault::JsonFault;
+use crate::number::{Part, extends_number};
+use crate::sequence::Tail;
+use crate::staying::{Ground, stay_end};
+use json_text::is_space;
+
+/// What a string is for.
+#[derive(Clone, Copy)]
+pub(crate) enum Role {
+    Name,
+    Value,
+}
+
+/// A place inside a string.
+#[derive(Clone, Copy)]
+pub(crate) enum Place {
+    /// Between two characters.
+    Plain,
+    /// After a `\`.
+    Escape,
+    /// Before a digit of base 16 that so many more must follow.
+    Hex(u8),
+    /// In a sequence of UTF-8 of so many bytes in all.
+    Sequence(u8, Tail),
+}
+
+/// The letters of `null`, `true` or `false` that must still come.
+#[derive(Clone, Copy)]
+pub(crate) enum Letters {
+    Ull,
+    Ll,
+    L,
+    Rue,
+    Ue,
+    Alse,
+    Lse,
+    Se,
+    E,
+}
+
+/// What the machine waits for.
+#[derive(Clone, Copy)]
+pub(crate) enum Mode {
+    /// A value must come.
+    Value,
+    /// A bracket was opened: its first value or name comes, or it is closed.
+    Fresh,
+    /// A name must come.
+    Name,
+    /// A colon must come.
+    Colon,
+    /// A value has ended.
+    After,
+    Quoted(Role, Place),
+    Number(Part),
+    Word(Letters),
+}
+
+/// What a byte does.
+#[derive(Clone, Copy)]
+pub(crate) enum Move {
+    To(Mode),
+    /// It opens a bracket.
+    Open(Bracket),
+    /// It closes the innermost bracket.
+    Close,
+    /// The value has ended before it.
+    End,
+    /// No value goes on with it.
+    Refuse,
+}
+
+/// What came of a byte.
+#[derive(Clone, Copy)]
+pub(crate) enum Step {
+    On,
+    /// The value has ended before this byte.
+    Ended,
+    /// No value goes on with this byte.
+    Refused,
+}
+
+/// The reader of one value: white space and the value.
+#[derive(Drop)]
+pub(crate) struct Machine {
+    mode: Mode,
+    brackets: Brackets,
+}
+
+impl Machine {
+    /// A value must come, and no bracket is open.
+    pub(crate) fn new() -> Machine
+        ensures mode { result.mode ≡ Mode.Value }
+        ensures brackets { result.brackets ≡ [] }
+    {
+        Machine {
+            mode: Mode::Value,
+            brackets: Brackets::new(),
+        }
+    }
+
+    /// Takes one byte more, unless no value goes on with it.
+    pub(crate) fn step(&mut self, byte: u8) -> Step
+        ensures { Stepped self.old self.new result byte }
+    {
+        match moved(self.mode, self.brackets.top(), byte) {
+            Move::To(mode) => self.mode = mode,
+            Move::Open(_) if self.brackets.is_full() => return Step::Refused,
+            Move::Open(bracket) => {
+                self.brackets.push(bracket);
+                self.mode = Mode::Fresh;
+            }
+            Move::Close => {
+                self.brackets.pop();
+                self.mode = Mode::After;
+            }
+            Move::End => return Step::Ended,
+            Move::Refuse => return Step::Refused,
+        }
+        Step::On
+    }
+
+    /// Where a stretch from `at` on ends whose bytes all leave the machine as it is, on this ground.
+    pub(crate) fn stay_end(&self, ground: Ground, bytes: &[u8], at: usize) -> usize
+        requires { at ≤ length bytes.now }
+        ensures within { (at ≤ result) × (result ≤ length bytes.now) }
+        ensures stays { AllByRecursion (λ b. moved self.now.mode (top self.now.brackets) b ≡ To self.now.mode) (take (result - at) (drop at bytes.now)) }
+        ensures alike { AreAlike ground (take (result - at) (drop at bytes.now)) }
+    {
+        stay_end(self.mode, self.brackets.top(), ground, bytes, at)
+    }
+
+    /// Takes the end of a string between two characters, the colon behind a name, and a space where a value must come;
+    /// other bytes it leaves.
+    #[inline(always)]
+    pub(crate) fn end_string(&mut self, byte: u8) -> bool
+        ensures taken { IsTrue result → step 128 self.old.mode self.old.brackets byte ≡ state self.new.mode self.new.brackets }
+        ensures left { result ≡ false → self.new ≡ self.old }
+    {
+        match (self.mode, byte) {
+            (Mode::Quoted(role, Place::Plain), b'"') => self.mode = after_string(role),
+            (Mode::Colon, b':') => self.mode = Mode::Value,
+            (Mode::Value, b' ') => {}
+            _ => return false,
+        }
+        true
+    }
+
+    /// The ground on which it stands.
+    pub(crate) fn ground(&self) -> Ground {
+        match self.mode {
+            Mode::Quoted(_, _) => Ground::Quoted,
+            _ => Ground::Between,
+        }
+    }
+
+    /// The value may end here: white space would end it too.
+    pub(crate) fn is_done(&self) -> bool
+        ensures { IsTrue result ↔ (step 128 self.now.mode self.now.brackets 32 ≡ ended 32) }
+    {
+        matches!(moved(self.mode, self.brackets.top(), b' '), Move::End)
+    }
+
+    /// The value has ended, whatever follows.
+    pub(crate) fn is_over(&self) -> bool
+        ensures { result ≡ is_over self.now.mode self.now.brackets }
+    {
+        match self.mode {
+            Mode::After | Mode::Fresh => self.brackets.top().is_none(),
+            _ => false,
+        }
+    }
+
+    /// The fault where the text ends at this offset or goes on with this byte there, and no value does.
+    pub(crate) fn fault(&self, byte: Option<u8>, at: usize) -> JsonFault
+        ensures { result ≡ fault_of self.now.mode (top self.now.brackets) byte at }
+    {
+        match self.mode {
+            Mode::Quoted(_, place) => string_fault(place, byte, at),
+            mode => bracket_fault(mode, self.brackets.top(), byte, at),
+        }
+    }
+}
+
+/// What a byte does in this mode, where `top` is the innermost open bracket.
+#[inline(always)]
+pub(crate) fn moved(mode: Mode, top: Option<Bracket>, byte: u8) -> Move
+    ensures { result ≡ moved mode top byte }
+{
+    match mode {
+        Mode::Value => value_move(byte),
+        Mode::Fresh => fresh_move(top, byte),
+        Mode::Name => name_move(byte),
+        Mode::Colon => colon_move(byte),
+        Mode::After => after_move(top, byte),
+        Mode::Quoted(role, place) => string_move(role, place, byte),
+        Mode::Number(part) => number_move(part, top, byte),
+        Mode::Word(letters) => word_move(letters, byte),
+    }
+}
+
+fn value_move(byte: u8) -> Move
+    ensures { result ≡ value_move byte }
+{
+    if is_space(byte) {
+        Move::To(Mode::Value)
+    } else {
+        value_begun(byte)
+    }
+}
+
+fn value_begun(byte: u8) -> Move
+    ensures { result ≡ value_begun byte }
+{
+    match byte {
+        b'"' => Move::To(Mode::Quoted(Role::Value, Place::Plain)),
+        b'[' => Move::Open(Bracket::Square),
+        b'{' => Move::Open(Bracket::Curly),
+        b'n' => Move::To(Mode::Word(Letters::Ull)),
+        b't' => Move::To(Mode::Word(Letters::Rue)),
+        b'f' => Move::To(Mode::Word(Letters::Alse)),
+        _ => match Part::begun(byte) {
+            Some(part) => Move::To(Mode::Number(part)),
+            None => Move::Refuse,
+        },
+    }
+}
+
+fn fresh_move(top: Option<Bracket>, byte: u8) -> Move
+    ensures { result ≡ fresh_move top byte }
+{
+    let Some(bracket) = top else {
+        return Move::End;
+    };
+    if is_space(byte) {
+        Move::To(Mode::Fresh)
+    } else if closes_bracket(bracket, byte) {
+        Move::Close
+    } else {
+        match bracket {
+            Bracket::Square => value_begun(byte),
+            Bracket::Curly => name_begun(byte),
+        }
+    }
+}
+
+fn closes_bracket(bracket: Bracket, byte: u8) -> bool
+    ensures { result ≡ closes_bracket bracket byte }
+{
+    match bracket {
+        Bracket::Square => byte == b']',
+        Bracket::Curly => byte == b'}',
+    }
+}
+
+fn name_move(byte: u8) -> Move
+    ensures { result ≡ name_move byte }
+{
+    if is_space(byte) {
+        Move::To(Mode::Name)
+    } else {
+        name_begun(byte)
+    }
+}
+
+fn name_begun(byte: u8) -> Move
+    ensures { result ≡ name_begun byte }
+{
+    if byte == b'"' {
+        Move::To(Mode::Quoted(Role::Name, Place::Plain))
+    } else {
+        Move::Refuse
+    }
+}
+
+fn colon_move(byte: u8) -> Move
+    ensures { result ≡ colon_move byte }
+{
+    if is_space(byte) {
+        Move::To(Mode::Colon)
+    } else if byte == b':' {
+        Move::To(Mode::Value)
+    } else {
+        Move::Refuse
+    }
+}
+
+fn after_move(top: Option<Bracket>, byte: u8) -> Move
+    ensures { result ≡ after_move top byte }
+{
+    let Some(bracket) = top else {
+        return Move::End;
+    };
+    if is_space(byte) {
+        Move::To(Mode::After)
+    } else if closes_bracket(bracket, byte) {
+        Move::Close
+    } else if byte == b',' {
+        Move::To(after_comma(bracket))
+    } else {
+        Move::Refuse
+    }
+}
+
+fn after_comma(bracket: Bracket) -> Mode
+    ensures { result ≡ after_comma bracket }
+{
+    match bracket {
+        Bracket::Square => Mode::Value,
+        Bracket::Curly => Mode::Name,
+    }
+}
+
+fn string_move(role: Role, place: Place, byte: u8) -> Move
+    ensures { result ≡ string_move role place byte }
+{
+    match place {
+        Place::Plain => plain_move(role, byte),
+        Place::Escape => escape_move(role, byte),
+        Place::Hex(more) => hex_move(role, more, byte),
+        Place::Sequence(length, tail) => sequence_move(role, length, tail, byte),
+    }
+}
+
+fn plain_move(role: Role, byte: u8) -> Move
+    ensures { result ≡ plain_move role byte }
+{
+    match byte {
+        b'"' => Move::To(after_string(role)),
+        b'\\' => Move::To(Mode::Quoted(role, Place::Escape)),
+        0..0x20 => Move::Refuse,
+        0x20..0x80 => Move::To(Mode::Quoted(role, Place::Plain)),
+        _ => led_move(role, byte),
+    }
+}
+
+fn after_string(role: Role) -> Mode
+    ensures { result ≡ after_string role }
+{
+    match role {
+        Role::Name => Mode::Colon,
+        Role::Value => Mode::After,
+    }
+}
+
+fn led_move(role: Role, byte: u8) -> Move
+    ensures { result ≡ led_move role byte }
+{
+    match Tail::led(byte) {
+        Some(tail) => Move::To(Mode::Quoted(role, Place::Sequence(tail.size(), tail))),
+        None => Move::Refuse,
+    }
+}
+
+fn escape_move(role: Role, byte: u8) -> Move
+    ensures { result ≡ escape_move role byte }
+{
+    match byte {
+        b'u' => Move::To(Mode::Quoted(role, Place::Hex(3))),
+        b'"' | b'\\' | b'/' | b'b' | b'f' | b'n' | b'r' | b't' => {
+            Move::To(Mode::Quoted(role, Place::Plain))
+        }
+        _ => Move::Refuse,
+    }
+}
+
+fn hex_move(role: Role, more: u8, byte: u8) -> Move
+    ensures { result ≡ hex_move role more byte }
+{
+    if !byte.is_ascii_hexdigit() {
+        Move::Refuse
+    } else if more == 0 {
+        Move::To(Mode::Quoted(role, Place::Plain))
+    } else {
+        Move::To(Mode::Quoted(role, Place::Hex(more - 1)))
+    }
+}
+
+fn sequence_move(role: Role, length: u8, tail: Tail, byte: u8) -> Move
+    ensures { result ≡ sequence_move role length tail byte }
+{
+    if !tail.fits(byte) {
+        return Move::Refuse;
+    }
+    match tail.after() {
+        Some(tail) => Move::To(Mode::Quoted(role, Place::Sequence(length, tail))),
+        None => Move::To(Mode::Quoted(role, Place::Plain)),
+    }
+}
+
+#[inline(always)]
+fn number_move(part: Part, top: Option<Bracket>, byte: u8) -> Move
+    ensures { result ≡ number_move part top byte }
+{
+    match part.after(byte) {
+        Some(part) => Move::To(Mode::Number(part)),
+        None if part.is_complete() && !extends_number(byte) => after_move(top, byte),
+        None => Move::Refuse,
+    }
+}
+
+fn word_move(letters: Letters, byte: u8) -> Move
+    ensures { result ≡ word_move letters byte }
+{
+    if letters.first() != byte {
+        return Move::Refuse;
+    }
+    match letters.after() {
+        Some(letters) => Move::To(Mode::Word(letters)),
+        None => Move::To(Mode::After),
+    }
+}
+
+impl Letters {
+    /// The letter that must come next.
+    fn first(self) -> u8
+        ensures { result ≡ first_letter self }
+    {
+        match self {
+            Letters::Ull | Letters::Ue => b'u',
+            Letters::Ll | Letters::L | Letters::Lse => b'l',
+            Letters::Rue => b'r',
+            Letters::Alse => b'a',
+            Letters::Se => b's',
+            Letters::E => b'e',
+        }
+    }
+
+    /// The letters that must come after it, if any must.
+    fn after(self) -> Option<Letters>
+        ensures { result ≡ letters_after self }
+    {
+        match self {
+            Letters::Ull => Some(Letters::Ll),
+            Letters::Ll => Some(Letters::L),
+            Letters::Rue => Some(Letters::Ue),
+            Letters::Ue => Some(Letters::E),
+            Letters::Alse => Some(Letters::Lse),
+            Letters::Lse => Some(Letters::Se),
+            Letters::Se => Some(Letters::E),
+            Letters::L | Letters::E => None,
+        }
+    }
+}
+
+fn string_fault(place: Place, byte: Option<u8>, at: usize) -> JsonFault
+    ensures { result ≡ string_fault place byte at }
+{
+    match (place, byte) {
+        (Place::Sequence(length, tail), _) => {
+            JsonFault::Utf8(at.saturating_sub(usize::from(length.saturating_sub(tail.len()))))
+        }
+        (_, Some(byte)) if byte >= 0x80 && Tail::led(byte).is_none() => JsonFault::Utf8(at),
+        _ => JsonFault::Syntax(at),
+    }
+}
+
+/// The one bracket that is refused where it could stand is one too many.
+fn bracket_fault(mode: Mode, top: Option<Bracket>, byte: Option<u8>, at: usize) -> JsonFault
+    ensures { result ≡ bracket_fault mode top byte at }
+{
+    match byte {
+        Some(byte) if matches!(moved(mode, top, byte), Move::Open(_)) => JsonFault::Depth(at),
+        _ => JsonFault::Syntax(at),
+    }
+}

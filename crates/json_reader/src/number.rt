@@ -1,0 +1,106 @@
+//! The literal of a number, byte by byte.
+
+ghost use Rattle.std.specs.Prelude.{◌≡◌};
+ghost use Rattle.json_text.specs.Value.{extends_number};
+ghost use Rattle.json_reader.specs.Machine.{part_begun, whole_begun, part_after, after_whole, after_fraction, is_complete};
+
+/// The part of a number that came last.
+#[derive(Clone, Copy)]
+pub(crate) enum Part {
+    Minus,
+    Zero,
+    Whole,
+    Dot,
+    Fraction,
+    Letter,
+    Sign,
+    Exponent,
+}
+
+impl Part {
+    /// The part that this byte begins a number with.
+    pub(crate) fn begun(byte: u8) -> Option<Part>
+        ensures { result ≡ part_begun byte }
+    {
+        match byte {
+            b'-' => Some(Part::Minus),
+            _ => Part::whole_begun(byte),
+        }
+    }
+
+    /// The part that the number has come to after one more byte.
+    pub(crate) fn after(self, byte: u8) -> Option<Part>
+        ensures { result ≡ part_after self byte }
+    {
+        match self {
+            Part::Minus => Part::whole_begun(byte),
+            Part::Zero => Part::after_whole(byte),
+            Part::Whole => match byte {
+                b'0'..=b'9' => Some(Part::Whole),
+                _ => Part::after_whole(byte),
+            },
+            Part::Dot => match byte {
+                b'0'..=b'9' => Some(Part::Fraction),
+                _ => None,
+            },
+            Part::Fraction => match byte {
+                b'0'..=b'9' => Some(Part::Fraction),
+                _ => Part::after_fraction(byte),
+            },
+            Part::Letter => match byte {
+                b'+' | b'-' => Some(Part::Sign),
+                b'0'..=b'9' => Some(Part::Exponent),
+                _ => None,
+            },
+            Part::Sign | Part::Exponent => match byte {
+                b'0'..=b'9' => Some(Part::Exponent),
+                _ => None,
+            },
+        }
+    }
+
+    /// A number may end after this part.
+    pub(crate) fn is_complete(self) -> bool
+        ensures { result ≡ is_complete self }
+    {
+        match self {
+            Part::Zero | Part::Whole | Part::Fraction | Part::Exponent => true,
+            Part::Minus | Part::Dot | Part::Letter | Part::Sign => false,
+        }
+    }
+
+    fn whole_begun(byte: u8) -> Option<Part>
+        ensures { result ≡ whole_begun byte }
+    {
+        match byte {
+            b'0' => Some(Part::Zero),
+            b'1'..=b'9' => Some(Part::Whole),
+            _ => None,
+        }
+    }
+
+    fn after_whole(byte: u8) -> Option<Part>
+        ensures { result ≡ after_whole byte }
+    {
+        match byte {
+            b'.' => Some(Part::Dot),
+            _ => Part::after_fraction(byte),
+        }
+    }
+
+    fn after_fraction(byte: u8) -> Option<Part>
+        ensures { result ≡ after_fraction byte }
+    {
+        match byte {
+            b'e' | b'E' => Some(Part::Letter),
+            _ => None,
+        }
+    }
+}
+
+/// A number is never followed directly by such a byte.
+pub(crate) fn extends_number(byte: u8) -> bool
+    ensures { result ≡ extends_number byte }
+{
+    matches!(byte, b'0'..=b'9' | b'.' | b'e' | b'E' | b'+' | b'-')
+}

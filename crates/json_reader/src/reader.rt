@@ -1,0 +1,169 @@
+//! Reading one value from bytes that may come in pieces.
+//!
+//! The machine says of each byte whether a value goes on with it, and the writer takes it in the same pass.
+
+ghost use Rattle.std.specs.Prelude.{◌≡◌, ℕ, ◌<◌, ◌≤◌, List, None, Err, length, drop, slice_index, IfOk};
+ghost use Rattle.json_text.specs.Value.{Stands};
+ghost use Rattle.json_reader.specs.Machine.{step, ended, fault_of, top};
+ghost use Rattle.json_reader.specs.Writing.{Came, Fits, GoesOn, HasRead, IsRead, ReadsOn};
+ghost use Rattle.json_reader.specs.declared.fault.JsonFault.{JsonFault};
+ghost use Rattle.json_reader.specs.declared.machine.Machine.{Machine};
+
+use crate::fault::JsonFault;
+use crate::machine::{Machine, Step};
+use crate::writing::Writer;
+use board_io::Stop;
+use json_text::Raw;
+use std::alloc::{AllocError, Global};
+
+/// What came of reading on.
+#[derive(Drop)]
+pub(crate) enum Taken {
+    /// All bytes are read, and the value isn't over.
+    Through(Reader),
+    /// The value has ended before this offset.
+    Ended(Raw, usize),
+    /// No value goes on with the byte at this offset.
+    Refused(Machine, usize),
+}
+
+/// The reader of one value. It has read the bytes before an offset, and what they make is written.
+#[derive(Drop)]
+pub(crate) struct Reader {
+    machine: Machine,
+    writer: Writer,
+    next: usize,
+}
+
+impl Reader {
+    /// It reads from an offset on.
+    pub(crate) fn new(alloc: Global, at: usize) -> Reader
+        ensures { (bytes : List ℕ) → at ≤ length bytes → IsRead bytes at result }
+    {
+        Reader {
+            machine: Machine::new(),
+            writer: Writer::new(alloc, at),
+            next: at,
+        }
+    }
+
+    /// Reads on to the value's end, to a byte that is refused, or to the end of these bytes, which begin with those that
+    /// were read before.
+    pub(crate) fn read(self, alloc: Global, bytes: &[u8]) -> Result<Taken, AllocError>
+        requires { (at : ℕ) × IsRead bytes.now at self }
+        ensures { IfOk result (λ taken. (at : ℕ) → IsRead bytes.now at self → Came bytes.now at taken) }
+    {
+        let Reader {
+            mut machine,
+            mut writer,
+            mut next,
+        } = self;
+        while next < bytes.len() {
+            match machine.step(bytes[next]) {
+                Step::On => next = take(alloc, &mut machine, &mut writer, bytes, next)?,
+                Step::Ended => return Ok(Taken::Ended(value_of(writer, bytes, next)?, next)),
+                Step::Refused => return Ok(Taken::Refused(machine, next)),
+            }
+        }
+        // The next byte, which would end it too, may be long in coming.
+        if machine.is_over() {
+            return Ok(Taken::Ended(value_of(writer, bytes, next)?, next));
+        }
+        Ok(Taken::Through(Reader {
+            machine,
+            writer,
+            next,
+        }))
+    }
+
+    /// The value that ends with these bytes, all of which were read; or the fault where they break off, with this place.
+    pub(crate) fn finish(self, bytes: &[u8], place: usize) -> Result<Raw, Stop<JsonFault>>
+        requires { (at : ℕ) × IsRead bytes.now at self × (self.next ≡ length bytes.now) }
+        ensures value { IfOk result (λ value. (at : ℕ) → IsRead bytes.now at self → Stands (drop at bytes.now) value (drop self.next bytes.now)) }
+        ensures undone { (fault : JsonFault) → result ≡ Err (Stop.Fault fault) → step 128 self.machine.mode self.machine.brackets 32 ≡ ended 32 → ⊥ }
+        ensures fault { (fault : JsonFault) → result ≡ Err (Stop.Fault fault)
+            → fault ≡ fault_of self.machine.mode (top self.machine.brackets) None place }
+    {
+        let Reader {
+            machine,
+            writer,
+            next,
+        } = self;
+        if machine.is_done() {
+            Ok(value_of(writer, bytes, next)?)
+        } else {
+            Err(Stop::Fault(machine.fault(None, place)))
+        }
+    }
+}
+
+/// The value that stands before an offset.
+fn value_of(writer: Writer, bytes: &[u8], end: usize) -> Result<Raw, AllocError>
+    requires { (at : ℕ) × (machine : Machine) × HasRead bytes.now at end machine writer × ((text : List ℕ) × Stands (drop at bytes.now) text (drop end bytes.now)) }
+    ensures { IfOk result (λ value. (at : ℕ) (machine : Machine) (text : List ℕ) → HasRead bytes.now at end machine writer
+        → Stands (drop at bytes.now) text (drop end bytes.now) → text ≡ value) }
+{
+    Ok(Raw::from_compact(writer.into_text(bytes, end)?)?)
+}
+
+/// Writes the byte at an offset, which the machine has taken, and takes the bytes behind it that are taken together with
+/// it. It gives the offset after them.
+#[inline(always)]
+fn take(
+    alloc: Global,
+    machine: &mut Machine,
+    writer: &mut Writer,
+    bytes: &[u8],
+    next: usize,
+) -> Result<usize, AllocError>
+    requires within { next < length bytes.now }
+    requires read { (at : ℕ) × (before : Machine) × HasRead bytes.now at next before writer.old × GoesOn before (slice_index bytes.now next) machine.old }
+    ensures within { IfOk result (λ end. (next < end) × (end ≤ length bytes.now)) }
+    ensures read { IfOk result (λ end. (at : ℕ) (before : Machine) → HasRead bytes.now at next before writer.old
+        → GoesOn before (slice_index bytes.now next) machine.old → HasRead bytes.now at end machine.new writer.new) }
+{
+    writer.put(alloc, bytes, next)?;
+    let end = pass(machine, writer, bytes, next + 1)?;
+    if bytes[next] == b'"' {
+        end_string(alloc, machine, writer, bytes, end)
+    } else {
+        Ok(end)
+    }
+}
+
+/// Takes the end of a string and the colon behind a name, and a space behind that, where they stand at an offset.
+#[inline(always)]
+fn end_string(
+    alloc: Global,
+    machine: &mut Machine,
+    writer: &mut Writer,
+    bytes: &[u8],
+    at: usize,
+) -> Result<usize, AllocError>
+    requires { (from : ℕ) × HasRead bytes.now from at machine.old writer.old }
+    ensures { IfOk result (λ end. ReadsOn bytes.now at machine.old writer.old end machine.new writer.new) }
+{
+    let mut next = at;
+    while next < bytes.len() && machine.end_string(bytes[next]) {
+        writer.put(alloc, bytes, next)?;
+        next += 1;
+    }
+    Ok(next)
+}
+
+/// Takes the stretch from `at` on that leaves the machine as it is, and gives the offset after it.
+#[inline(always)]
+fn pass(
+    machine: &Machine,
+    writer: &mut Writer,
+    bytes: &[u8],
+    at: usize,
+) -> Result<usize, AllocError>
+    requires within { at ≤ length bytes.now }
+    requires fits { Fits at writer.old }
+    ensures { IfOk result (λ end. ReadsOn bytes.now at machine.now writer.old end machine.now writer.new) }
+{
+    let end = machine.stay_end(writer.ground(), bytes, at);
+    writer.put_all(bytes, at, end)?;
+    Ok(end)
+}

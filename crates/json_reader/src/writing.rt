@@ -1,0 +1,376 @@
+//! The compact text of a value, written while its bytes come.
+//!
+//! The writer looks at no more than a byte at a time, and takes what the machine has taken: white space outside strings is
+//! dropped, strings are quoted anew where they have escapes, and of equal names in an object the last value is kept.
+
+ghost use Rattle.std.specs.Prelude.{◌≡◌, ℕ, ◌+◌, ◌<◌, ◌≤◌, List, [], ◌++◌, true, false, length, slice_index, IfOk, OnOk};
+ghost use Rattle.json_text.specs.Walk.{outside, inside};
+ghost use Rattle.json_reader.specs.Drafts.{fresh, grown};
+ghost use Rattle.json_reader.specs.Writing.{between, deed, deed_at, stretch, copied, ground_of, writing_at, AreAlike, Can, CanPut, Fits, HasPut, Ready};
+ghost use Rattle.json_reader.specs.declared.writing.Deed.TheVariants.{Skip, Begin, Finish, Open, Shut, Name, Part, Deepen, Rise, Push};
+
+use crate::draft::Draft;
+use crate::staying::Ground;
+use json_text::{content_of, is_space};
+use std::alloc::{AllocError, Global};
+use std::mem::replace;
+
+/// What is done with a byte.
+#[derive(Clone, Copy)]
+pub(crate) enum Deed {
+    /// It is dropped.
+    Skip,
+    /// It begins a string.
+    Begin,
+    /// It stands in a string.
+    Keep,
+    /// It stands in a string, and an escape begins with it.
+    Slash,
+    /// It ends a string.
+    Finish,
+    /// It opens an object.
+    Open,
+    /// It closes an object.
+    Shut,
+    /// It ends the name of a member.
+    Name,
+    /// It ends a member.
+    Part,
+    /// It opens an array.
+    Deepen,
+    /// It closes an array.
+    Rise,
+    /// It is appended.
+    Push,
+}
+
+/// The writer of one value's compact text. What is to be written as it stands is copied from the bytes that are read, as
+/// late as can be.
+#[derive(Drop)]
+pub(crate) struct Writer {
+    /// A string is open.
+    quoted: bool,
+    /// In that string, the next byte stands behind a `\` that escapes it.
+    escaped: bool,
+    /// An escape came in that string.
+    escapes: bool,
+    /// Where that string begins.
+    start: usize,
+    /// From where on nothing is copied yet.
+    from: usize,
+    /// The innermost object that is open.
+    here: Draft,
+    /// The objects around it, the outermost first.
+    around: Vec<Draft>,
+}
+
+impl Writer {
+    /// Nothing is written. The bytes from an offset on are to be taken.
+    pub(crate) fn new(alloc: Global, at: usize) -> Writer
+        ensures written { (bytes : List ℕ) → writing_at bytes at result ≡ between fresh [] }
+        ensures fits { Fits at result }
+    {
+        Writer {
+            quoted: false,
+            escaped: false,
+            escapes: false,
+            start: at,
+            from: at,
+            here: Draft::new(alloc),
+            around: Vec::new(alloc),
+        }
+    }
+
+    /// Takes the byte at an offset.
+    #[inline(always)]
+    pub(crate) fn put(&mut self, alloc: Global, bytes: &[u8], next: usize) -> Result<(), AllocError>
+        requires within { next < length bytes.now }
+        requires fits { Fits next self.old }
+        requires can { CanPut bytes.now next self.old }
+        ensures { OnOk result (HasPut (deed_at (writing_at bytes.now next self.old) (slice_index bytes.now next)) bytes.now next self.old self.new) }
+    {
+        if self.quoted {
+            self.put_quoted(alloc, bytes, next)
+        } else {
+            self.put_between(alloc, bytes, next)
+        }
+    }
+
+    /// The ground on which it stands.
+    pub(crate) fn ground(&self) -> Ground
+        ensures { result ≡ ground_of self.now }
+    {
+        if self.quoted {
+            Ground::Quoted
+        } else {
+            Ground::Between
+        }
+    }
+
+    /// Takes the stretch between two offsets: bytes of a string that are no `"` and no `\`, or bytes outside strings that are
+    /// appended as they are or are all white space.
+    pub(crate) fn put_all(&mut self, bytes: &[u8], at: usize, end: usize) -> Result<(), AllocError>
+        requires within { (at ≤ end) × (end ≤ length bytes.now) }
+        requires fits { Fits at self.old }
+        requires alike { AreAlike (ground_of self.old) (stretch bytes.now at end) }
+        ensures ready { OnOk result ((text more : List ℕ) → Ready text (writing_at bytes.now at self.old) (stretch bytes.now at end ++ more)
+            → Ready text (writing_at bytes.now end self.new) more) }
+        ensures fits { OnOk result (Fits end self.new) }
+    {
+        if at == end {
+            return Ok(());
+        }
+        if self.quoted {
+            self.escaped = false;
+        } else if is_space(bytes[at]) {
+            self.copy(bytes, at)?;
+            self.from = end;
+        }
+        Ok(())
+    }
+
+    /// The text, where the value is whole that ends before an offset.
+    pub(crate) fn into_text(self, bytes: &[u8], end: usize) -> Result<Vec<u8>, AllocError>
+        requires within { end ≤ length bytes.now }
+        requires fits { Fits end self }
+        requires whole { (text : List ℕ) × (writing_at bytes.now end self ≡ between (grown fresh text) []) }
+        ensures { IfOk result (λ written. (text : List ℕ) → writing_at bytes.now end self ≡ between (grown fresh text) [] → written.items ≡ text) }
+    {
+        let Writer {
+            quoted: _quoted,
+            escaped: _escaped,
+            escapes: _escapes,
+            start: _start,
+            from,
+            mut here,
+            around: _around,
+        } = self;
+        here.extend(&bytes[from..end])?;
+        Ok(here.into_text())
+    }
+
+    /// Takes a byte in a string.
+    #[inline(always)]
+    fn put_quoted(&mut self, alloc: Global, bytes: &[u8], next: usize) -> Result<(), AllocError>
+        requires quoted { self.old.quoted ≡ true }
+        requires within { next < length bytes.now }
+        requires fits { Fits next self.old }
+        requires can { Can (deed (inside self.old.escaped) self.old.here.level (slice_index bytes.now next)) (writing_at bytes.now next self.old) (slice_index bytes.now next) }
+        ensures { OnOk result (HasPut (deed (inside self.old.escaped) self.old.here.level (slice_index bytes.now next)) bytes.now next self.old self.new) }
+    {
+        if self.escaped {
+            self.escaped = false;
+            return Ok(());
+        }
+        match bytes[next] {
+            b'"' => self.finish(alloc, bytes, next)?,
+            b'\\' => {
+                self.escaped = true;
+                self.escapes = true;
+            }
+            _ => {}
+        }
+        Ok(())
+    }
+
+    /// Takes a byte outside strings.
+    #[inline(always)]
+    fn put_between(&mut self, alloc: Global, bytes: &[u8], next: usize) -> Result<(), AllocError>
+        requires apart { self.old.quoted ≡ false }
+        requires within { next < length bytes.now }
+        requires fits { Fits next self.old }
+        requires can { Can (deed outside self.old.here.level (slice_index bytes.now next)) (writing_at bytes.now next self.old) (slice_index bytes.now next) }
+        ensures { OnOk result (HasPut (deed outside self.old.here.level (slice_index bytes.now next)) bytes.now next self.old self.new) }
+    {
+        match deed_between(self.here.level(), bytes[next]) {
+            Deed::Begin => {
+                self.begin(next);
+                Ok(())
+            }
+            Deed::Open => self.open(alloc, bytes, next),
+            Deed::Shut => self.shut(alloc, bytes, next),
+            Deed::Name => self.end_name(bytes, next),
+            Deed::Part => self.end_member(bytes, next),
+            Deed::Deepen => self.deepen(),
+            Deed::Rise => {
+                self.rise();
+                Ok(())
+            }
+            Deed::Push => {
+                self.push();
+                Ok(())
+            }
+            _ => self.skip(bytes, next),
+        }
+    }
+
+    /// White space is dropped.
+    #[inline(never)]
+    fn skip(&mut self, bytes: &[u8], next: usize) -> Result<(), AllocError>
+        requires apart { self.old.quoted ≡ false }
+        requires within { next < length bytes.now }
+        requires fits { Fits next self.old }
+        ensures { OnOk result (HasPut Skip bytes.now next self.old self.new) }
+    {
+        self.copy(bytes, next)?;
+        self.from = next + 1;
+        Ok(())
+    }
+
+    /// A string begins.
+    fn begin(&mut self, next: usize)
+        requires apart { self.old.quoted ≡ false }
+        requires fits { Fits next self.old }
+        ensures { (bytes : List ℕ) → next < length bytes → HasPut Begin bytes next self.old self.new }
+    {
+        self.quoted = true;
+        self.escaped = false;
+        self.escapes = false;
+        self.start = next;
+    }
+
+    /// A string ends. It is appended as it stands, or quoted anew where it has an escape.
+    fn finish(&mut self, alloc: Global, bytes: &[u8], next: usize) -> Result<(), AllocError>
+        requires quoted { self.old.quoted ≡ true }
+        requires within { next < length bytes.now }
+        requires fits { Fits next self.old }
+        requires can { Can Finish (writing_at bytes.now next self.old) (slice_index bytes.now next) }
+        ensures { OnOk result (HasPut Finish bytes.now next self.old self.new) }
+    {
+        if self.escapes {
+            self.quote(alloc, bytes, next)
+        } else {
+            self.quoted = false;
+            Ok(())
+        }
+    }
+
+    #[inline(never)]
+    fn quote(&mut self, alloc: Global, bytes: &[u8], next: usize) -> Result<(), AllocError>
+        requires quoted { self.old.quoted ≡ true }
+        requires within { next < length bytes.now }
+        requires fits { Fits next self.old }
+        requires can { Can Finish (writing_at bytes.now next self.old) (slice_index bytes.now next) }
+        ensures { OnOk result (HasPut Finish bytes.now next self.old self.new) }
+    {
+        self.copy(bytes, self.start)?;
+        let (text, _end) = content_of(alloc, bytes, self.start)?;
+        self.here.push_quote(&text)?;
+        self.from = next + 1;
+        self.quoted = false;
+        self.escapes = false;
+        Ok(())
+    }
+
+    /// An object is opened.
+    #[inline(never)]
+    fn open(&mut self, alloc: Global, bytes: &[u8], next: usize) -> Result<(), AllocError>
+        requires apart { self.old.quoted ≡ false }
+        requires within { next < length bytes.now }
+        requires fits { Fits next self.old }
+        ensures { OnOk result (HasPut Open bytes.now next self.old self.new) }
+    {
+        self.copy(bytes, next + 1)?;
+        let outer = replace(&mut self.here, Draft::of_object(alloc)?);
+        self.around.push(outer)?;
+        Ok(())
+    }
+
+    /// An object is closed.
+    #[inline(never)]
+    fn shut(&mut self, alloc: Global, bytes: &[u8], next: usize) -> Result<(), AllocError>
+        requires apart { self.old.quoted ≡ false }
+        requires within { next < length bytes.now }
+        requires fits { Fits next self.old }
+        requires can { Can Shut (writing_at bytes.now next self.old) (slice_index bytes.now next) }
+        ensures { OnOk result (HasPut Shut bytes.now next self.old self.new) }
+    {
+        self.copy(bytes, next)?;
+        let Some(outer) = self.around.pop() else {
+            unreachable!()
+        };
+        let inner = replace(&mut self.here, outer);
+        let text = inner.close(alloc)?;
+        self.here.extend(text.as_slice())?;
+        Ok(())
+    }
+
+    /// The name of a member ends.
+    #[inline(never)]
+    fn end_name(&mut self, bytes: &[u8], next: usize) -> Result<(), AllocError>
+        requires apart { self.old.quoted ≡ false }
+        requires within { next < length bytes.now }
+        requires fits { Fits next self.old }
+        requires can { Can Name (writing_at bytes.now next self.old) (slice_index bytes.now next) }
+        ensures { OnOk result (HasPut Name bytes.now next self.old self.new) }
+    {
+        self.copy(bytes, next)?;
+        self.here.end_name()?;
+        self.from = next + 1;
+        Ok(())
+    }
+
+    /// A member ends.
+    fn end_member(&mut self, bytes: &[u8], next: usize) -> Result<(), AllocError>
+        requires apart { self.old.quoted ≡ false }
+        requires within { next < length bytes.now }
+        requires fits { Fits next self.old }
+        requires can { Can Part (writing_at bytes.now next self.old) (slice_index bytes.now next) }
+        ensures { OnOk result (HasPut Part bytes.now next self.old self.new) }
+    {
+        self.copy(bytes, next)?;
+        self.here.end_member()?;
+        self.from = next + 1;
+        Ok(())
+    }
+
+    /// An array is opened.
+    fn deepen(&mut self) -> Result<(), AllocError>
+        requires { self.old.quoted ≡ false }
+        ensures { OnOk result ((bytes : List ℕ) (next : ℕ) → next < length bytes → Fits next self.old → HasPut Deepen bytes next self.old self.new) }
+    {
+        self.here.deepen()?;
+        Ok(())
+    }
+
+    /// An array is closed.
+    fn rise(&mut self)
+        requires { self.old.quoted ≡ false }
+        ensures { (bytes : List ℕ) (next : ℕ) → next < length bytes → Fits next self.old → HasPut Rise bytes next self.old self.new }
+    {
+        self.here.rise();
+    }
+
+    /// A byte is to be appended as it stands.
+    fn push(&mut self)
+        requires { self.old.quoted ≡ false }
+        ensures { (bytes : List ℕ) (next : ℕ) → next < length bytes → Fits next self.old → HasPut Push bytes next self.old self.new }
+    {}
+
+    /// Copies the bytes before an offset that aren't copied yet.
+    fn copy(&mut self, bytes: &[u8], to: usize) -> Result<(), AllocError>
+        requires { (self.old.from ≤ to) × (to ≤ length bytes.now) }
+        ensures { OnOk result (self.new ≡ copied bytes.now to self.old) }
+    {
+        self.here.extend(&bytes[self.from..to])?;
+        self.from = to;
+        Ok(())
+    }
+}
+
+/// What is done with a byte outside strings, where so many arrays are open in the innermost object.
+fn deed_between(level: u64, byte: u8) -> Deed
+    ensures { result ≡ deed outside level byte }
+{
+    match byte {
+        b' ' | b'\t' | b'\n' | b'\r' => Deed::Skip,
+        b'"' => Deed::Begin,
+        b',' if level == 0 => Deed::Part,
+        b':' => Deed::Name,
+        b'[' => Deed::Deepen,
+        b']' => Deed::Rise,
+        b'{' => Deed::Open,
+        b'}' => Deed::Shut,
+        _ => Deed::Push,
+    }
+}

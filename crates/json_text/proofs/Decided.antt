@@ -1,0 +1,55 @@
+-- A compact text has a form or hasn't.
+use Rattle.std.proofs.Common.{◌≡◌, ◌≢◌, ◌⊎◌, inl, inr, ℕ, ◌+◌, ◌-◌, List, [], ◌∷◌, ◌++◌, eqb, eqb-true, sym, ap, ◌∙◌, arith, IsUtf8}
+use Rattle.std.specs.List.{AllByRecursion}
+use Rattle.std.proofs.lemmas.Bool.{cases_Bool, cases_lt}
+use Rattle.json_text.specs.Characters.{quote}
+use Rattle.json_text.specs.Compact.{Member, array_text, object_text}
+use Rattle.json_text.specs.Parts.{AreMembers}
+use Rattle.json_text.specs.Tree.{depth}
+use Rattle.json_text.specs.Value.{IsCompact}
+use Rattle.json_text.proofs.CompactLaws.{Value-Form}
+use Rattle.json_text.proofs.Forms.{StartsWith, quote-starts, array-starts, object-starts, form-quoted, form-listed, form-membered}
+use Rattle.json_text.proofs.Reading.{tree-once}
+use Rattle.json_text.proofs.Strings.{heads-differ}
+
+-- ---- the form of a compact text
+starts-or-not : (b : ℕ) (bytes : List ℕ) → StartsWith b bytes ⊎ (StartsWith b bytes → ⊥)
+starts-or-not b [] = inr (λ s. let e = s.1 in cc)
+starts-or-not b (x ∷ more) = elim (cases_Bool (eqb x b)) [
+  | inl e ↦ let same = eqb-true x b e in inl (more, λ i. same i ∷ more)
+  | inr e ↦ inr (λ s. heads-differ x b more s.0 e s.1)
+]
+
+begun : (b : ℕ) {bytes text : List ℕ} → StartsWith b text → bytes ≡ text → StartsWith b bytes
+begun b s e = (s.0, e ∙ s.1)
+
+pub string-or-not : (text : List ℕ) → IsCompact 128 text → ((string : List ℕ) × IsUtf8 string × (text ≡ quote string)) ⊎ ((string : List ℕ) → text ≢ quote string)
+string-or-not text is = elim (starts-or-not 34 text) [
+  | inl s ↦ inl (form-quoted 128 text (Value-Form is) s)
+  | inr none ↦ inr (λ string e. none (begun 34 (quote-starts string) e))
+]
+
+pub array-or-not : (text : List ℕ) → IsCompact 128 text
+    → ((items : List (List ℕ)) × AllByRecursion (IsCompact 127) items × (text ≡ array_text items)) ⊎ ((items : List (List ℕ)) → text ≢ array_text items)
+array-or-not text is = elim (starts-or-not 91 text) [
+  | inl s ↦ inl (form-listed 128 text (Value-Form is) s)
+  | inr none ↦ inr (λ items e. none (begun 91 (array-starts items) e))
+]
+
+pub object-or-not : (text : List ℕ) → IsCompact 128 text
+    → ((members : List Member) × AreMembers 127 members × (text ≡ object_text members)) ⊎ ((members : List Member) → text ≢ object_text members)
+object-or-not text is = elim (starts-or-not 123 text) [
+  | inl s ↦ inl (form-membered 128 text (Value-Form is) s)
+  | inr none ↦ inr (λ members e. none (begun 123 (object-starts members) e))
+]
+
+-- ---- how deep it nests
+pub nests-or-not : (text : List ℕ) (limit : ℕ) → IsCompact 128 text → IsCompact limit text ⊎ (IsCompact limit text → ⊥)
+nests-or-not text limit is = elim (cases_lt limit (depth is.tree)) [
+  | inl deeper ↦ inr (λ other.
+      let same = tree-once is.tree other.tree [] [] is.good other.good tt tt (ap (λ s. s ++ []) (is.spells ∙ sym other.spells)) in
+      let both = ap depth same.0 in
+      let within = other.shallow in
+      omega arith)
+  | inr within ↦ inl (record { tree = is.tree; good = is.good; shallow = within; spells = is.spells; means = is.means })
+]

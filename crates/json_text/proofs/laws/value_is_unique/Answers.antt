@@ -1,0 +1,6 @@
+-- Trees that spell the front of one text are equal.
+use Rattle.json_text.proofs.Reading.{Stands-once}
+use Rattle.json_text.proofs.laws.value_is_unique.Goals as goal
+
+pub returns : goal.returns
+returns c = λ bytes text rest other more one two. Stands-once one two

@@ -1,0 +1,10 @@
+pub mod Alike
+pub mod Appending
+pub mod Characters
+pub mod Compact
+pub mod Members
+pub mod Parts
+pub mod Stretches
+pub mod Tree
+pub mod Value
+pub mod Walk

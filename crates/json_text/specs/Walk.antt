@@ -1,0 +1,42 @@
+-- What stands at the front of a text that is walked over: a string, what is left of a string; and where a walk is.
+use Rattle.std.specs.Prelude.{◌≡◌, ℕ, List, ◌∷◌, ◌++◌, drop, flat_map, Bool, if◌then◌else◌}
+use Rattle.std.specs.List.{AllByRecursion}
+use Rattle.json_text.specs.Tree.{Piece, unit, IsPiece, piece_spelling, string_spelling}
+use Rattle.json_text.specs.Compact.{content, piece_value}
+
+-- A string for this text stands at the front; the rest follows it. RFC 8259, section 7.
+pub record Quoted (bytes text rest : List ℕ) : Type 0 where
+  pub pieces : List Piece
+  pub good : AllByRecursion IsPiece pieces
+  pub parts : bytes ≡ string_spelling pieces ++ rest
+  pub means : content pieces ≡ text
+
+-- The rest of a string, for this text, and its closing quotation mark stand at the front. RFC 8259, section 7.
+pub record Unread (bytes text rest : List ℕ) : Type 0 where
+  pub pieces : List Piece
+  pub good : AllByRecursion IsPiece pieces
+  pub parts : bytes ≡ flat_map piece_spelling pieces ++ 34 ∷ rest
+  pub means : content pieces ≡ text
+
+-- What stands behind so many bytes is the rest of what stands before them, and was turned into what was appended.
+abbrev pub Takes : (List ℕ → List ℕ → List ℕ → Type 0) → List ℕ → ℕ → List ℕ → List ℕ → Type 0
+Takes Stand bytes count old new = (text after : List ℕ) → Stand bytes text after →
+    (left : List ℕ) × Stand (drop count bytes) left after × (new ++ left ≡ old ++ text)
+
+-- A `\u` and the four digits of this number stand at the front. RFC 8259, section 7.
+pub record StartsWithUnit (bytes : List ℕ) (value : ℕ) : Type 0 where
+  pub a : ℕ
+  pub b : ℕ
+  pub c : ℕ
+  pub d : ℕ
+  pub tail : List ℕ
+  pub parts : bytes ≡ 92 ∷ 117 ∷ a ∷ b ∷ c ∷ d ∷ tail
+  pub spells : piece_value (unit a b c d) ≡ value
+
+-- outside strings, or in one and perhaps behind a backslash
+pub data Place : Type 0 where
+  outside : Place
+  inside : Bool → Place
+
+abbrev pub place_of : Bool → Bool → Place
+place_of quoted escaped = if quoted then inside escaped else outside

@@ -1,0 +1,17 @@
+//! What a JSON value is, its compact text, and the texts in it.
+#![tactic(auto)]
+
+mod content;
+pub mod laws;
+mod order;
+mod quote_bytes;
+mod quotes;
+mod space;
+mod stretch;
+mod text;
+
+pub use content::{content_of, run_end, text_at};
+pub use quote_bytes::QuoteBytes;
+pub use quotes::{push_quote, push_quoted, whole_or_cut};
+pub use space::{is_space, skip_space};
+pub use text::{Member, Raw, Text};

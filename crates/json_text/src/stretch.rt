@@ -1,0 +1,161 @@
+//! Stretches of bytes that are shared or fixed.
+
+ghost use Rattle.std.specs.Prelude.{◌≡◌, ◌+◌, ◌-◌, ◌≤◌, take, drop, length, IfOk};
+ghost use Rattle.json_text.specs.Stretches.{bytes_of};
+
+use std::alloc::AllocError;
+use std::marker::Model;
+use std::rc::Rc;
+
+/// A list of bytes that never changes, so that its copies and its parts share one place in memory. It is as small as can
+/// be, since an element has some forty of them.
+pub(crate) struct Stretch {
+    held: Held,
+}
+
+// By hand, so that whoever drops a text sees one call and not the ways in which its bytes are held.
+impl Drop for Stretch {
+    fn drop(self) {
+        let Stretch { held: _held } = self;
+    }
+}
+
+impl Model for Stretch {
+    ghost use Rattle.std.specs.Prelude.{List, ℕ};
+    ghost use Rattle.json_text.specs.Stretches.{bytes_of};
+
+    ghost Value = { List ℕ };
+
+    ghost view = { λ s. bytes_of s.held };
+}
+
+/// Where the bytes are.
+#[derive(Drop)]
+enum Held {
+    /// They are a part of bytes that others have parts of.
+    Shared(Part),
+    /// They are bytes of the program itself.
+    Fixed(&'static [u8]),
+}
+
+/// A part of bytes that are counted, by the offsets of its first byte and of the byte after it.
+#[derive(Drop)]
+struct Part {
+    source: Rc<Vec<u8>>,
+    start: u32,
+    end: u32,
+}
+
+impl Model for Part {
+    ghost use Rattle.std.specs.Prelude.{List, ℕ, ◌-◌, ◌≤◌, take, drop, length};
+
+    ghost Value = { List ℕ };
+
+    ghost view = { λ p. take (p.end - p.start) (drop p.start p.source.value.items) };
+
+    ghost invariant = { λ p. (p.start ≤ p.end) × (p.end ≤ length p.source.value.items) };
+}
+
+impl Stretch {
+    /// All these bytes. Where they are 4 GiB or more it fails as for want of memory.
+    pub(crate) fn from_vec(bytes: Vec<u8>) -> Result<Stretch, AllocError>
+        ensures { IfOk result (λ stretch. stretch ≡ bytes.items) }
+    {
+        let alloc = *bytes.allocator();
+        let Ok(end) = u32::try_from(bytes.len()) else {
+            return Err(AllocError);
+        };
+        let source = Rc::new(alloc, bytes)?;
+        let part = Part {
+            source,
+            start: 0,
+            end,
+        };
+        Ok(Stretch {
+            held: Held::Shared(part),
+        })
+    }
+
+    /// These bytes of the program. It takes no memory.
+    pub(crate) fn fixed(bytes: &'static [u8]) -> Stretch
+        ensures { result ≡ bytes.now }
+    {
+        Stretch {
+            held: Held::Fixed(bytes),
+        }
+    }
+
+    /// The bytes.
+    pub(crate) fn as_slice(&self) -> &[u8]
+        ensures { result.now ≡ self.now }
+    {
+        match &self.held {
+            Held::Shared(part) => part.as_slice(),
+            Held::Fixed(bytes) => bytes,
+        }
+    }
+
+    /// The same bytes. It takes no memory; it fails only where so many others have a part of them that they can't be
+    /// counted.
+    pub(crate) fn try_clone(&self) -> Result<Stretch, AllocError>
+        ensures { IfOk result (λ copy. copy ≡ self.now) }
+    {
+        let held = match &self.held {
+            Held::Shared(part) => Held::Shared(part.try_clone()?),
+            Held::Fixed(bytes) => Held::Fixed(bytes),
+        };
+        Ok(Stretch { held })
+    }
+
+    /// The bytes between two offsets. It takes no memory, and fails only as `try_clone` does.
+    pub(crate) fn cut(&self, start: usize, end: usize) -> Result<Stretch, AllocError>
+        requires { (start ≤ end) × (end ≤ length self.now) }
+        ensures { IfOk result (λ stretch. stretch ≡ take (end - start) (drop start self.now)) }
+    {
+        let held = match &self.held {
+            Held::Shared(part) => Held::Shared(part.cut(start, end)?),
+            Held::Fixed(bytes) => Held::Fixed(&bytes[start..end]),
+        };
+        Ok(Stretch { held })
+    }
+}
+
+impl Part {
+    /// The bytes.
+    fn as_slice(&self) -> &[u8]
+        ensures { result.now ≡ self.now }
+    {
+        &self.source.as_slice()[self.start as usize..self.end as usize]
+    }
+
+    /// The same part.
+    fn try_clone(&self) -> Result<Part, AllocError>
+        ensures { IfOk result (λ copy. copy ≡ self.now) }
+    {
+        Ok(Part {
+            source: self.source.clone()?,
+            start: self.start,
+            end: self.end,
+        })
+    }
+
+    /// The part between two offsets of this one.
+    fn cut(&self, start: usize, end: usize) -> Result<Part, AllocError>
+        requires { (start ≤ end) × (end ≤ length self.now) }
+        ensures { IfOk result (λ part. part ≡ take (end - start) (drop start self.now)) }
+    {
+        Ok(Part {
+            source: self.source.clone()?,
+            start: offset(self.start, self.end, start),
+            end: offset(self.start, self.end, end),
+        })
+    }
+}
+
+/// The offset in the source of an offset in the part between two others.
+fn offset(start: u32, end: u32, at: usize) -> u32
+    requires { start + at ≤ end }
+    ensures { result ≡ start + at }
+{
+    start + at as u32
+}

@@ -1,5 +1,0 @@
-use Rattle.scene_json.proofs.Marks.{AreSeen}
-use Rattle.scene_json.proofs.collapsing.are_distinct.Given as goal
-
-abbrev pub invariant-loop-i : goal.invariant-loop-i
-invariant-loop-i l = AreSeen l.bytes l.places l.i l.seen

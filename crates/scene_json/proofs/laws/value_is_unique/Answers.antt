@@ -1,6 +1,0 @@
--- Trees that spell the front of one text are equal.
-use Rattle.scene_json.proofs.Reading.{Stands-once}
-use Rattle.scene_json.proofs.laws.value_is_unique.Goals as goal
-
-pub returns : goal.returns
-returns c = λ bytes text rest other more one two. Stands-once one two

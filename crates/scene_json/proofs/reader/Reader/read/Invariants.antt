@@ -1,9 +1,0 @@
-use Rattle.std.proofs.Common.{◌-◌, length}
-use Rattle.scene_json.specs.Writing.{ReadsOn}
-use Rattle.scene_json.proofs.reader.Reader.read.Given as goal
-
-abbrev pub invariant-loop-next : goal.invariant-loop-next
-invariant-loop-next l = ReadsOn l.bytes l.fn.self.next l.fn.self.machine l.fn.self.writer l.next l.machine l.writer
-
-abbrev pub decreases-loop-next : goal.decreases-loop-next
-decreases-loop-next l = length l.bytes - l.next

@@ -1,5 +1,0 @@
-use Rattle.scene_json.proofs.Copying.{deepened}
-use Rattle.scene_json.proofs.writing.Writer.deepen.Goals as goal
-
-pub returns : goal.returns
-returns c = λ bytes next high fits. rw c.in_ok-deepen.ensures (deepened bytes next c.args.self.now high fits c.requires)
