@@ -1,4 +1,5 @@
 -- In the order in which they are read: each uses those above it.
+-- ---- the machine against the grammar: where it ends a value stands, and where it refuses the first fault is
 mod NumberRuns
 mod Sequences
 mod Rests
@@ -19,6 +20,8 @@ mod Stays
 mod OffsetRuns
 pub mod Outcomes
 pub mod Feeds
+mod Pieces
+-- ---- the writer: what it has written is the compact text of the value that was read
 mod Placing
 mod Marks
 mod QuotedNames
@@ -26,4 +29,3 @@ mod Drafting
 mod Ready
 mod Written
 mod Copying
-mod Pieces

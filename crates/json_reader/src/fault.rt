@@ -1,4 +1,4 @@
-//! What is wrong with a text or a value.
+//! What is wrong with a text.
 
 use board_io::Piece;
 use std::alloc::{AllocError, Global};

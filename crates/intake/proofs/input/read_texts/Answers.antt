@@ -12,15 +12,6 @@ returns-in_err-count-clause-stopped g c =
     let p = err_from_is_err_and c.from_residual-in_err-count.result c.from_residual-in_err-count.ensures.1 in
     rw p.1 (some.0, omega (arith, some.1, taken.width, length-take {A = ℕ}, c.min-wanted.ensures, c.pieces.piece.ok.0), some.2)
 
--- those that were taken before memory was wanting at the end
-pub returns-in_err-finish-clause-stopped : goal.returns-in_err-finish-clause-stopped
-returns-in_err-finish-clause-stopped g c =
-    let source = g.S.Source.seen in
-    let all : HasTaken (source c.args.source.now) (source c.next_piece.new.source) (c.pieces.used + c.in_ok-count.count) c.next_piece.new.feed (g.R.Reader.seen c.next_piece.new.reader) c.next_piece.new.stop =
-    taken-more _ (source c.pieces.source) _ c.pieces.used c.in_ok-count.count _ c.in_ok-count.ensures.given _ _ _ _ _ _ c.in_ok-count.ensures.bound c.in_ok-count.ensures.taken c.pieces.invariant.taken in
-    let p = err_from_is_err_and c.from_residual-in_err-finish.result c.from_residual-in_err-finish.ensures.1 in
-    rw p.1 (all.stream, omega (arith, all.width, c.if-count-eq0.true, c.pieces-test.true), all.given)
-
 -- the bytes that were taken, with the piece that came
 pub returns-then-count-eq0-clause-read : goal.returns-then-count-eq0-clause-read
 returns-then-count-eq0-clause-read g c =
