@@ -9,6 +9,7 @@ use crate::keep::push_kept;
 use crate::keys::{
     push_between, push_is_key, push_n_between, push_repaired, push_rising, push_walk,
 };
+use crate::scenes::push_scene;
 use crate::values::{
     push_default, push_first, push_pretty, push_restored, push_scanned, push_taken_apart,
 };
@@ -21,6 +22,8 @@ use std::alloc::Global;
 pub fn push_call(alloc: Global, line: &mut Vec<u8>, case: &List<Member>) -> Result<(), Stop<Text>> {
     if let Some(value) = value_named(case, "scan") {
         push_scanned(alloc, line, case, value)
+    } else if let Some(value) = value_named(case, "scene") {
+        push_scene(alloc, line, case, value)
     } else if let Some(value) = value_named(case, "n_between") {
         push_n_between(alloc, line, case, value)
     } else if let Some(value) = value_named(case, "walk") {

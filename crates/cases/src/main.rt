@@ -13,6 +13,7 @@ mod keep;
 mod keys;
 mod line;
 mod run;
+mod scenes;
 mod sure;
 mod told;
 mod values;
