@@ -15,10 +15,19 @@ use std::marker::Model;
 use std::slice;
 
 /// What is stored, and its view.
-#[derive(Drop)]
 struct Board {
     store: Store,
     view: LiveView,
+}
+
+// By hand, so that whoever drops a board sees one call and not what it holds.
+impl Drop for Board {
+    fn drop(self) {
+        let Board {
+            store: _store,
+            view: _view,
+        } = self;
+    }
 }
 
 impl Model for Board {

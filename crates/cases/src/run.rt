@@ -19,12 +19,23 @@ const NOTES_ROOM: usize = 10000;
 const GREATEST: u64 = 67108864;
 
 /// What a run reads from and writes to.
-#[derive(Drop)]
 struct Ends {
     input: MemSource,
     output: MemSink,
     notes: MemSink,
     links: ScriptLinks,
+}
+
+// By hand, so that whoever drops an ends sees one call and not what it holds.
+impl Drop for Ends {
+    fn drop(self) {
+        let Ends {
+            input: _input,
+            output: _output,
+            notes: _notes,
+            links: _links,
+        } = self;
+    }
 }
 
 /// Appends how the run of a case with its chunk ended: its status, output and notes, the port that was listened on, and what was sent.

@@ -80,6 +80,8 @@ fn shown_text(alloc: Global, head: &Head, store: Store, layout: Layout) -> Resul
 {
     let view = view_of(alloc, &store)?;
     drop(store);
+    // For the contract: what is shown is settled.
+    let _shown = view.elements();
     ended(scene_text(alloc, head, &view, layout)?)
 }
 

@@ -100,6 +100,8 @@ fn room_text(alloc: Global, head: &Head, room: &Room, layout: Layout) -> Result<
     ensures { IfOk result (IsSceneOfStored layout head.now room.now.elements) }
 {
     let view = view_of(alloc, room.store())?;
+    // For the contract: what is shown is settled.
+    let _shown = view.elements();
     ended(scene_text(alloc, head, &view, layout)?)
 }
 

@@ -34,7 +34,6 @@ pub enum Spot {
 }
 
 /// What a user asks of a board. An id is live if its element is stored and isn't deleted.
-#[derive(Drop)]
 pub enum Command {
     /// The element becomes a new one, at a place in the order. Its other members are as given.
     Create {
@@ -96,6 +95,56 @@ pub enum Command {
         ids: List<Text>,
         group: Text,
     },
+}
+
+// By hand, so that whoever drops a command sees one call and not what it holds.
+impl Drop for Command {
+    fn drop(self) {
+        match self {
+            Command::Create {
+                element: _element,
+                spot: _spot,
+            } => {}
+            Command::Set {
+                id: _id,
+                member: _member,
+                value: _value,
+            } => {}
+            Command::Delete { ids: _ids } => {}
+            Command::Place {
+                id: _id,
+                spot: _spot,
+            } => {}
+            Command::Bind {
+                arrow: _arrow,
+                side: _,
+                target: _target,
+                rest: _rest,
+            } => {}
+            Command::Unbind {
+                arrow: _arrow,
+                side: _,
+            } => {}
+            Command::Label {
+                container: _container,
+                text: _text,
+            } => {}
+            Command::Unlabel { text: _text } => {}
+            Command::Frame {
+                ids: _ids,
+                frame: _frame,
+            } => {}
+            Command::Unframe { ids: _ids } => {}
+            Command::Group {
+                ids: _ids,
+                group: _group,
+            } => {}
+            Command::Ungroup {
+                ids: _ids,
+                group: _group,
+            } => {}
+        }
+    }
 }
 
 /// Why a command changes nothing. Of several causes the first of this order is told, and for one cause the first id in the

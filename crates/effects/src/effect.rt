@@ -22,7 +22,6 @@ use std::alloc::{AllocError, Global};
 use std::collections::BTreeSet;
 
 /// What a command makes of the live elements.
-#[derive(Drop)]
 pub(crate) enum Effect {
     /// Each gets its key.
     Settle {
@@ -73,6 +72,45 @@ pub(crate) enum Effect {
         ids: BTreeSet<Text>,
         group: Text,
     },
+}
+
+// By hand, so that whoever drops an effect sees one call and not what it holds.
+impl Drop for Effect {
+    fn drop(self) {
+        match self {
+            Effect::Settle { keys: _keys } => {}
+            Effect::Place {
+                keys: _keys,
+                id: _id,
+                key: _key,
+            } => {}
+            Effect::Set {
+                id: _id,
+                member: _member,
+                value: _value,
+            } => {}
+            Effect::Delete { ids: _ids } => {}
+            Effect::Link { link: _link } => {}
+            Effect::Label { label: _label } => {}
+            Effect::Unlabel {
+                text: _text,
+                old: _old,
+                entry: _entry,
+            } => {}
+            Effect::Frame {
+                ids: _ids,
+                frame: _frame,
+            } => {}
+            Effect::Group {
+                ids: _ids,
+                group: _group,
+            } => {}
+            Effect::Ungroup {
+                ids: _ids,
+                group: _group,
+            } => {}
+        }
+    }
 }
 
 impl Effect {

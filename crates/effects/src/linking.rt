@@ -20,7 +20,6 @@ use json_text::Text;
 use std::alloc::AllocError;
 
 /// A new binding of an end of an arrow, or none; and what doesn't list the arrow any more.
-#[derive(Drop)]
 pub(crate) struct Link {
     pub(crate) arrow: Text,
     pub(crate) side: Side,
@@ -29,13 +28,37 @@ pub(crate) struct Link {
     pub(crate) entry: BoundRef,
 }
 
+// By hand, so that whoever drops a link sees one call and not what it holds.
+impl Drop for Link {
+    fn drop(self) {
+        let Link {
+            arrow: _arrow,
+            side: _side,
+            binding: _binding,
+            old: _old,
+            entry: _entry,
+        } = self;
+    }
+}
+
 /// A new container of a text, and what doesn't list the text any more.
-#[derive(Drop)]
 pub(crate) struct Label {
     pub(crate) text: Text,
     pub(crate) container: Text,
     pub(crate) old: Option<Text>,
     pub(crate) entry: BoundRef,
+}
+
+// By hand, so that whoever drops a label sees one call and not what it holds.
+impl Drop for Label {
+    fn drop(self) {
+        let Label {
+            text: _text,
+            container: _container,
+            old: _old,
+            entry: _entry,
+        } = self;
+    }
 }
 
 /// The element after an end of an arrow was bound, or None where it stays as it is.

@@ -11,7 +11,6 @@ use std::alloc::AllocError;
 use std::marker::Model;
 
 /// An element of a board. The version, the nonce and the time of the last change are its stamp.
-#[derive(Drop)]
 pub struct Element {
     pub id: Text,
     pub kind: Kind,
@@ -28,6 +27,29 @@ pub struct Element {
     pub end_binding: Option<Binding>,
     pub file: Option<Text>,
     pub rest: List<Member>,
+}
+
+// By hand, so that whoever drops an element sees one call and not what it holds.
+impl Drop for Element {
+    fn drop(self) {
+        let Element {
+            id: _id,
+            kind: _kind,
+            version: _,
+            nonce: _,
+            updated: _,
+            deleted: _,
+            index: _index,
+            groups: _groups,
+            frame: _frame,
+            bound: _bound,
+            container: _container,
+            start_binding: _start_binding,
+            end_binding: _end_binding,
+            file: _file,
+            rest: _rest,
+        } = self;
+    }
 }
 
 impl Model for Element {

@@ -15,10 +15,19 @@ pub struct BoundRef {
 }
 
 /// What an end of an arrow is bound to, and the further members of the binding.
-#[derive(Drop)]
 pub struct Binding {
     pub target: Text,
     pub rest: List<Member>,
+}
+
+// By hand, so that whoever drops a binding sees one call and not what it holds.
+impl Drop for Binding {
+    fn drop(self) {
+        let Binding {
+            target: _target,
+            rest: _rest,
+        } = self;
+    }
 }
 
 impl BoundRef {

@@ -14,10 +14,19 @@ use std::alloc::{AllocError, Global};
 use std::marker::Model;
 
 /// The entries that can be undone and those that can be redone, the next one last.
-#[derive(Drop)]
 pub struct History {
     undo: Vec<Entry>,
     redo: Vec<Entry>,
+}
+
+// By hand, so that whoever drops a history sees one call and not what it holds.
+impl Drop for History {
+    fn drop(self) {
+        let History {
+            undo: _undo,
+            redo: _redo,
+        } = self;
+    }
 }
 
 impl Model for History {

@@ -10,7 +10,6 @@ use std::alloc::{AllocError, Global};
 use std::marker::Model;
 
 /// What is written of the innermost object that is open, behind its bracket, or of the text outside objects.
-#[derive(Drop)]
 pub(crate) struct Draft {
     text: Vec<u8>,
     /// Where the text behind the last colon or comma of the object begins.
@@ -21,6 +20,19 @@ pub(crate) struct Draft {
     places: Vec<Place>,
     /// How many arrays are open in the object.
     level: u64,
+}
+
+// By hand, so that whoever drops a draft sees one call and not what it holds.
+impl Drop for Draft {
+    fn drop(self) {
+        let Draft {
+            text: _text,
+            from: _,
+            name: _name,
+            places: _places,
+            level: _,
+        } = self;
+    }
 }
 
 impl Model for Draft {

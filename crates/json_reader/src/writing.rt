@@ -46,7 +46,6 @@ pub(crate) enum Deed {
 
 /// The writer of one value's compact text. What is to be written as it stands is copied from the bytes that are read, as
 /// late as can be.
-#[derive(Drop)]
 pub(crate) struct Writer {
     /// A string is open.
     quoted: bool,
@@ -62,6 +61,21 @@ pub(crate) struct Writer {
     here: Draft,
     /// The objects around it, the outermost first.
     around: Vec<Draft>,
+}
+
+// By hand, so that whoever drops a writer sees one call and not what it holds.
+impl Drop for Writer {
+    fn drop(self) {
+        let Writer {
+            quoted: _,
+            escaped: _,
+            escapes: _,
+            start: _,
+            from: _,
+            here: _here,
+            around: _around,
+        } = self;
+    }
 }
 
 impl Writer {

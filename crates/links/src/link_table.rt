@@ -15,10 +15,19 @@ use std::marker::Model;
 /// more rows it has room for.
 ///
 /// The named ids and the namers stand in two arrays, so that the namers of an id are a part of one.
-#[derive(Drop)]
 pub struct LinkTable {
     named: Vec<Text>,
     namers: Vec<Text>,
+}
+
+// By hand, so that whoever drops a link table sees one call and not what it holds.
+impl Drop for LinkTable {
+    fn drop(self) {
+        let LinkTable {
+            named: _named,
+            namers: _namers,
+        } = self;
+    }
 }
 
 impl Model for LinkTable {

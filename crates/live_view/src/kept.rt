@@ -14,7 +14,6 @@ use std::marker::Model;
 
 /// Live elements, what is shown of them, and who of them names whom. Contracts see the live elements, as stored, in the
 /// order of their ids.
-#[derive(Drop)]
 pub(crate) struct Kept {
     /// The live elements, as stored, in the order of their ids.
     pub(crate) live: Vec<Element>,
@@ -24,6 +23,17 @@ pub(crate) struct Kept {
 
     /// Who of them names whom.
     pub(crate) table: LinkTable,
+}
+
+// By hand, so that whoever drops a kept sees one call and not what it holds.
+impl Drop for Kept {
+    fn drop(self) {
+        let Kept {
+            live: _live,
+            shown: _shown,
+            table: _table,
+        } = self;
+    }
 }
 
 impl Model for Kept {

@@ -23,10 +23,19 @@ const MOST_MOVED: usize = 32;
 ///
 /// It is kept twice, once a change had many steps: they are made to the second one, and then both change places, so that a
 /// change that ends half-way changes nothing.
-#[derive(Drop)]
 pub struct LiveView {
     pub(crate) kept: Kept,
     pub(crate) twin: Option<Kept>,
+}
+
+// By hand, so that whoever drops a live view sees one call and not what it holds.
+impl Drop for LiveView {
+    fn drop(self) {
+        let LiveView {
+            kept: _kept,
+            twin: _twin,
+        } = self;
+    }
 }
 
 impl Model for LiveView {

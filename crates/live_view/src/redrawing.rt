@@ -9,6 +9,7 @@ use crate::places::{place_of, place_shown, replace};
 use board_io::List;
 use elem::{Element, same};
 use std::alloc::{AllocError, Global};
+use std::mem;
 
 /// The new element and what is shown of it, with the places in a view at which those of its id are held and shown.
 #[derive(Drop)]
@@ -107,7 +108,7 @@ fn redrawn(shown: &Element, new: &Element) -> Result<Element, AllocError>
 }
 
 /// The shown element with the stamp, the file and the further members of the new one of its id.
-fn with_content(mut shown: Element, new: Element) -> Element
+fn with_content(mut shown: Element, mut new: Element) -> Element
     requires id { new.id ≡ shown.id }
     requires kind { new.kind ≡ shown.kind }
     ensures { result ≡ redrawn_as new shown }
@@ -115,7 +116,7 @@ fn with_content(mut shown: Element, new: Element) -> Element
     shown.version = new.version;
     shown.nonce = new.nonce;
     shown.updated = new.updated;
-    shown.file = new.file;
-    shown.rest = new.rest;
+    mem::swap(&mut shown.file, &mut new.file);
+    mem::swap(&mut shown.rest, &mut new.rest);
     shown
 }

@@ -26,13 +26,25 @@ use snapshot::{Snapshot, SnapshotStep, Touched};
 use std::alloc::{AllocError, Global};
 
 /// The stored elements, their view, the snapshot with the ids that were stored since it was taken, and the history.
-#[derive(Drop)]
 pub(crate) struct Board {
     pub(crate) store: Store,
     pub(crate) view: LiveView,
     pub(crate) snapshot: Snapshot,
     pub(crate) touched: Touched,
     pub(crate) history: History,
+}
+
+// By hand, so that whoever drops a board sees one call and not what it holds.
+impl Drop for Board {
+    fn drop(self) {
+        let Board {
+            store: _store,
+            view: _view,
+            snapshot: _snapshot,
+            touched: _touched,
+            history: _history,
+        } = self;
+    }
 }
 
 impl Board {

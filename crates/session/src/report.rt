@@ -5,7 +5,6 @@ use effects::Refusal;
 use replica::Replica;
 
 /// What came of a session.
-#[derive(Drop)]
 pub struct Report {
     /// Of each replica, in their order.
     pub replicas: List<ReplicaReport>,
@@ -17,8 +16,19 @@ pub struct Report {
     pub clashes: u64,
 }
 
+// By hand, so that whoever drops a report sees one call and not what it holds.
+impl Drop for Report {
+    fn drop(self) {
+        let Report {
+            replicas: _replicas,
+            messages: _,
+            refused: _refused,
+            clashes: _,
+        } = self;
+    }
+}
+
 /// What came of a replica.
-#[derive(Drop)]
 pub struct ReplicaReport {
     /// The replica after the last event.
     pub replica: Replica,
@@ -34,6 +44,21 @@ pub struct ReplicaReport {
     pub undo: u64,
     /// How many entries can be redone.
     pub redo: u64,
+}
+
+// By hand, so that whoever drops a replica report sees one call and not what it holds.
+impl Drop for ReplicaReport {
+    fn drop(self) {
+        let ReplicaReport {
+            replica: _replica,
+            scene: _scene,
+            taken: _,
+            stored: _,
+            live: _,
+            undo: _,
+            redo: _,
+        } = self;
+    }
 }
 
 /// An event that was refused.

@@ -15,7 +15,6 @@ pub enum Pick {
 }
 
 /// An event of a session: what happens at one replica. Replicas are counted from 0.
-#[derive(Drop)]
 pub enum Event {
     /// A command of the user there, at a time.
     Change {
@@ -53,4 +52,29 @@ pub enum Event {
         at: u64,
         time: u64,
     },
+}
+
+// By hand, so that whoever drops an event sees one call and not what it holds.
+impl Drop for Event {
+    fn drop(self) {
+        match self {
+            Event::Change {
+                at: _,
+                time: _,
+                capture: _,
+                command: _command,
+            } => {}
+            Event::Update {
+                elements: _elements,
+            } => {}
+            Event::Deliver {
+                to: _,
+                picks: _picks,
+            } => {}
+            Event::Hold { at: _, id: _id } => {}
+            Event::Release { at: _, id: _id } => {}
+            Event::Undo { at: _, time: _ } => {}
+            Event::Redo { at: _, time: _ } => {}
+        }
+    }
 }

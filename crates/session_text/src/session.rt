@@ -5,7 +5,6 @@ use board_io::List;
 use scene_file::Scene;
 
 /// A recorded session: replicas that begin with one scene, and what happened then.
-#[derive(Drop)]
 pub struct Session {
     /// How many replicas there are.
     pub replicas: u64,
@@ -15,4 +14,16 @@ pub struct Session {
     pub scene: Option<Scene>,
     /// The events in their order.
     pub events: List<Event>,
+}
+
+// By hand, so that whoever drops a session sees one call and not what it holds.
+impl Drop for Session {
+    fn drop(self) {
+        let Session {
+            replicas: _,
+            seed: _,
+            scene: _scene,
+            events: _events,
+        } = self;
+    }
 }

@@ -21,13 +21,22 @@ use std::marker::Model;
 /// What a board shows. Contracts see the live elements that it was made of, as stored, in the order of their ids.
 ///
 /// Only the elements that aren't shown as they are stored are held twice.
-#[derive(Drop)]
 pub struct View {
     /// The elements that are shown.
     shown: List<Element>,
 
     /// The stored elements of those that are shown otherwise than they are stored.
     originals: List<Element>,
+}
+
+// By hand, so that whoever drops a view sees one call and not what it holds.
+impl Drop for View {
+    fn drop(self) {
+        let View {
+            shown: _shown,
+            originals: _originals,
+        } = self;
+    }
 }
 
 impl Model for View {
