@@ -26,7 +26,7 @@ struct Ends {
     links: ScriptLinks,
 }
 
-// By hand, so that whoever drops an ends sees one call and not what it holds.
+// By hand, so that whoever drops the ends sees one call and not what they hold.
 impl Drop for Ends {
     fn drop(self) {
         let Ends {

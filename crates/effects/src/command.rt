@@ -23,7 +23,6 @@ pub enum Side {
 }
 
 /// A place in the order of a scene.
-#[derive(Drop)]
 pub enum Spot {
     /// Below all others.
     Bottom,
@@ -31,6 +30,17 @@ pub enum Spot {
     Top,
     /// Directly above the element of this id.
     After(Text),
+}
+
+// By hand, so that whoever drops a spot sees one call and not what it holds.
+impl Drop for Spot {
+    fn drop(self) {
+        match self {
+            Spot::Bottom => {}
+            Spot::Top => {}
+            Spot::After(_text) => {}
+        }
+    }
 }
 
 /// What a user asks of a board. An id is live if its element is stored and isn't deleted.
@@ -149,7 +159,6 @@ impl Drop for Command {
 
 /// Why a command changes nothing. Of several causes the first of this order is told, and for one cause the first id in the
 /// order of the command's fields.
-#[derive(Drop)]
 pub enum Refusal {
     /// The id of a new element is stored, maybe as deleted.
     Exists(Text),
@@ -161,4 +170,17 @@ pub enum Refusal {
     Protected(Text),
     /// The element of this id would change and has the greatest version; it is the least of such ids.
     VersionFull(Text),
+}
+
+// By hand, so that whoever drops a refusal sees one call and not what it holds.
+impl Drop for Refusal {
+    fn drop(self) {
+        match self {
+            Refusal::Exists(_text) => {}
+            Refusal::NoElement(_text) => {}
+            Refusal::WrongKind(_text) => {}
+            Refusal::Protected(_text) => {}
+            Refusal::VersionFull(_text) => {}
+        }
+    }
 }

@@ -6,7 +6,6 @@ use json_text::Text;
 use std::alloc::AllocError;
 
 /// What an element is.
-#[derive(Drop)]
 pub enum Kind {
     Rectangle,
     Diamond,
@@ -22,6 +21,27 @@ pub enum Kind {
     Embeddable,
     /// Any other type, by its name.
     Other(Text),
+}
+
+// By hand, so that whoever drops a kind sees one call and not what it holds.
+impl Drop for Kind {
+    fn drop(self) {
+        match self {
+            Kind::Rectangle => {}
+            Kind::Diamond => {}
+            Kind::Ellipse => {}
+            Kind::Arrow => {}
+            Kind::Line => {}
+            Kind::Freedraw => {}
+            Kind::Text => {}
+            Kind::Image => {}
+            Kind::Frame => {}
+            Kind::Magicframe => {}
+            Kind::Iframe => {}
+            Kind::Embeddable => {}
+            Kind::Other(_text) => {}
+        }
+    }
 }
 
 /// What a listing entry is for.

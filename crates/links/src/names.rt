@@ -88,7 +88,7 @@ impl<'a> Names<'a> {
 fn add_id<'a>(rows: &mut Vec<Row<'a>>, element: &'a Element) -> Result<(), AllocError>
     ensures { OnOk result (Adds has_id element.now rows.old.items rows.new.items) }
 {
-    let key = id_of(element);
+    let key = id_of(element).as_bytes();
     rows.push(Row { key, element })?;
     Ok(())
 }
@@ -112,6 +112,7 @@ pub(crate) fn add_under<'a>(
     ensures { OnOk result (Adds (λ id _. words.is_id id (option_copied key.entry)) element.now rows.old.items rows.new.items) }
 {
     if let Some(key) = key {
+        let key = key.as_bytes();
         rows.push(Row { key, element })?;
     }
     Ok(())
@@ -126,16 +127,15 @@ fn add_ends<'a>(rows: &mut Vec<Row<'a>>, element: &'a Element) -> Result<(), All
     }
     match ends_of(element) {
         (Some(start), Some(end)) => {
-            rows.push(Row {
-                key: start,
-                element,
-            })?;
+            let key = start.as_bytes();
+            rows.push(Row { key, element })?;
             if start != end {
-                rows.push(Row { key: end, element })?;
+                let key = end.as_bytes();
+                rows.push(Row { key, element })?;
             }
         }
-        (Some(key), None) => rows.push(Row { key, element })?,
-        (None, Some(key)) => rows.push(Row { key, element })?,
+        (Some(key), None) => add_under(rows, Some(key), element)?,
+        (None, Some(key)) => add_under(rows, Some(key), element)?,
         (None, None) => {}
     }
     Ok(())

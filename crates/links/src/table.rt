@@ -13,7 +13,7 @@ use std::cmp::Ordering;
 /// An element under an id.
 #[derive(Clone, Copy)]
 pub(crate) struct Row<'a> {
-    pub(crate) key: &'a Text,
+    pub(crate) key: &'a [u8],
     pub(crate) element: &'a Element,
 }
 
@@ -38,12 +38,12 @@ pub(crate) fn rows_under<'r, 'a>(rows: &'r Vec<Row<'a>>, key: &Text) -> &'r [Row
     requires { IsSortedBy row_less rows.now.items }
     ensures { result.now ≡ filter (is_under key.now) rows.now.items }
 {
-    let (start, end) = ends_under(rows, key);
+    let (start, end) = ends_under(rows, key.as_bytes());
     &rows[start..end]
 }
 
 /// Where the rows under an id start and end.
-fn ends_under(rows: &Vec<Row<'_>>, key: &Text) -> (usize, usize)
+fn ends_under(rows: &Vec<Row<'_>>, key: &[u8]) -> (usize, usize)
     requires { IsSortedBy row_less rows.now.items }
     ensures ordered { result.0 ≤ result.1 }
     ensures within { result.1 ≤ length rows.now.items }

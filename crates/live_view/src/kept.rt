@@ -25,7 +25,7 @@ pub(crate) struct Kept {
     pub(crate) table: LinkTable,
 }
 
-// By hand, so that whoever drops a kept sees one call and not what it holds.
+// By hand, so that whoever drops what is kept sees one call and not its parts.
 impl Drop for Kept {
     fn drop(self) {
         let Kept {

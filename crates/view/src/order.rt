@@ -1,20 +1,28 @@
 //! Elements in scene order.
 
-ghost use Rattle.std.specs.Prelude.{◌≡◌, OnOk, IfOk};
+ghost use Rattle.std.specs.Prelude.{◌≡◌, OnOk};
 ghost use Rattle.std.specs.Ordering.{is_lt};
 ghost use Rattle.elem.specs.Order.{HaveDistinctIds};
 ghost use Rattle.view.specs.Shown.{comes_before, in_scene_order};
+ghost use Rattle.view.specs.Spots.{elements_of};
 
 use elem::Element;
 use std::alloc::AllocError;
 use std::cmp::Ordering;
 
-/// Sorts elements of distinct ids by index, none last, and then by id.
-pub(crate) fn sort(elements: &mut Vec<Element>) -> Result<(), AllocError>
-    requires { HaveDistinctIds elements.old.items }
-    ensures { OnOk result (elements.new.items ≡ in_scene_order elements.old.items) }
+/// A stored element, and where it stands in its store.
+#[derive(Clone, Copy)]
+pub(crate) struct Spot<'a> {
+    pub(crate) at: usize,
+    pub(crate) element: &'a Element,
+}
+
+/// Sorts elements of distinct ids by index, none last, and then by id. The elements themselves stay where they are.
+pub(crate) fn sort(spots: &mut Vec<Spot<'_>>) -> Result<(), AllocError>
+    requires { HaveDistinctIds (elements_of spots.old.items) }
+    ensures { OnOk result (elements_of spots.new.items ≡ in_scene_order (elements_of spots.old.items)) }
 {
-    elements.sort_by(scene_order)
+    spots.sort_by(|spot, other| scene_order(spot.element, other.element))
 }
 
 /// The order of a scene: by index, none last, and then by id.

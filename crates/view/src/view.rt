@@ -1,19 +1,21 @@
 //! The view of a board.
 
-ghost use Rattle.std.specs.Prelude.{◌≡◌, List as Items, true, length, map, Some, All, IfOk, IfSome, IsPermutation, bytes_eq, IsTrue};
+ghost use Rattle.std.specs.Prelude.{◌≡◌, List as Items, true, length, map, Some, All, IfOk, IfSome, IsPermutation, bytes_eq, IsTrue, option_copied};
 ghost use Rattle.frac_keys.specs.Rising.{are_rising};
 ghost use Rattle.elem.specs.ElementValue.{ElementValue};
 ghost use Rattle.elem_store.specs.Updates.{element_of, ids_of};
 ghost use Rattle.view.specs.Settled.{AreSettled};
 ghost use Rattle.elem.specs.Order.{HaveDistinctIds};
+ghost use Rattle.view.specs.Spots.{elements_of};
 ghost use Rattle.view.specs.Shown.{as_stored, is_live, live_elements, placed, shown, HaveKeysOrNone, HaveRisingKeys, IsSceneOrder, bare};
 
 use crate::keys::with_repaired_keys;
-use crate::order;
+use crate::order::{Spot, sort};
 use board_io::List;
 use elem::{Element, same};
 use elem_store::Store;
 use frames_groups::{settle_frames, settle_groups};
+use json_text::Text;
 use links::{settle_arrows, settle_texts};
 use std::alloc::{AllocError, Global};
 use std::marker::Model;
@@ -55,9 +57,9 @@ impl Model for View {
 pub fn view_of(alloc: Global, store: &Store) -> Result<View, AllocError>
     ensures { IfOk result (λ view. view ≡ live_elements store.now.elements) }
 {
-    let live = live_of(alloc, store)?;
-    let shown = shown_of(alloc, live)?;
-    let originals = originals_of(alloc, store, &shown)?;
+    let mut live = live_of(alloc, store)?;
+    let shown = shown_of(alloc, &mut live)?;
+    let originals = originals_of(alloc, store, &live, &shown)?;
     Ok(View { shown, originals })
 }
 
@@ -80,8 +82,8 @@ impl View {
 }
 
 /// The live elements of a store, in the order of their ids.
-fn live_of(alloc: Global, store: &Store) -> Result<List<Element>, AllocError>
-    ensures exact { IfOk result (λ live. live ≡ live_elements store.now.elements) }
+fn live_of(alloc: Global, store: &Store) -> Result<Vec<Spot<'_>>, AllocError>
+    ensures exact { IfOk result (λ live. elements_of live.items ≡ live_elements store.now.elements) }
     ensures ordered { IfOk result (λ _. are_rising (ids_of store.now.elements) ≡ true) }
 {
     store.tell();
@@ -89,11 +91,11 @@ fn live_of(alloc: Global, store: &Store) -> Result<List<Element>, AllocError>
     for i in 0..store.len() {
         if let Some(e) = store.at(i) {
             if is_live(e) {
-                live.push(e.try_clone()?)?;
+                live.push(Spot { at: i, element: e })?;
             }
         }
     }
-    Ok(List::from_vec(live))
+    Ok(live)
 }
 
 /// Whether an element isn't deleted.
@@ -105,10 +107,10 @@ fn is_live(e: &Element) -> bool
 
 /// What is shown of the live elements: they are placed, and then texts, arrows, frames and groups are settled.
 #[tactic(auto, unfolding(crate::specs::Shown::shown, crate::specs::Settled::settled))]
-fn shown_of(alloc: Global, live: List<Element>) -> Result<List<Element>, AllocError>
-    requires { HaveDistinctIds live }
-    ensures exact { IfOk result (λ new. new ≡ shown live) }
-    ensures keys { IfOk result (λ _. HaveKeysOrNone live) }
+fn shown_of(alloc: Global, live: &mut Vec<Spot<'_>>) -> Result<List<Element>, AllocError>
+    requires { HaveDistinctIds (elements_of live.old.items) }
+    ensures exact { IfOk result (λ new. new ≡ shown (elements_of live.old.items)) }
+    ensures keys { IfOk result (λ _. HaveKeysOrNone (elements_of live.old.items)) }
 {
     let elements = placed_of(alloc, live)?;
     let elements = settle_texts(alloc, elements)?;
@@ -117,33 +119,61 @@ fn shown_of(alloc: Global, live: List<Element>) -> Result<List<Element>, AllocEr
     settle_groups(alloc, elements)
 }
 
-/// The elements in scene order, with repaired keys.
-fn placed_of(alloc: Global, live: List<Element>) -> Result<List<Element>, AllocError>
-    requires { HaveDistinctIds live }
-    ensures exact { IfOk result (λ new. new ≡ placed live) }
+/// The elements in scene order, with repaired keys; the spots are then in that order.
+fn placed_of(alloc: Global, live: &mut Vec<Spot<'_>>) -> Result<List<Element>, AllocError>
+    requires { HaveDistinctIds (elements_of live.old.items) }
+    ensures exact { IfOk result (λ new. new ≡ placed (elements_of live.old.items)) }
     ensures distinct { IfOk result HaveDistinctIds }
-    ensures keys { IfOk result (λ _. HaveKeysOrNone live) }
+    ensures keys { IfOk result (λ _. HaveKeysOrNone (elements_of live.old.items)) }
 {
-    let mut elements = live.into_vec();
-    order::sort(&mut elements)?;
+    sort(live)?;
+    let elements = copied(alloc, live)?;
     Ok(List::from_vec(with_repaired_keys(alloc, elements)?))
 }
 
-/// The stored elements of those that are shown otherwise than they are stored, copied.
+/// The elements at the spots, copied.
+fn copied(alloc: Global, spots: &Vec<Spot<'_>>) -> Result<Vec<Element>, AllocError>
+    ensures { IfOk result (λ new. new.items ≡ elements_of spots.now.items) }
+{
+    let mut elements = Vec::with_capacity(alloc, spots.len())?;
+    for spot in spots {
+        elements.push(spot.element.try_clone()?)?;
+    }
+    Ok(elements)
+}
+
+/// The stored elements of those that are shown otherwise than they are stored, copied. The spots tell where each stands.
 fn originals_of(
     alloc: Global,
     store: &Store,
+    spots: &Vec<Spot<'_>>,
     shown: &List<Element>,
 ) -> Result<List<Element>, AllocError>
     ensures { IfOk result (λ originals. All (λ e. IfSome (element_of store.now.elements e.id) (λ stored. as_stored originals e ≡ stored)) shown.now) }
 {
     let mut originals = Vec::new(alloc);
+    let mut spots = spots.iter();
     for e in shown.as_slice() {
-        if let Some(stored) = store.get(&e.id) {
+        if let Some(stored) = stored_at(store, spots.next(), &e.id) {
             if !same(stored, e) {
                 originals.push(stored.try_clone()?)?;
             }
         }
     }
     Ok(List::from_vec(originals))
+}
+
+/// The stored element of this id, which most often stands at the spot.
+fn stored_at<'a>(store: &'a Store, spot: Option<&Spot<'_>>, id: &Text) -> Option<&'a Element>
+    ensures { option_copied result ≡ element_of store.now.elements id.now }
+{
+    store.tell();
+    if let Some(spot) = spot {
+        if let Some(e) = store.at(spot.at) {
+            if e.id == *id {
+                return Some(e);
+            }
+        }
+    }
+    store.get(id)
 }

@@ -1,4 +1,4 @@
-use Rattle.std.proofs.Common.{◌≡◌, true, ◌∷◌, ◌++◌, [], refl, ap, sym, ◌∙◌}
+use Rattle.std.proofs.Common.{◌≡◌, true, ◌∷◌, ◌++◌, [], Some, refl, ap, sym, subst, ◌∙◌}
 use Rattle.std.proofs.lemmas.Bool.{not-false, not-true}
 use Rattle.std.specs.Option.{option_copied}
 use Rattle.links.specs.Names as words
@@ -10,18 +10,20 @@ pub returns-in_ok-push-in-Some-Some-2 : goal.returns-in_ok-push-in-Some-Some-2
 returns-in_ok-push-in-Some-Some-2 c =
     let e = c.args.element.now in
     let arrow : words.is_arrow e.kind ≡ true = cc in
-    let row : Row = record { key = c.in-Some-Some.start; element = c.args.element } in
-    let other : Row = record { key = c.in-Some-Some.end; element = c.args.element } in
+    let start = c.as_bytes-key.result in
+    let end = c.as_bytes-key-then-ne.result in
+    let row : Row = record { key = start; element = c.args.element } in
+    let other : Row = record { key = end; element = c.args.element } in
     Adds-two words.has_end_at e c.args.rows.now.items _ row other refl refl
-    (has_end_at-both e c.in-Some-Some.start.now c.in-Some-Some.end.now arrow (sym c.ends_of.ensures.start ∙ ap option_copied c.in-Some-Some.is-0) (sym c.ends_of.ensures.end_ ∙ ap option_copied c.in-Some-Some.is-1))
-    (bytes_eq-apart c.in-Some-Some.start.now c.in-Some-Some.end.now (not-true _ (sym c.ne.ensures ∙ c.if-ne.true)))
+    (has_end_at-both e start.now end.now arrow (sym c.ends_of.ensures.start ∙ ap option_copied c.in-Some-Some.is-0 ∙ ap Some (sym c.as_bytes-key.ensures.value)) (sym c.ends_of.ensures.end_ ∙ ap option_copied c.in-Some-Some.is-1 ∙ ap Some (sym c.as_bytes-key-then-ne.ensures.value)))
+    (bytes_eq-apart start.now end.now (rw (c.as_bytes-key.ensures.value, c.as_bytes-key-then-ne.ensures.value) (not-true _ (sym c.ne.ensures ∙ c.if-ne.true))))
     (c.in_ok-push-in-Some-Some-2.ensures.items ∙ ap (λ rows. rows ++ other ∷ []) c.in_ok-push-in-Some-Some.ensures.items)
 
 pub returns-else-ne : goal.returns-else-ne
 returns-else-ne c =
     let e = c.args.element.now in
     let arrow : words.is_arrow e.kind ≡ true = cc in
-    let row : Row = record { key = c.in-Some-Some.start; element = c.args.element } in
+    let row : Row = record { key = c.as_bytes-key.result; element = c.args.element } in
     Adds-one words.has_end_at e c.args.rows.now.items _ row refl
-    (has_end_at-same e c.in-Some-Some.start.now c.in-Some-Some.end.now arrow (sym c.ends_of.ensures.start ∙ ap option_copied c.in-Some-Some.is-0) (sym c.ends_of.ensures.end_ ∙ ap option_copied c.in-Some-Some.is-1) (not-false _ (sym c.ne.ensures ∙ c.if-ne.false)))
+    (has_end_at-same e row.key.now c.in-Some-Some.end.now arrow (sym c.ends_of.ensures.start ∙ ap option_copied c.in-Some-Some.is-0 ∙ ap Some (sym c.as_bytes-key.ensures.value)) (sym c.ends_of.ensures.end_ ∙ ap option_copied c.in-Some-Some.is-1) (rw c.as_bytes-key.ensures.value (not-false _ (sym c.ne.ensures ∙ c.if-ne.false))))
     c.in_ok-push-in-Some-Some.ensures.items

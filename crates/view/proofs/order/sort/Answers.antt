@@ -1,15 +1,14 @@
 use Rattle.std.proofs.Common.{rules}
 use Rattle.std.proofs.lemmas.Result.{on_ok_weaker}
-use Rattle.std.proofs.lemmas.List.Sorted.{answers_always}
-use Rattle.view.specs.Shown.{comes_before}
-use Rattle.view.proofs.OrderLaws.{comes_before-order}
+use Rattle.std.proofs.lemmas.List.Sorted.{answers_always, IsPermutation-map}
+use Rattle.view.specs.Spots.{element_at, elements_of}
 use Rattle.view.proofs.InOrder.{in_order-from_sort}
-use Rattle.view.proofs.SceneOrder.{scene_order}
+use Rattle.view.proofs.SceneOrder.{scene_order, spot_before, spot_before-order, sorted-elements}
 use Rattle.view.proofs.order.sort.Goals as goal
 
 pub returns : goal.returns
 returns c =
     on_ok_weaker c.sort_by.result
-    (λ sorted. in_order-from_sort scene_order c.args.elements.now.items c.sort_by.new.self.items c.requires c.sort_by.ensures.permutation
-    (sorted comes_before comes_before-order (answers_always _ _ _ (λ f a r g k. search rules))))
+    (λ sorted. in_order-from_sort scene_order (elements_of c.args.spots.now.items) (elements_of c.sort_by.new.self.items) c.requires (IsPermutation-map element_at _ _ c.sort_by.ensures.permutation)
+    (sorted-elements c.sort_by.new.self.items (sorted spot_before spot_before-order (answers_always _ _ _ (λ f a r g k. search rules)))))
     c.sort_by.ensures.sorted

@@ -1,6 +1,7 @@
 use Rattle.std.proofs.Common.{◌≡◌, take}
 use Rattle.view.specs.Shown.{live_elements}
+use Rattle.view.specs.Spots.{elements_of}
 use Rattle.view.proofs.view.live_of.Given as goal
 
 abbrev pub invariant-loop-i : goal.invariant-loop-i
-invariant-loop-i l = l.live.items ≡ live_elements (take l.i l.store.elements)
+invariant-loop-i l = elements_of l.live.items ≡ live_elements (take l.i l.store.elements)

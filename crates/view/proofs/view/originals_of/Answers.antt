@@ -16,8 +16,8 @@ loop-e-preserved c =
     let e = c.e-item.result in
     let within : i < length all = omega (arith, c.loop-e-test.true, ap length c.as_slice-e-items.ensures) in
     let there : e ≡ get_or all i e = c.e-item.is ∙ ap (λ es. get_or es i e) c.as_slice-e-items.ensures in
-    let found : element_of stored e.id ≡ _ = ap (λ (d : ElementValue). element_of stored d.id) (sym c.e.view_is) ∙ sym c.get.ensures in
-    elim c.match-get.branch [
+    let found : element_of stored e.id ≡ _ = ap (λ (d : ElementValue). element_of stored d.id) (sym c.e.view_is) ∙ sym c.stored_at.ensures in
+    elim c.match-stored_at.branch [
       | in-Some+then-not-same+in_ok-try_clone+in_ok-push w ↦
           let here : element_of stored e.id ≡ Some w.in-Some.stored.now = found ∙ ap option_copied w.in-Some.is in
           rw (w.originals-is, w.in_ok-push.ensures.items, w.in_ok-try_clone.ensures)

@@ -27,4 +27,4 @@ invariant_of-result c =
     })
 
 pub returns : goal.returns
-returns c = as_stored c
+returns c = as_stored c.before
