@@ -3,11 +3,13 @@
 
 mod bytes;
 mod calls;
+mod each;
 mod ends;
 pub mod laws;
 mod links;
 mod list;
 mod memory;
+mod order;
 mod pieces;
 mod script;
 mod standard;
@@ -16,10 +18,12 @@ mod sure;
 mod whole;
 
 pub use bytes::Bytes;
+pub use each::change_each;
 pub use ends::{Sink, Source};
 pub use links::{LinkError, LinkEvent, Links, SendError};
 pub use list::List;
 pub use memory::{MemSink, MemSource};
+pub use order::bytes_order;
 pub use pieces::{Piece, write_pieces};
 pub use script::ScriptLinks;
 pub use standard::{StdSink, StdSource};

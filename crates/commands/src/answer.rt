@@ -17,11 +17,11 @@ use crate::status::{Fault, Refusal};
 use crate::words::Command;
 use board_io::{Bytes, Source};
 use elem_store::Store;
-use scene_file::{Head, Layout, Scene, join, scene_text, state_text};
+use scene_file::{Head, Layout, Scene, elements_text, join, state_text};
 use session::{replay, report_text};
 use session_text::Session;
 use std::alloc::{AllocError, Global};
-use view::view_of;
+use view::shown_elements;
 
 /// The text that the command answers the input with, which is read to its end.
 pub(crate) fn answer<S: Source>(
@@ -73,16 +73,14 @@ fn restored_text(alloc: Global, scene: Scene, layout: Layout) -> Result<Bytes, A
     shown_text(alloc, &head, store, layout)
 }
 
-/// The text of the scene that a board shows, and a newline. The store is dropped as soon as its view is made.
+/// The text of the scene that a board shows, and a newline. The store is dropped as soon as what it shows is made.
 fn shown_text(alloc: Global, head: &Head, store: Store, layout: Layout) -> Result<Bytes, AllocError>
     ensures { IfOk result (λ text. (scenes : Items Scene)
         → IsBoardOf scenes head.now store.elements → IsShownAs scenes layout text) }
 {
-    let view = view_of(alloc, &store)?;
+    let shown = shown_elements(alloc, &store)?;
     drop(store);
-    // For the contract: what is shown is settled.
-    let _shown = view.elements();
-    ended(scene_text(alloc, head, &view, layout)?)
+    ended(elements_text(alloc, head, shown.as_slice(), layout)?)
 }
 
 /// The text of all that a board stores, and a newline.
@@ -98,8 +96,8 @@ fn pictures_text(alloc: Global, head: &Head, store: &Store) -> Result<Bytes, All
     ensures { IfOk result (λ text. (scenes : Items Scene)
         → IsBoardOf scenes head.now store.now.elements → HasPictures scenes text) }
 {
-    let view = view_of(alloc, store)?;
-    let files = head.files.referred(view.elements())?;
+    let shown = shown_elements(alloc, store)?;
+    let files = head.files.referred(shown.as_slice())?;
     picture_lines(alloc, &files)
 }
 

@@ -21,9 +21,9 @@ use crate::words::Service;
 use board_io::{Bytes, Failed, LinkError, Links, Piece, Sink, Source, write_all, write_pieces};
 use elem_store::Store;
 use room_core::{Room, ServeEnd, serve_room};
-use scene_file::{Head, Layout, scene_text};
+use scene_file::{Head, Layout, elements_text};
 use std::alloc::{AllocError, Global};
-use view::view_of;
+use view::shown_elements;
 
 /// Reads the scenes that a room begins with, serves it to its end, and writes the scene of what it stores then.
 pub(crate) fn serve<S: Source, K: Sink, L: Links>(
@@ -99,10 +99,8 @@ fn serve_on<L: Links>(alloc: Global, service: Service, room: &mut Room, links: &
 fn room_text(alloc: Global, head: &Head, room: &Room, layout: Layout) -> Result<Bytes, AllocError>
     ensures { IfOk result (IsSceneOfStored layout head.now room.now.elements) }
 {
-    let view = view_of(alloc, room.store())?;
-    // For the contract: what is shown is settled.
-    let _shown = view.elements();
-    ended(scene_text(alloc, head, &view, layout)?)
+    let shown = shown_elements(alloc, room.store())?;
+    ended(elements_text(alloc, head, shown.as_slice(), layout)?)
 }
 
 /// Notes a room's end, where it is a fault, and gives its status. A fault of the notes changes nothing else.

@@ -38,7 +38,7 @@ const PROTECTED: [&str; 15] = [
 pub(crate) fn is_protected(name: &Text) -> bool
     ensures { result ≡ is_protected name.now }
 {
-    is_one_of(name.as_bytes(), &PROTECTED)
+    is_one_of(name, &PROTECTED)
 }
 
 /// The element, whose member of this name gets the value, or, where that is null, the default.

@@ -10,6 +10,7 @@ ghost use Rattle.json_text.specs.Members.{pairs};
 ghost use Rattle.frac_keys.specs.Keys.{bytes_less};
 ghost use Rattle.elem.specs.Printing.{IsBegun, mark, members_below, members_not_below};
 
+use board_io::bytes_order;
 use json_text::{Member, push_quoted};
 use scene_json::push_member;
 use std::alloc::AllocError;
@@ -48,7 +49,7 @@ fn count_below(members: &[Member], name: &str) -> usize
 pub(crate) fn is_below(member: &Member, name: &str) -> bool
     ensures { result ≡ bytes_less member.now.name name.now }
 {
-    member.name.as_bytes().cmp(name.as_bytes()).is_lt()
+    bytes_order(member.name.as_bytes(), name.as_bytes()).is_lt()
 }
 
 /// Appends members to an object that begins at an offset.

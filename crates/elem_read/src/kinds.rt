@@ -116,16 +116,16 @@ pub(crate) fn others(members: List<Member>, kind: &Kind) -> List<Member>
     ensures { result ≡ filter (λ member. not (facts.is_header kind.now member.name)) members }
 {
     let mut others = members.into_vec();
-    others.retain(|member| !is_header(kind, member.name.as_bytes()));
+    others.retain(|member| !is_header(kind, &member.name));
     others.shrink_to_fit();
     List::from_vec(others)
 }
 
 /// Whether a member of this name is a header member of the kind.
-fn is_header(kind: &Kind, name: &[u8]) -> bool
+fn is_header(kind: &Kind, name: &Text) -> bool
     ensures { result ≡ facts.is_header kind.now name.now }
 {
-    is_one_of(name, &HEADER_NAMES) || is_own(kind, name)
+    is_one_of(name, &HEADER_NAMES) || is_own(kind, name.as_bytes())
 }
 
 /// Whether the kind alone has a header member of this name.

@@ -9,4 +9,5 @@ pub mod Edits
 pub mod Placed
 pub mod Stored
 pub mod Woven
+pub mod Fronts
 mod TellingLaws

@@ -4,6 +4,7 @@
 mod indexed;
 pub mod laws;
 mod places;
+mod shelf;
 mod store;
 mod telling;
 

@@ -1,30 +1,29 @@
 //! Elements as they came, and their places in the order of their ids.
 
-ghost use Rattle.std.specs.Prelude.{◌≡◌, ◌+◌, ◌<◌, ◌≤◌, [], ◌∷◌, ◌++◌, length, insert, slice_index, slice_index_or, slice_set, if◌then◌else◌, IfOk, IfErr, OnOk, IsOk, vec_len, vec_capacity};
+ghost use Rattle.std.specs.Prelude.{◌≡◌, ◌+◌, ◌<◌, ◌≤◌, [], ◌∷◌, ◌++◌, length, insert, slice_index, slice_index_or, slice_set, if◌then◌else◌, IfOk, IfErr, OnOk, IsOk};
 ghost use Rattle.elem.specs.Order as order;
+ghost use Rattle.elem_store.specs.Fronts.{front_of};
 ghost use Rattle.elem_store.specs.Places.{elements_at, order_at, AreInOrder, IsAt, IsGapFor};
 
 use crate::indexed::Places;
+use crate::shelf::{Front, Shelf, front_of};
 use elem::{Element, beats};
 use json_text::Text;
 use std::alloc::AllocError;
 use std::cmp::Ordering;
 
 /// The index of the place at which the element of this id is, or the index that its place would have.
-pub(crate) fn find_place(
-    elements: &Vec<Element>,
-    places: &Places,
-    id: &Text,
-) -> Result<usize, usize>
+pub(crate) fn find_place(elements: &Shelf, places: &Places, id: &Text) -> Result<usize, usize>
     requires { AreInOrder elements.now.items places.now.places }
     ensures found { IfOk result (IsAt (elements_at elements.now.items places.now.places) id.now) }
     ensures absent { IfErr result (IsGapFor (elements_at elements.now.items places.now.places) id.now) }
 {
+    let front = front_of(id.as_bytes());
     let mut low = 0;
     let mut high = places.len();
     while low < high {
         let middle = low + (high - low) / 2;
-        match order_at(elements, places, middle, id) {
+        match order_at(elements, places, middle, id, front) {
             Ordering::Less => low = middle + 1,
             Ordering::Equal => return Ok(middle),
             Ordering::Greater => high = middle,
@@ -33,42 +32,33 @@ pub(crate) fn find_place(
     Err(low)
 }
 
-/// How the id of the element at the place of an index compares with another id.
-fn order_at(elements: &Vec<Element>, places: &Places, i: usize, id: &Text) -> Ordering
-    requires { i < length places.now.places }
+/// How the id of the element at the place of an index compares with another id, whose front this is.
+fn order_at(elements: &Shelf, places: &Places, i: usize, id: &Text, front: Front) -> Ordering
+    requires within { i < length places.now.places }
+    requires front { front ≡ front_of id.now }
     ensures { result ≡ order_at elements.now.items id.now (slice_index places.now.places i) }
 {
-    id_order(elements, places.get(i).unwrap(), id)
-}
-
-/// How the id of the element at a place compares with another id. All places that are searched have an element.
-fn id_order(elements: &Vec<Element>, place: usize, id: &Text) -> Ordering
-    ensures { result ≡ order_at elements.now.items id.now place }
-{
-    match elements.get(place) {
-        Some(e) => e.id.as_bytes().cmp(id.as_bytes()),
-        None => Ordering::Less,
-    }
+    elements.order_at(places.get(i).unwrap(), id, front)
 }
 
 /// Puts the element at this place if it beats the one there, and tells whether it does.
-pub(crate) fn replace_beaten(elements: &mut Vec<Element>, place: usize, e: Element) -> bool
+pub(crate) fn replace_beaten(elements: &mut Shelf, place: usize, e: Element) -> bool
     requires { place < length elements.old.items }
     ensures beaten { result ≡ order.beats e (slice_index_or elements.old.items place e) }
     ensures items { elements.new.items ≡ (if result then slice_set elements.old.items place e else elements.old.items) }
-    ensures room { vec_capacity elements.new ≡ vec_capacity elements.old }
+    ensures room { elements.new.room ≡ elements.old.room }
 {
-    let old = &elements[place];
+    let old = elements.get(place).unwrap();
     let beaten = beats(&e, old);
     if beaten {
-        elements[place] = e;
+        elements.set(place, e);
     }
     beaten
 }
 
 /// Adds the element, its place at this index, or hands it back for want of memory; nothing is then changed.
 pub(crate) fn add(
-    elements: &mut Vec<Element>,
+    elements: &mut Shelf,
     places: &mut Places,
     i: usize,
     e: Element,
@@ -77,16 +67,14 @@ pub(crate) fn add(
     ensures elements { OnOk result (elements.new.items ≡ elements.old.items ++ e ∷ []) }
     ensures places { OnOk result (places.new.places ≡ insert places.old.places i (length elements.old.items)) }
     ensures err { IfErr result (λ back. (elements.new.items ≡ elements.old.items) × (places.new.places ≡ places.old.places) × (back.0 ≡ e)) }
-    ensures room { vec_len elements.old < vec_capacity elements.old → 0 < places.old.spare → IsOk result }
-    ensures kept { (vec_capacity elements.old ≤ vec_capacity elements.new) × (places.old.spare ≤ places.new.spare + 1) }
+    ensures room { length elements.old.items < elements.old.room → 0 < places.old.spare → IsOk result }
+    ensures kept { (elements.old.room ≤ elements.new.room) × (places.old.spare ≤ places.new.spare + 1) }
 {
     if let Err(error) = places.reserve(1) {
         return Err((e, error));
     }
     let place = elements.len();
-    if let Err(failed) = elements.push(e) {
-        return Err((failed.value, AllocError));
-    }
+    elements.push(e)?;
     match places.insert(i, place) {
         Ok(()) => Ok(()),
         Err(_) => unreachable!(),

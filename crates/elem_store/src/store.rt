@@ -8,6 +8,7 @@ ghost use Rattle.elem_store.specs.Updates.{AreStored, HasTaken, element_of, ids_
 
 use crate::indexed::Places;
 use crate::places::{add, find_place, replace_beaten};
+use crate::shelf::Shelf;
 use crate::telling::tell;
 use board_io::List;
 use elem::Element;
@@ -20,7 +21,7 @@ use std::marker::Model;
 /// They are kept as they came, beside their places in the order of their ids: a new element moves places alone, and of
 /// those few.
 pub struct Store {
-    elements: Vec<Element>,
+    elements: Shelf,
     places: Places,
 }
 
@@ -35,7 +36,7 @@ impl Drop for Store {
 }
 
 impl Model for Store {
-    ghost use Rattle.std.specs.Prelude.{vec_capacity, length};
+    ghost use Rattle.std.specs.Prelude.{length};
     ghost use Rattle.elem_store.specs.Places.{elements_at, spare_in, IsKept};
     ghost use Rattle.elem_store.specs.Stock.{Stock};
 
@@ -43,7 +44,7 @@ impl Model for Store {
 
     ghost view = { λ s. record {
       elements = elements_at s.elements.items s.places.places;
-      spare = spare_in (vec_capacity s.elements) (length s.places.places) s.places.spare;
+      spare = spare_in s.elements.room (length s.places.places) s.places.spare;
     } };
 
     ghost invariant = { λ s. IsKept s.elements.items s.places.places };
@@ -55,7 +56,7 @@ impl Store {
         ensures { result.elements ≡ [] }
     {
         Store {
-            elements: Vec::new(alloc),
+            elements: Shelf::new(alloc),
             places: Places::new(alloc),
         }
     }
@@ -150,7 +151,7 @@ impl Store {
         ensures element { option_copied result ≡ slice_get self.now.elements i }
     {
         let place = self.places.get(i)?;
-        Some(&self.elements[place])
+        self.elements.get(place)
     }
 
     /// Tells what a store keeps, for contracts: the ids rise, and the elements are elements. It does nothing else.

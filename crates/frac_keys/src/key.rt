@@ -4,6 +4,7 @@ ghost use Rattle.std.specs.Prelude.{◌≡◌, IfOk, IsFalse, IsTrue, if◌then�
 ghost use Rattle.frac_keys.specs.Keys as keys;
 
 use crate::parts::is_key;
+use board_io::bytes_order;
 use std::alloc::{AllocError, Global};
 use std::cmp::Ordering;
 use std::marker::Model;
@@ -112,6 +113,6 @@ impl Ord for Key {
     ghost matches_eq = { texts_ties };
 
     fn cmp(&self, other: &Key) -> Ordering {
-        self.as_bytes().cmp(other.as_bytes())
+        bytes_order(self.as_bytes(), other.as_bytes())
     }
 }

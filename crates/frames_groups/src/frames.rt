@@ -20,13 +20,10 @@ pub fn settle_frames(alloc: Global, list: List<Element>) -> Result<List<Element>
     ensures others { IfOk result (λ settled. map without_frame settled ≡ map without_frame list) }
     ensures again { IfOk result (λ settled. frames_settled settled ≡ settled) }
 {
-    let elements = list.into_vec();
+    let mut elements = list.into_vec();
     let frames = frames_of(alloc, &elements)?;
-    let settled = elements
-        .into_iter()
-        .map(|e| framed(&frames, e))
-        .collect(alloc)?;
-    Ok(List::from_vec(settled))
+    settle_each(&frames, &mut elements);
+    Ok(List::from_vec(elements))
 }
 
 /// The ids of the frames among the elements.
@@ -49,14 +46,21 @@ pub fn is_frame(e: &Element) -> bool
     matches!(e.kind, Kind::Frame | Kind::Magicframe)
 }
 
-/// The element, its frame name gone if that isn't kept.
-fn framed(frames: &BTreeSet<Text>, e: Element) -> Element
-    ensures { result ≡ framed (contains (slice_cmp nat_cmp) frames.now) e }
+/// Takes from each element its frame name, if that isn't kept.
+fn settle_each(frames: &BTreeSet<Text>, elements: &mut Vec<Element>)
+    ensures { elements.new.items ≡ map (framed (contains (slice_cmp nat_cmp) frames.now)) elements.old.items }
 {
-    if keeps_frame(frames, &e) {
-        e
-    } else {
-        without_frame(e)
+    for e in elements.iter_mut() {
+        settle(frames, e);
+    }
+}
+
+/// Takes from an element its frame name, if that isn't kept.
+fn settle(frames: &BTreeSet<Text>, e: &mut Element)
+    ensures { e.new ≡ framed (contains (slice_cmp nat_cmp) frames.now) e.old }
+{
+    if !keeps_frame(frames, e) {
+        e.frame = None;
     }
 }
 
@@ -68,12 +72,4 @@ fn keeps_frame(frames: &BTreeSet<Text>, e: &Element) -> bool
         Some(frame) => !is_frame(e) && frames.contains(frame),
         None => false,
     }
-}
-
-/// The element without a frame name.
-fn without_frame(mut e: Element) -> Element
-    ensures { result ≡ without_frame e }
-{
-    e.frame = None;
-    e
 }

@@ -1,8 +1,8 @@
 //! Groups.
 
-ghost use Rattle.std.specs.Prelude.{◌≡◌, map, IfOk};
+ghost use Rattle.std.specs.Prelude.{◌≡◌, map, IfOk, OnOk};
 ghost use Rattle.first_texts.specs.FirstOccurrences as first;
-ghost use Rattle.frames_groups.specs.Groups.{with_groups, grouped, groups_settled, without_groups, HaveDistinctGroups};
+ghost use Rattle.frames_groups.specs.Groups.{grouped, groups_settled, without_groups, HaveDistinctGroups};
 
 use board_io::List;
 use elem::Element;
@@ -17,27 +17,30 @@ pub fn settle_groups(alloc: Global, list: List<Element>) -> Result<List<Element>
     ensures others { IfOk result (λ settled. map without_groups settled ≡ map without_groups list) }
     ensures again { IfOk result (λ settled. groups_settled settled ≡ settled) }
 {
-    let settled = all_grouped(alloc, list.into_vec())?;
-    Ok(List::from_vec(settled))
+    let mut elements = list.into_vec();
+    settle_each(alloc, &mut elements)?;
+    Ok(List::from_vec(elements))
 }
 
-/// The elements, each of their groups once.
-fn all_grouped(alloc: Global, elements: Vec<Element>) -> Result<Vec<Element>, AllocError>
-    ensures { IfOk result (λ settled. settled.items ≡ map grouped elements.items) }
+/// Leaves each element each of its groups once.
+fn settle_each(alloc: Global, elements: &mut Vec<Element>) -> Result<(), AllocError>
+    ensures { OnOk result (elements.new.items ≡ map grouped elements.old.items) }
 {
-    let mut settled = Vec::with_capacity(alloc, elements.len())?;
-    for e in elements {
-        settled.push(grouped(alloc, e)?)?;
+    for e in elements.iter_mut() {
+        settle(alloc, e)?;
     }
-    Ok(settled)
+    Ok(())
 }
 
-/// The element, each of its groups once.
-fn grouped(alloc: Global, e: Element) -> Result<Element, AllocError>
-    ensures { IfOk result (λ new. new ≡ grouped e) }
+/// Leaves an element each of its groups once. One group or none can stay as it is.
+fn settle(alloc: Global, e: &mut Element) -> Result<(), AllocError>
+    ensures { OnOk result (e.new ≡ grouped e.old) }
 {
-    let groups = groups_once(alloc, &e)?;
-    Ok(with_groups(e, groups))
+    if e.groups.as_slice().len() <= 1 {
+        return Ok(());
+    }
+    e.groups = groups_once(alloc, e)?;
+    Ok(())
 }
 
 /// The groups of an element, each once.
@@ -45,12 +48,4 @@ fn groups_once(alloc: Global, e: &Element) -> Result<List<Text>, AllocError>
     ensures { IfOk result (λ groups. groups ≡ first.first_texts e.now.groups) }
 {
     Ok(List::from_vec(first_occurrences(alloc, e.groups.as_slice())?))
-}
-
-/// The element in these groups.
-fn with_groups(mut e: Element, groups: List<Text>) -> Element
-    ensures { result ≡ with_groups e groups }
-{
-    e.groups = groups;
-    e
 }

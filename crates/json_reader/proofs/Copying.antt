@@ -1,39 +1,27 @@
 -- The writer's bytes that aren't copied yet.
-use Rattle.std.proofs.Common.{◌≡◌, Some, None, ap₂, take-append-drop, drop-drop, ℕ, ◌+◌, ◌-◌, ◌<◌, ◌≤◌, List, [], ◌∷◌, ◌++◌, Bool, true, false, length, take, drop, get_or, refl, sym, ap, subst, ◌∙◌, arith, append_assoc, append-nil}
+use Rattle.std.proofs.Common.{◌≡◌, ap₂, take-append-drop, drop-drop, ℕ, ◌+◌, ◌-◌, ◌<◌, ◌≤◌, List, [], ◌∷◌, ◌++◌, Bool, true, false, length, take, drop, get_or, refl, sym, ap, subst, ◌∙◌, arith, append_assoc, append-nil}
 use Rattle.json_text.specs.Characters.{is_space, quote}
 use Rattle.std.proofs.lemmas.Bool.{ne_eqb}
 use Rattle.std.proofs.lemmas.List.{same_from_push}
-use Rattle.json_text.specs.Walk.{outside, inside, place_of, Quoted}
+use Rattle.json_text.specs.Walk.{inside, Quoted}
 use Rattle.json_text.specs.Tree.{string_spelling}
 use Rattle.json_reader.specs.Drafts.{Drafted, fresh, grown, closed}
-use Rattle.json_reader.specs.Writing.{deed, Writing, AreAlike, ground_of, Ready, stretch, writing_at, copied, Fits, HasPut, Can}
+use Rattle.json_reader.specs.Writing.{between, deed, AreAlike, ground_of, Ready, stretch, writing_at, copied, Fits, HasPut, Can}
 use Rattle.json_reader.specs.declared.staying.Ground.TheVariants as ground
-use Rattle.json_reader.specs.declared.writing.Deed.{Deed}
-use Rattle.json_reader.specs.declared.writing.Deed.TheVariants.{Keep, Slash, Finish, Open, Shut, Part, Deepen, Rise, Push}
+use Rattle.json_reader.specs.declared.writing.Deed.TheVariants.{Finish, Open, Shut, Deepen, Rise, Push}
 use Rattle.json_reader.specs.declared.writing.Writer.{Writer}
 use Rattle.json_reader.proofs.OffsetRuns.{one_more, stretch_more}
 use Rattle.json_reader.proofs.QuotedNames.{quoted-once}
-use Rattle.json_reader.proofs.Ready.{stretch-quoted, stretch-between, stretch-dropped}
+use Rattle.json_reader.proofs.Ready.{stretch-quoted, stretch-appended, stretch-dropped}
 
-pub deed-keep : (level b : ℕ) → (b ≡ 34 → ⊥) → (b ≡ 92 → ⊥) → deed (inside false) level b ≡ Keep
-deed-keep level b quote slash = rw (ne_eqb b 34 quote, ne_eqb b 92 slash) refl
-
-pub put-as : (d e : Deed) (bytes : List ℕ) (next : ℕ) (w new : Writer) → d ≡ e → HasPut e bytes next w new → HasPut d bytes next w new
-put-as d e bytes next w new same put = subst (λ x. HasPut x bytes next w new) (sym same) put
-
-pub stretch-none : (bytes : List ℕ) (k : ℕ) → stretch bytes k k ≡ []
-stretch-none bytes k = let none : k - k ≡ 0 = omega arith in ap (λ n. take n (drop k bytes)) none
+pub stretch_none : (bytes : List ℕ) (k : ℕ) → stretch bytes k k ≡ []
+stretch_none bytes k = let none : k - k ≡ 0 = omega arith in ap (λ n. take n (drop k bytes)) none
 
 pub grown-none : (bytes : List ℕ) (k : ℕ) (d : Drafted) → grown d (stretch bytes k k) ≡ d
-grown-none bytes k d = ap (λ c. let e : Drafted = record d { current = c } in e) (ap (λ x. d.current ++ x) (stretch-none bytes k) ∙ append-nil d.current)
+grown-none bytes k d = ap (λ c. let e : Drafted = record d { current = c } in e) (ap (λ x. d.current ++ x) (stretch_none bytes k) ∙ append-nil d.current)
 
 grown-twice : (d : Drafted) (x y : List ℕ) → grown (grown d x) y ≡ grown d (x ++ y)
 grown-twice d x y = ap (λ c. let e : Drafted = record d { current = c } in e) (append_assoc d.current x y)
-
-outside-same : {e f : Bool} {h k : Drafted} {a b : List Drafted} → e ≡ f → h ≡ k → a ≡ b
-    → (let x : Writing = record { place = outside; escapes = e; string = []; here = h; around = a } in x)
-    ≡ (let y : Writing = record { place = outside; escapes = f; string = []; here = k; around = b } in y)
-outside-same p q r = rw (p, q, r) refl
 
 module _ (bytes : List ℕ) (next : ℕ) (w : Writer) (high : next < length bytes) (fits : Fits next w) where
   abbrev byte : ℕ
@@ -50,14 +38,17 @@ module _ (bytes : List ℕ) (next : ℕ) (w : Writer) (high : next < length byte
     fits-on : (e escapes : Bool) → Fits (next + 1) (record w { escaped = e; escapes = escapes })
     fits-on e escapes = record { from = rw quoted low; to = rw quoted (omega (arith, begun)) }
 
-    pub kept : HasPut Keep bytes next w (record w { escaped = false })
-    kept = record { done = rw (quoted, one_more bytes w.start next begun high) refl; fits = fits-on false w.escapes }
+    abbrev Puts : Writer → Type 0
+    Puts new = HasPut (deed (inside w.escaped) w.here.level byte) bytes next w new
 
-    pub slashed : HasPut Slash bytes next w (record w { escaped = true; escapes = true })
-    slashed = record { done = rw (quoted, one_more bytes w.start next begun high) refl; fits = fits-on true true }
+    pub kept_behind : w.escaped ≡ true → Puts (record w { escaped = false })
+    kept_behind behind = record { done = rw behind (rw (quoted, one_more bytes w.start next begun high) refl); fits = fits-on false w.escapes }
 
-    pub kept-same : w.escaped ≡ false → HasPut Keep bytes next w w
-    kept-same plain = subst (λ e. HasPut Keep bytes next w (record w { escaped = e })) (sym plain) kept
+    pub slashed : w.escaped ≡ false → byte ≡ 92 → Puts (record w { escaped = true; escapes = true })
+    slashed plain slash = record { done = rw (plain, slash) (rw (quoted, one_more bytes w.start next begun high, slash) refl); fits = fits-on true true }
+
+    pub kept_plain : w.escaped ≡ false → (byte ≡ 34 → ⊥) → (byte ≡ 92 → ⊥) → Puts w
+    kept_plain plain other slash = record { done = rw (plain, ne_eqb byte 34 other, ne_eqb byte 92 slash) (rw (quoted, one_more bytes w.start next begun high) refl); fits = fits-on w.escaped w.escapes }
 
     -- the string that ends
     ended : (writing_at bytes next w).string ++ byte ∷ [] ≡ stretch bytes w.start (next + 1)
@@ -69,10 +60,9 @@ module _ (bytes : List ℕ) (next : ℕ) (w : Writer) (high : next < length byte
     pub finished : w.escapes ≡ false → Can Finish (writing_at bytes next w) byte → HasPut Finish bytes next w (record w { quoted = false })
     finished plain can = record {
       done = λ text is.
-          let same : stretch bytes w.start (next + 1) ≡ quote text = sym ended ∙ can.same plain ∙ ap quote (quoted-once can.quoted is) in
-          rw quoted (outside-same plain
-          (ap (grown w.here) (stretch_more bytes w.from w.start low (next + 1) past ∙ ap (λ x. stretch bytes w.from w.start ++ x) same)
-          ∙ sym (grown-twice w.here (stretch bytes w.from w.start) (quote text))) refl);
+          let same : stretch bytes w.start (next + 1) ≡ quote text = sym ended ∙ can.same (rw quoted plain) ∙ ap quote (quoted-once can.quoted is) in
+          rw quoted (ap (λ d. between d w.around.items) (ap (grown w.here) (stretch_more bytes w.from w.start low (next + 1) past ∙ ap (λ x. stretch bytes w.from w.start ++ x) same)
+          ∙ sym (grown-twice w.here (stretch bytes w.from w.start) (quote text))));
       fits = record { from = omega (arith, low, past); to = omega arith };
     }
 
@@ -93,7 +83,7 @@ module _ (bytes : List ℕ) (next : ℕ) (w : Writer) (high : next < length byte
     quoted-anew text same = record {
       done = λ other is.
           let t = same other is in
-          rw quoted (outside-same refl (grown-none bytes (next + 1) _ ∙ ap (λ x. grown (grown w.here (stretch bytes w.from w.start)) (quote x)) t) refl);
+          rw quoted (ap (λ d. between d w.around.items) (grown-none bytes (next + 1) _ ∙ ap (λ x. grown (grown w.here (stretch bytes w.from w.start)) (quote x)) t));
       fits = record { from = omega arith; to = omega arith };
     }
 
@@ -119,69 +109,59 @@ module _ (bytes : List ℕ) (next : ℕ) (w : Writer) (high : next < length byte
     risen = record { done = rw (apart, on, ← append_assoc w.here.current (stretch bytes w.from next) (byte ∷ [])) refl; fits = fits-next _ }
 
     alone : stretch bytes next (next + 1) ≡ byte ∷ []
-    alone = one_more bytes next next (omega arith) high ∙ ap (λ x. x ++ byte ∷ []) (stretch-none bytes next)
+    alone = one_more bytes next next (omega arith) high ∙ ap (λ x. x ++ byte ∷ []) (stretch_none bytes next)
 
     abbrev here-now : Drafted
     here-now = grown w.here (stretch bytes w.from next)
 
-    pub opened : (new : Writer) → new.quoted ≡ false → new.escapes ≡ w.escapes → new.from ≡ next + 1 → new.here ≡ fresh
+    pub opened : (new : Writer) → new.quoted ≡ false → new.from ≡ next + 1 → new.here ≡ fresh
         → new.around.items ≡ w.around.items ++ grown w.here (stretch bytes w.from (next + 1)) ∷ [] → HasPut Open bytes next w new
-    opened new q e f h a = record {
-      done = rw (q, apart, f) (outside-same e (ap (λ d. grown d (stretch bytes (next + 1) (next + 1))) h ∙ grown-none bytes (next + 1) fresh)
+    opened new q f h a = record {
+      done = rw (q, apart, f) (ap₂ between (ap (λ d. grown d (stretch bytes (next + 1) (next + 1))) h ∙ grown-none bytes (next + 1) fresh)
           (a ∙ ap (λ x. w.around.items ++ grown w.here x ∷ []) on ∙ ap (λ d. w.around.items ++ d ∷ []) (sym (grown-twice w.here (stretch bytes w.from next) (byte ∷ [])))));
       fits = record { from = rw (q, f) (omega arith); to = rw q (omega arith) };
     }
 
-    pub shut : (new : Writer) (before : List Drafted) (outer : Drafted) → new.quoted ≡ false → new.escapes ≡ w.escapes → new.from ≡ next → new.around.items ≡ before
+    pub shut : (new : Writer) (before : List Drafted) (outer : Drafted) → new.quoted ≡ false → new.from ≡ next → new.around.items ≡ before
         → w.around.items ≡ before ++ outer ∷ [] → new.here ≡ grown outer (closed here-now) → HasPut Shut bytes next w new
-    shut new before outer q e f a is h = record {
+    shut new before outer q f a is h = record {
       done = λ others o same.
           let both = same_from_push before others outer o (sym is ∙ same) in
-          rw (q, apart, f) (outside-same e (ap₂ grown h alone ∙ ap (λ d. grown (grown d (closed here-now)) (byte ∷ [])) both.1) (a ∙ both.0));
-      fits = record { from = rw (q, f) (omega arith); to = rw q (omega arith) };
-    }
-
-    pub parted : (new : Writer) → new.quoted ≡ false → new.escapes ≡ w.escapes → new.from ≡ next + 1 → new.around.items ≡ w.around.items
-        → ((name : List ℕ) → w.here.name ≡ Some name → new.here ≡ record here-now { members = w.here.members ++ (name, here-now.current) ∷ []; name = None; current = [] })
-        → HasPut Part bytes next w new
-    parted new q e f a h = record {
-      done = λ name is. rw (q, apart, f) (outside-same e (ap (λ d. grown d (stretch bytes (next + 1) (next + 1))) (h name is) ∙ grown-none bytes (next + 1) _) a);
+          rw (q, apart, f) (ap₂ between (ap₂ grown h alone ∙ ap (λ d. grown (grown d (closed here-now)) (byte ∷ [])) both.1) (a ∙ both.0));
       fits = record { from = rw (q, f) (omega arith); to = rw q (omega arith) };
     }
 
 -- ---- a stretch
 module _ (bytes : List ℕ) (at end : ℕ) (w : Writer) (up : at ≤ end) (high : end ≤ length bytes) (fits : Fits at w)
     (alike : AreAlike (ground_of w) (stretch bytes at end)) (text more : List ℕ) (ready : Ready text (writing_at bytes at w) (stretch bytes at end ++ more)) where
-  abbrev ReadyFor : Bool → Bool → Drafted → List ℕ → List ℕ → Type 0
-  ReadyFor quoted escaped here string rest =
-      Ready text (let x : Writing = record { place = place_of quoted escaped; escapes = w.escapes; string = string; here = here; around = w.around.items } in x) rest
-
   -- the first byte of the stretch
   first : at < end → stretch bytes at end ≡ get_or bytes at 0 ∷ stretch bytes (at + 1) end
   first some =
       stretch_more bytes at (at + 1) (omega arith) end (omega arith)
-      ∙ ap (λ x. x ++ stretch bytes (at + 1) end) (one_more bytes at at (omega arith) (omega arith) ∙ ap (λ x. x ++ get_or bytes at 0 ∷ []) (stretch-none bytes at))
+      ∙ ap (λ x. x ++ stretch bytes (at + 1) end) (one_more bytes at at (omega arith) (omega arith) ∙ ap (λ x. x ++ get_or bytes at 0 ∷ []) (stretch_none bytes at))
 
-  pub stretch-in : at < end → w.quoted ≡ true → Ready text (writing_at bytes end (record w { escaped = false })) more
-  stretch-in some quoted =
+  pub stretch_in : at < end → w.quoted ≡ true → Ready text (writing_at bytes end (record w { escaped = false })) more
+  stretch_in some quoted =
       let begun : w.start ≤ at = rw quoted at fits.to in
       let are : AreAlike ground.Quoted (stretch bytes at end) = rw quoted at alike in
-      let now = stretch-quoted text (stretch bytes at end) more (stretch bytes w.start at) w.escaped w.escapes (grown w.here (stretch bytes w.from w.start)) w.around.items are
-      (get_or bytes at 0) (stretch bytes (at + 1) end) (first some) (rw quoted at ready) in
+      let now = stretch-quoted text (stretch bytes at end) more (grown w.here (stretch bytes w.from w.start)) w.around.items (get_or bytes at 0) (stretch bytes (at + 1) end) (first some)
+      (stretch bytes w.start at) w.escaped w.escapes are (rw quoted at ready) in
       rw (quoted, stretch_more bytes w.start at begun end up) now
 
   module _ (some : at < end) (apart : w.quoted ≡ false) where
     are-between : AreAlike ground.Between (stretch bytes at end)
     are-between = rw apart at alike
 
-    pub stretch-appended : is_space (get_or bytes at 0) ≡ false → Ready text (writing_at bytes end w) more
-    stretch-appended solid =
-        let low : w.from ≤ at = rw apart at fits.from in
-        let now = stretch-between text (stretch bytes at end) more [] w.escapes (grown w.here (stretch bytes w.from at)) w.around.items are-between (get_or bytes at 0) (stretch bytes (at + 1) end) (first some) solid (rw apart at ready) in
-        rw (apart, stretch_more bytes w.from at low end up) (subst (λ d. ReadyFor false false d [] more) (grown-twice w.here (stretch bytes w.from at) (stretch bytes at end)) now)
+    abbrev here-then : Drafted
+    here-then = grown w.here (stretch bytes w.from at)
 
-    pub stretch-skipped : is_space (get_or bytes at 0) ≡ true → Ready text (writing_at bytes end (record (copied bytes at w) { from = end })) more
-    stretch-skipped space =
-        let now = stretch-dropped text (stretch bytes at end) more [] w.escapes (grown w.here (stretch bytes w.from at)) w.around.items are-between
-        (λ b others e. let one : get_or bytes at 0 ≡ b = (let f = first some in cc) in subst (λ x. is_space x ≡ true) one space) (rw apart at ready) in
-        rw apart (subst (λ d. ReadyFor false false d [] more) (sym (grown-none bytes end (grown w.here (stretch bytes w.from at)))) now)
+    pub stretch_on : is_space (get_or bytes at 0) ≡ false → Ready text (writing_at bytes end w) more
+    stretch_on solid =
+        let low : w.from ≤ at = rw apart at fits.from in
+        let now = stretch-appended text (stretch bytes at end) more here-then w.around.items (get_or bytes at 0) (stretch bytes (at + 1) end) (first some) are-between solid (rw apart at ready) in
+        rw (apart, stretch_more bytes w.from at low end up) (subst (λ d. Ready text (between d w.around.items) more) (grown-twice w.here (stretch bytes w.from at) (stretch bytes at end)) now)
+
+    pub stretch_skipped : is_space (get_or bytes at 0) ≡ true → Ready text (writing_at bytes end (record (copied bytes at w) { from = end })) more
+    stretch_skipped space =
+        let now = stretch-dropped text (stretch bytes at end) more here-then w.around.items (get_or bytes at 0) (stretch bytes (at + 1) end) (first some) are-between space (rw apart at ready) in
+        rw apart (subst (λ d. Ready text (between d w.around.items) more) (sym (grown-none bytes end here-then)) now)

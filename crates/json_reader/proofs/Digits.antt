@@ -1,39 +1,32 @@
 -- Open brackets as the digits of a number in base 2.
-use Rattle.std.proofs.Common.{◌≡◌, ℕ, zero, suc, ◌+◌, ◌-◌, ◌*◌, ◌/◌, ◌%◌, ◌^◌, ◌<◌, ◌≤◌, ◌∷◌, Some, length, drop, refl, ap, arith}
-use Rattle.std.proofs.lemmas.Bool.{ne_eqb}
+use Rattle.std.proofs.Common.{◌≡◌, ℕ, zero, suc, ◌+◌, ◌-◌, ◌*◌, ◌/◌, ◌%◌, ◌^◌, ◌<◌, ◌≤◌, ◌∷◌, ◌==◌, if◌then◌else◌, Some, length, drop, refl, ap, arith}
 use native.Mathlib.Nat.{pow-suc, pow-le-pow_right}
 use Rattle.json_reader.specs.Brackets.{kinds_of}
 use Rattle.json_reader.specs.Machine.{top}
+use Rattle.json_reader.specs.declared.brackets.Bracket.{Bracket}
 use Rattle.json_reader.specs.declared.brackets.Bracket.TheVariants.{Square, Curly}
 
 pub kinds-count : (n d : ℕ) → length (kinds_of n d) ≡ n
 kinds-count zero d = refl
 kinds-count (suc n) d = ap suc (kinds-count n (d / 2))
 
-pub top-square : (n d : ℕ) → (n ≡ 0 → ⊥) → d % 2 ≡ 0 → top (kinds_of n d) ≡ Some Square
-top-square zero d some even = absurd (some refl)
-top-square (suc n) d some even = rw even refl
+-- the kind of bracket that a digit stands for
+abbrev pub kind_of : ℕ → Bracket
+kind_of digit = if digit == 0 then Square else Curly
 
-pub top-curly : (n d : ℕ) → (n ≡ 0 → ⊥) → (d % 2 ≡ 0 → ⊥) → top (kinds_of n d) ≡ Some Curly
-top-curly zero d some odd = absurd (some refl)
-top-curly (suc n) d some odd = rw (ne_eqb (d % 2) 0 odd) refl
+pub top-kind : (n d : ℕ) → (n ≡ 0 → ⊥) → top (kinds_of n d) ≡ Some (kind_of (d % 2))
+top-kind zero d some = absurd (some refl)
+top-kind (suc n) d some = refl
 
 pub fewer : (n d : ℕ) → kinds_of (n - 1) (d / 2) ≡ drop 1 (kinds_of n d)
 fewer zero d = refl
 fewer (suc n) d = let one : suc n - 1 ≡ n = omega arith in rw one refl
 
-pub one-square : (n d : ℕ) → kinds_of (n + 1) (d * 2 + 0) ≡ Square ∷ kinds_of n d
-one-square n d =
+pub pushed : (n d digit : ℕ) → digit ≤ 1 → kinds_of (n + 1) (d * 2 + digit) ≡ kind_of digit ∷ kinds_of n d
+pushed n d digit bit =
     let one : n + 1 ≡ suc n = omega arith in
-    let half : (d * 2 + 0) / 2 ≡ d = omega arith in
-    let last : (d * 2 + 0) % 2 ≡ 0 = omega arith in
-    rw (one, half, last) refl
-
-pub one-curly : (n d : ℕ) → kinds_of (n + 1) (d * 2 + 1) ≡ Curly ∷ kinds_of n d
-one-curly n d =
-    let one : n + 1 ≡ suc n = omega arith in
-    let half : (d * 2 + 1) / 2 ≡ d = omega arith in
-    let last : (d * 2 + 1) % 2 ≡ 1 = omega arith in
+    let half : (d * 2 + digit) / 2 ≡ d = omega arith in
+    let last : (d * 2 + digit) % 2 ≡ digit = omega arith in
     rw (one, half, last) refl
 
 -- a digit more

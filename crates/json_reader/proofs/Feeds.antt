@@ -1,17 +1,20 @@
 -- Where a feed stands in a stream, and what the machine's run over a piece says there.
-use Rattle.std.proofs.Common.{◌≡◌, ℕ, suc, ◌+◌, ◌-◌, ◌<◌, ◌≤◌, List, [], ◌∷◌, ◌++◌, length, take, drop, get_or, true, false, Some, None, refl, sym, ap, ap₂, subst, ◌∙◌, inl, inr, arith, append_assoc, append-nil, length-append, length-drop, take-append-drop, get_or-drop}
+use Rattle.std.proofs.Common.{◌≡◌, ℕ, suc, ◌+◌, ◌-◌, ◌<◌, ◌≤◌, List, [], ◌∷◌, ◌++◌, length, take, drop, get_or, true, false, Some, None, refl, sym, ap, ap₂, subst, subst₂, ◌∙◌, inl, inr, arith, append_assoc, append-nil, length-append, length-drop, take-append-drop, get_or-drop}
 use Rattle.std.specs.Prelude.{slice_get}
 use Rattle.std.specs.List.{prefix_len}
-use Rattle.std.proofs.lemmas.Bool.{cases_Bool, false≢true, false_from_ne_true}
-use Rattle.std.proofs.lemmas.List.{append_cancel_right, take_all, drop-append-le, drop-drop, take-append-le, get_or-append-add}
+use Rattle.std.proofs.lemmas.Bool.{cases_Bool, and_parts, false≢true, false_from_ne_true}
+use Rattle.std.proofs.lemmas.List.{append_cancel_right, take_all, drop-append-le, drop-drop}
+use Rattle.std.proofs.lemmas.List.Sums.{prefix_len-le-length}
+use Rattle.std.proofs.lemmas.Grind.{common_steps}
 use Rattle.std.proofs.lemmas.Option.{slice_get-get_or}
-use Rattle.std.proofs.Math.ListN.{get_or-append}
-use Rattle.std.proofs.Math.Seq.{take-append_seam, drop-append_seam, take-append-add, drop-append-add, get_or-append_seam}
+use Rattle.std.proofs.Math.Seq.{take-append_seam, drop-append_seam, drop-append-add, get_or-append_seam}
 use Rattle.json_text.specs.Characters.{is_space, is_blank}
 use Rattle.json_text.specs.Value.{Stands}
 use Rattle.json_reader.specs.Faults.{IsFirstFault}
 use Rattle.json_reader.specs.Feeding.{behind_space, Feeding, IsAt, IsUnderWay}
 use Rattle.json_reader.specs.Runs.{run, start, is_over, EndsBefore}
+use Rattle.json_reader.specs.Writing.{stretch, EndsIn, IsRefusedIn}
+use Rattle.json_reader.specs.declared.fault.JsonFault.{JsonFault}
 use Rattle.json_reader.specs.declared.brackets.Bracket.{Bracket}
 use Rattle.json_reader.specs.declared.number.Part.TheVariants.{Zero, Whole, Fraction, Exponent}
 use Rattle.json_reader.specs.declared.sequence.Tail.TheVariants.{One}
@@ -21,33 +24,35 @@ use Rattle.json_reader.specs.declared.machine.Mode.{Mode}
 use Rattle.json_reader.specs.declared.machine.Mode.TheVariants.{After, Fresh, Number, Quoted, Word}
 use Rattle.json_reader.specs.declared.machine.Mode.TheVariants as mode
 use Rattle.json_reader.specs.declared.fault.JsonFault.TheVariants.{Syntax}
-use Rattle.json_reader.specs.Machine.{Outcome, state, ended, refused, top, step, fault_of}
-use Rattle.json_text.proofs.Reading.{Stands-once}
-use Rattle.json_reader.proofs.Machines.{run-append, Reaches}
-use Rattle.json_reader.proofs.Ends.{take_one, over, ended_stands}
-use Rattle.json_reader.proofs.Onward.{onward}
+use Rattle.json_reader.specs.Machine.{state, ended, refused, top, step, fault_of}
+use Rattle.json_text.proofs.Reading.{Stands-once, tree-Head}
+use Rattle.json_reader.proofs.Machines.{Reaches}
+use Rattle.json_reader.proofs.ValueRuns.{over, ended_stands, done_stands}
+use Rattle.json_reader.proofs.Steps.{onward}
 use Rattle.json_reader.proofs.ValueRuns.{runs_begins, runs_onward, stands_start}
 use Rattle.json_reader.proofs.OffsetRuns.{refused_fault, undone_fault}
 
--- ---- a run over a piece
-module _ (from : Outcome) (bytes : List ℕ) (i : ℕ) (m : Mode) (st : List Bracket) (is : run 128 from (take i bytes) ≡ state m st) where
-  pub run_on : (o : Outcome) → i < length bytes → step 128 m st (get_or bytes i 0) ≡ o → run 128 from (take (i + 1) bytes) ≡ o
-  run_on o high e =
-      let one : suc i ≡ i + 1 = omega arith in
-      ap (λ k. run 128 from (take k bytes)) (sym one) ∙ ap (run 128 from) (take_one bytes i (get_or bytes i 0) (slice_get-get_or bytes i 0 high))
-      ∙ run-append 128 from (take i bytes) (get_or bytes i 0 ∷ []) ∙ ap (λ o'. run 128 o' (get_or bytes i 0 ∷ [])) is ∙ e
-
 -- ---- white space before a value
-no-space : (b : ℕ) (bytes : List ℕ) → is_space b ≡ false → behind_space (b ∷ bytes) ≡ b ∷ bytes
-no-space b bytes e = rw e refl
+run-blank : (blank bytes : List ℕ) → is_blank blank ≡ true → run 128 start (blank ++ bytes) ≡ run 128 start bytes
+run-blank [] bytes space = refl
+run-blank (b ∷ blank) bytes space =
+    let both = and_parts (is_space b) (is_blank blank) space in
+    let stays : step 128 mode.Value [] b ≡ start = rw both.0 refl in
+    ap (λ o. run 128 o (blank ++ bytes)) stays ∙ run-blank blank bytes both.1
 
-pub run-behind : (bytes : List ℕ) → run 128 start bytes ≡ run 128 start (behind_space bytes)
-run-behind [] = refl
-run-behind (b ∷ bytes) = elim (cases_Bool (is_space b)) [ inl e ↦ rw e (run-behind bytes) | inr e ↦ ap (run 128 start) (sym (no-space b bytes e)) ]
+spaced : (bytes : List ℕ) → (blank : List ℕ) × (is_blank blank ≡ true) × (bytes ≡ blank ++ behind_space bytes)
+spaced [] = ([], refl, refl)
+spaced (b ∷ bytes) = elim (cases_Bool (is_space b)) [
+  | inl e ↦ let s = spaced bytes in (b ∷ s.0, rw e s.1, rw e (ap (λ xs. b ∷ xs) s.2))
+  | inr e ↦ ([], refl, rw e refl)
+]
+
+run-behind : (bytes : List ℕ) → run 128 start bytes ≡ run 128 start (behind_space bytes)
+run-behind bytes = let s = spaced bytes in ap (run 128 start) s.2 ∙ run-blank s.0 (behind_space bytes) s.1
 
 pub behind-append : (xs ys : List ℕ) → behind_space (xs ++ ys) ≡ behind_space (behind_space xs ++ ys)
 behind-append [] ys = refl
-behind-append (b ∷ xs) ys = elim (cases_Bool (is_space b)) [ inl e ↦ rw e (behind-append xs ys) | inr e ↦ ap (λ (zs : List ℕ). behind_space (zs ++ ys)) (sym (no-space b xs e)) ]
+behind-append (b ∷ xs) ys = elim (cases_Bool (is_space b)) [ inl e ↦ rw e (behind-append xs ys) | inr e ↦ rw (e, e) refl ]
 
 pub behind-drop : (bytes : List ℕ) → behind_space bytes ≡ drop (prefix_len is_space bytes) bytes
 behind-drop [] = refl
@@ -56,44 +61,31 @@ behind-drop (b ∷ bytes) = elim (cases_Bool (is_space b)) [
   | inr e ↦ rw e refl
 ]
 
--- what begins with no white space goes on so
-pub behind-more : (xs ys : List ℕ) (b : ℕ) (more : List ℕ) → behind_space xs ≡ xs → xs ≡ b ∷ more → behind_space (xs ++ ys) ≡ xs ++ ys
-behind-more xs ys b more begun is = elim (cases_Bool (is_space b)) [
-  | inl e ↦ absurd (longer more xs (sym is ∙ sym begun ∙ ap behind_space is ∙ (rw e refl)))
-  | inr e ↦ ap (λ zs. behind_space (zs ++ ys)) is ∙ rw e refl ∙ ap (λ zs. zs ++ ys) (sym is)
-]
-  where
-    behind-less : (zs : List ℕ) → length (behind_space zs) ≤ length zs
-    behind-less [] = omega arith
-    behind-less (z ∷ zs) = elim (cases_Bool (is_space z)) [ inl e ↦ rw e (omega (arith, behind-less zs)) | inr e ↦ rw e (omega arith) ]
-
-    longer : (zs vs : List ℕ) → b ∷ zs ≡ behind_space zs → ⊥
-    longer zs vs e = omega (arith, ap length e, behind-less zs)
-
 -- what is kept behind bytes that begin with no white space
 pub behind-on : (xs ys : List ℕ) → behind_space xs ≡ xs → (xs ≡ [] → ⊥) → behind_space (xs ++ ys) ≡ xs ++ ys
 behind-on [] ys begun some = absurd (some refl)
-behind-on (b ∷ xs) ys begun some = behind-more (b ∷ xs) ys b xs begun refl
+behind-on (b ∷ xs) ys begun some = elim (cases_Bool (is_space b)) [
+  | inl e ↦ absurd (omega (arith, ap length (sym (behind-drop xs) ∙ rw e at begun), length-drop (prefix_len is_space xs) xs))
+  | inr e ↦ rw e refl
+]
 
--- nothing but what stands behind white space is appended to nothing
-pub behind-first : (xs ys : List ℕ) (start : ℕ) → xs ≡ [] → start ≡ prefix_len is_space ys → xs ++ take (length ys - start) (drop start ys) ≡ behind_space (xs ++ ys)
-behind-first xs ys start none is =
-    ap (λ zs. zs ++ take (length ys - start) (drop start ys)) none ∙ take_all (length ys - start) (drop start ys) (omega (arith, length-drop start ys))
-    ∙ ap (λ k. drop k ys) is ∙ sym (behind-drop ys) ∙ ap (λ zs. behind_space (zs ++ ys)) (sym none)
+pub space_within : (bytes : List ℕ) → prefix_len is_space bytes ≤ length bytes
+space_within bytes = prefix_len-le-length is_space bytes
+
+-- what is read of a first piece
+pub first-bytes : (rest piece : List ℕ) (start : ℕ) → rest ≡ [] → start ≡ 0 + prefix_len is_space piece
+    → (start ≤ length piece) × (take (length piece - start) (drop start piece) ≡ drop start piece) × (take (length piece - start) (drop start piece) ≡ behind_space (rest ++ piece))
+first-bytes rest piece start none is =
+    let all : take (length piece - start) (drop start piece) ≡ drop start piece = take_all (length piece - start) (drop start piece) (omega (arith, length-drop start piece)) in
+    let same : start ≡ prefix_len is_space piece = omega arith in
+    (omega (arith, space_within piece), all, all ∙ ap (λ k. drop k piece) same ∙ sym (behind-drop piece) ∙ ap (λ xs. behind_space (xs ++ piece)) (sym none))
 
 pub behind-blank : (bytes : List ℕ) → behind_space bytes ≡ [] → is_blank bytes ≡ true
-behind-blank [] e = refl
-behind-blank (b ∷ bytes) e = elim (cases_Bool (is_space b)) [
-  | inl s ↦ rw s (behind-blank bytes (rw s at e))
-  | inr s ↦ let none : b ∷ bytes ≡ [] = rw s at e in absurd (cc)
-]
+behind-blank bytes none = let s = spaced bytes in ap is_blank (s.2 ∙ ap (λ xs. s.0 ++ xs) none ∙ append-nil s.0) ∙ s.1
 
 pub blank-behind : (bytes : List ℕ) → is_blank bytes ≡ true → behind_space bytes ≡ []
-blank-behind [] e = refl
-blank-behind (b ∷ bytes) e = elim (cases_Bool (is_space b)) [
-  | inl s ↦ rw s (blank-behind bytes (rw s at e))
-  | inr s ↦ let none : false ≡ true = rw s at e in absurd (false≢true none)
-]
+blank-behind [] space = refl
+blank-behind (b ∷ bytes) space = let both = and_parts (is_space b) (is_blank bytes) space in rw both.0 (blank-behind bytes both.1)
 
 -- a value that stands behind less white space
 pub Stands-spaced : (bytes more text rest : List ℕ) → Stands (behind_space bytes ++ more) text rest → Stands (bytes ++ more) text rest
@@ -116,6 +108,15 @@ Stands-cut xs text rest s = record {
   ends = tt;
 }
 
+-- a value takes some bytes
+pub used-some : (rest piece : List ℕ) (n : ℕ) (text : List ℕ) → Stands (behind_space (rest ++ piece)) text (drop n piece) → 0 < length rest + n
+used-some rest piece n text s =
+    let value = s.reads in
+    let some : 0 < length s.value = omega (arith, ap length value.spells, ap length (tree-Head value.tree value.good).parts) in
+    let all : length (behind_space (rest ++ piece)) ≤ length rest + length piece =
+    omega (arith, ap length (behind-drop (rest ++ piece)), length-drop (prefix_len is_space (rest ++ piece)) (rest ++ piece), length-append rest piece) in
+    omega (arith, some, all, ap length s.parts, length-append s.blank (s.value ++ drop n piece), length-append s.value (drop n piece), length-drop n piece)
+
 pub over_ends : (m : Mode) (st : List Bracket) → is_over m st ≡ true → (b : ℕ) → step 128 m st b ≡ ended b
 over_ends After [] e b = refl
 over_ends Fresh [] e b = refl
@@ -125,18 +126,9 @@ pub ended_before : (m : Mode) (st : List Bracket) (left : List ℕ) → EndsBefo
 ended_before m st left (inl over) b more is = over_ends m st over b
 ended_before m st left (inr (other, others, there, e)) b more is = let same : other ≡ b = cc in subst (λ x. step 128 m st x ≡ ended x) same e
 
--- the machine ends before the first of these bytes
-abbrev EndsBy : Mode → List Bracket → List ℕ → Type 0
-EndsBy m st [] = Unit {0}
-EndsBy m st (b ∷ bytes) = step 128 m st b ≡ ended b
-
-over_by : (m : Mode) (st : List Bracket) → is_over m st ≡ true → (bytes : List ℕ) → EndsBy m st bytes
-over_by m st e [] = tt
-over_by m st e (b ∷ bytes) = over_ends m st e b
-
-ends_by : (m : Mode) (st : List Bracket) (left more : List ℕ) → EndsBefore m st left → EndsBy m st (left ++ more)
-ends_by m st left more (inl over) = over_by m st over (left ++ more)
-ends_by m st left more (inr (b, others, is, e)) = subst (λ xs. EndsBy m st (xs ++ more)) (sym is) e
+ends-more : (m : Mode) (st : List Bracket) (left more : List ℕ) → EndsBefore m st left → EndsBefore m st (left ++ more)
+ends-more m st left more (inl over) = inl over
+ends-more m st left more (inr (b, others, is, e)) = inr (b, others ++ more, ap (λ xs. xs ++ more) is, e)
 
 module _ (xs : List ℕ) (m : Mode) (st : List Bracket) (is : run 128 start xs ≡ state m st) where
   ended_at : (b : ℕ) (more : List ℕ) → step 128 m st b ≡ ended b → (text : List ℕ) × Stands (xs ++ b ∷ more) text (b ∷ more)
@@ -147,16 +139,38 @@ module _ (xs : List ℕ) (m : Mode) (st : List Bracket) (is : run 128 start xs �
       let s = ended_stands bytes (length xs) m st (ap (run 128 start) (take-append_seam xs (b ∷ more)) ∙ is) b got e in
       (s.0, subst (Stands bytes s.0) (drop-append_seam xs (b ∷ more)) s.1)
 
-  -- a value that stands there does so whatever follows it
-  ended_by : (left text : List ℕ) → EndsBy m st left → Stands xs text [] → Stands (xs ++ left) text left
-  ended_by [] text e s = subst (λ x. Stands x text []) (sym (append-nil xs)) s
-  ended_by (b ∷ left) text e s =
-      let found = ended_at b left e in
-      let same = Stands-once (Stands-cut xs found.0 (b ∷ left) found.1) s in
-      subst (λ t. Stands (xs ++ b ∷ left) t (b ∷ left)) same.0 found.1
+  ends_stands : (left : List ℕ) → EndsBefore m st left → (text : List ℕ) × Stands (xs ++ left) text left
+  ends_stands [] (inl over) =
+      let found = done_stands xs (length xs) m st (ap (run 128 start) (take_all (length xs) xs (omega arith)) ∙ is) (omega arith) (over_ends m st over 32) in
+      (found.0, subst (λ bytes. Stands bytes found.0 []) (sym (append-nil xs)) found.1)
+  ends_stands [] (inr (b, more, none, e)) = absurd (cc)
+  ends_stands (b ∷ left) ends = ended_at b left (ended_before m st (b ∷ left) ends b left refl)
 
-  pub ended_on : (left more text : List ℕ) → EndsBefore m st left → Stands xs text [] → Stands (xs ++ (left ++ more)) text (left ++ more)
-  ended_on left more text e s = ended_by (left ++ more) text (ends_by m st left more e) s
+-- a stretch and what follows it
+pub parted : (bytes : List ℕ) (at n : ℕ) → at ≤ n → drop at bytes ≡ stretch bytes at n ++ drop n bytes
+parted bytes at n low = grind (arith, common_steps, take-append-drop (n - at) (drop at bytes), drop-drop (n - at) at bytes)
+
+-- where it has ended a value stands, and does so whatever follows
+module _ (bytes left : List ℕ) (e : EndsIn bytes left) where
+  pub ended-found : (text : List ℕ) × Stands bytes text left
+  ended-found = subst (λ xs. (text : List ℕ) × Stands xs text left) (sym e.parts) (ends_stands e.front e.mode e.brackets e.ran left e.ends)
+
+  ended-on : (text more : List ℕ) → Stands bytes text left → Stands (bytes ++ more) text (left ++ more)
+  ended-on text more s =
+      let found = ends_stands e.front e.mode e.brackets e.ran (left ++ more) (ends-more e.mode e.brackets left more e.ends) in
+      let same = Stands-once (Stands-cut e.front found.0 (left ++ more) found.1) (Stands-cut e.front text left (subst (λ xs. Stands xs text left) e.parts s)) in
+      subst₂ (λ xs t. Stands xs t (left ++ more)) (sym (ap (λ xs. xs ++ more) e.parts ∙ append_assoc e.front left more)) same.0 found.1
+
+-- a byte that is refused behind these
+refused-at : (bytes : List ℕ) (at : ℕ) (front : List ℕ) (b : ℕ) (left : List ℕ) (m : Mode) (st : List Bracket) → drop at bytes ≡ front ++ b ∷ left
+    → run 128 start front ≡ state m st → step 128 m st b ≡ refused → IsFirstFault bytes at (fault_of m (top st) (Some b) (at + length front))
+refused-at bytes at front b left m st parts ran stuck =
+    let width : at + length front - at ≡ length front = omega arith in
+    let taken : take (at + length front - at) (drop at bytes) ≡ front = ap₂ (λ k (xs : List ℕ). take k xs) width parts ∙ take-append_seam front (b ∷ left) in
+    let byte : get_or bytes (at + length front) 0 ≡ b = sym (get_or-drop at bytes (length front) 0) ∙ ap (λ xs. get_or xs (length front) 0) parts ∙ get_or-append_seam front b left 0 in
+    subst (λ x. IsFirstFault bytes at (fault_of m (top st) (Some x) (at + length front))) byte
+    (refused_fault bytes at (at + length front) (omega arith) m st (ap (run 128 start) taken ∙ ran)
+    (omega (arith, ap length parts, length-drop at bytes, length-append front (b ∷ left))) (ap (step 128 m st) byte ∙ stuck))
 
 -- where a value may end that isn't over, a number has, and a sign goes on with none
 sign_refused : (m : Mode) (st : List Bracket) → step 128 m st 32 ≡ ended 32 → is_over m st ≡ false → step 128 m st 43 ≡ refused
@@ -184,17 +198,14 @@ under_way xs m st is goes_on = record {
 pub kept-begun : (bytes : List ℕ) → behind_space (behind_space bytes) ≡ behind_space bytes
 kept-begun bytes = ap behind_space (sym (append-nil (behind_space bytes))) ∙ sym (behind-append bytes []) ∙ ap behind_space (append-nil bytes)
 
-blank-front : (xs ys : List ℕ) → is_blank (xs ++ ys) ≡ true → is_blank xs ≡ true
-blank-front [] ys e = refl
-blank-front (x ∷ xs) ys e = elim (cases_Bool (is_space x)) [
-  | inl s ↦ rw s (blank-front xs ys (rw s at e))
-  | inr s ↦ let none : false ≡ true = rw s at e in absurd (false≢true none)
-]
-
 -- ---- where the feed stands
 module _ (stream : List ℕ) (begin : ℕ) (piece : List ℕ) (feed : Feeding) (at : IsAt stream begin piece feed) where
   all_length : begin + (length at.stretch + length piece) ≡ length stream
   all_length = omega (arith, at.within, length-drop begin stream, ap length at.parts, length-append at.stretch piece)
+
+  -- behind white space the stream goes on as what is kept and the piece
+  behind : behind_space (drop begin stream) ≡ behind_space (feed.rest ++ piece)
+  behind = ap behind_space at.parts ∙ behind-append at.stretch piece ∙ ap (λ xs. behind_space (xs ++ piece)) at.kept
 
   pub going_on : IsAt stream begin [] (record { rest = behind_space (feed.rest ++ piece); used = feed.used + length piece; fault = feed.fault })
   going_on = record {
@@ -206,82 +217,43 @@ module _ (stream : List ℕ) (begin : ℕ) (piece : List ℕ) (feed : Feeding) (
     sound = at.sound;
   }
 
-  module _ (n : ℕ) (m : Mode) (st : List Bracket) (on : run 128 (run 128 start feed.rest) (take n piece) ≡ state m st) where
-    stretched_to : (o : Outcome) (k : ℕ) → run 128 (run 128 start feed.rest) (take k piece) ≡ o → run 128 start (at.stretch ++ take k piece) ≡ o
-    stretched_to o k is =
-        run-append 128 start at.stretch (take k piece) ∙ ap (λ from. run 128 from (take k piece)) (run-behind at.stretch ∙ ap (run 128 start) at.kept) ∙ is
-
-    stretched : run 128 start (at.stretch ++ take n piece) ≡ state m st
-    stretched = stretched_to (state m st) n on
-
-    -- the value that has ended
-    module _ (low : n ≤ length piece) (ends : EndsBefore m st (drop n piece)) (text : List ℕ) (stands : Stands (feed.rest ++ take n piece) text []) where
-      after : ℕ
-      after = begin + (length at.stretch + n)
-
-      behind : drop (begin + (length at.stretch + n)) stream ≡ drop n piece
-      behind = sym (drop-drop (length at.stretch + n) begin stream) ∙ ap (drop (length at.stretch + n)) at.parts ∙ drop-append-add at.stretch piece n
-
-      there : Stands (at.stretch ++ take n piece) text []
-      there = Stands-spaced at.stretch (take n piece) text [] (subst (λ x. Stands (x ++ take n piece) text []) (sym at.kept) stands)
-
-      pub value_there : (next : ℕ) × IsAt stream next (drop n piece) (record { rest = []; used = feed.used + n; fault = feed.fault })
-          × ((more : List ℕ) → Stands (drop begin stream ++ more) text (drop next stream ++ more))
-      value_there = (
-        begin + (length at.stretch + n),
+  -- the value that has ended
+  pub value_there : (n : ℕ) (text : List ℕ) → n ≤ length piece → EndsIn (behind_space (feed.rest ++ piece)) (drop n piece)
+      → Stands (behind_space (feed.rest ++ piece)) text (drop n piece)
+      → (next : ℕ) × IsAt stream next (drop n piece) (record { rest = []; used = feed.used + n; fault = feed.fault })
+      × ((more : List ℕ) → Stands (drop begin stream ++ more) text (drop next stream ++ more))
+  value_there n text low ends stands =
+      let width : ℕ = length at.stretch + n in
+      let left : drop (begin + width) stream ≡ drop n piece = sym (drop-drop width begin stream) ∙ ap (drop width) at.parts ∙ drop-append-add at.stretch piece n in (
+        begin + width,
         record {
           within = omega (arith, all_length);
           stretch = [];
-          parts = behind;
+          parts = left;
           kept = refl;
           counted = omega (arith, at.counted, length-drop n piece);
           sound = at.sound;
         },
-        λ more. ap₂-stands more (ended_on (at.stretch ++ take n piece) m st stretched (drop n piece) more text ends there),
+        λ more. Stands-spaced (drop begin stream) more text (drop (begin + width) stream ++ more)
+            (subst₂ (λ xs ys. Stands (xs ++ more) text (ys ++ more)) (sym behind) (sym left) (ended-on _ (drop n piece) ends text more stands)),
       )
-        where
-          front : (more : List ℕ) → (at.stretch ++ take n piece) ++ (drop n piece ++ more) ≡ drop begin stream ++ more
-          front more =
-              append_assoc at.stretch (take n piece) (drop n piece ++ more)
-              ∙ ap (λ x. at.stretch ++ x) (sym (append_assoc (take n piece) (drop n piece) more) ∙ ap (λ x. x ++ more) (take-append-drop n piece))
-              ∙ sym (append_assoc at.stretch piece more) ∙ ap (λ x. x ++ more) (sym at.parts)
 
-          ap₂-stands : (more : List ℕ) → Stands ((at.stretch ++ take n piece) ++ (drop n piece ++ more)) text (drop n piece ++ more)
-              → Stands (drop begin stream ++ more) text (drop (begin + (length at.stretch + n)) stream ++ more)
-          ap₂-stands more s =
-              subst (λ x. Stands x text (drop (begin + (length at.stretch + n)) stream ++ more)) (front more)
-              (subst (λ x. Stands ((at.stretch ++ take n piece) ++ (drop n piece ++ more)) text (x ++ more)) (sym behind) s)
+  -- the byte that is refused
+  module _ (fault : JsonFault) (r : IsRefusedIn (behind_space (feed.rest ++ piece)) (feed.used + length piece) fault) where
+    pub fault_apart : is_blank (drop begin stream) ≡ false
+    fault_apart = false_from_ne_true (is_blank (drop begin stream)) (λ blank.
+        omega (arith, ap length (sym (blank-behind (drop begin stream) blank) ∙ behind ∙ r.parts), length-append r.front (r.byte ∷ r.left)))
 
-    -- the byte that is refused
-    module _ (high : n < length piece) (stuck : step 128 m st (get_or piece n 0) ≡ refused) where
-      pub fault_there : (more : List ℕ) → IsFirstFault (stream ++ more) begin (fault_of m (top st) (Some (get_or piece n 0)) (feed.used + n))
-      fault_there more =
-          let bytes : List ℕ = stream ++ more in
-          let i : ℕ = begin + (length at.stretch + n) in
-          let width : begin + (length at.stretch + n) - begin ≡ length at.stretch + n = omega arith in
-          let parts : drop begin bytes ≡ at.stretch ++ (piece ++ more) = drop-append-le begin stream more at.within ∙ ap (λ x. x ++ more) at.parts ∙ append_assoc at.stretch piece more in
-          let taken : take (begin + (length at.stretch + n) - begin) (drop begin bytes) ≡ at.stretch ++ take n piece =
-          ap₂ (λ k (x : List ℕ). take k x) width parts ∙ take-append-add at.stretch (piece ++ more) n ∙ ap (λ x. at.stretch ++ x) (take-append-le n piece more (omega arith)) in
-          let byte : get_or bytes (begin + (length at.stretch + n)) 0 ≡ get_or piece n 0 =
-          sym (get_or-drop begin bytes (length at.stretch + n) 0) ∙ ap (λ x. get_or x (length at.stretch + n) 0) parts
-          ∙ get_or-append-add at.stretch (piece ++ more) n 0 ∙ get_or-append piece more 0 n high in
-          let place : begin + (length at.stretch + n) ≡ feed.used + n = omega (arith, at.counted, all_length) in
-          subst (λ k. IsFirstFault bytes begin (fault_of m (top st) (Some (get_or piece n 0)) k)) place
-          (subst (λ b. IsFirstFault bytes begin (fault_of m (top st) (Some b) (begin + (length at.stretch + n)))) byte
-          (refused_fault bytes begin (begin + (length at.stretch + n)) (omega arith) m st (ap (run 128 start) taken ∙ stretched)
-          (omega (arith, all_length, length-append stream more)) (ap (step 128 m st) byte ∙ stuck ∙ refl)))
-
-      pub fault_apart : is_blank (drop begin stream) ≡ false
-      fault_apart = false_from_ne_true (is_blank (drop begin stream)) (λ blank.
-          let parts : (at.stretch ++ take (n + 1) piece) ++ drop (n + 1) piece ≡ drop begin stream =
-          append_assoc at.stretch (take (n + 1) piece) (drop (n + 1) piece) ∙ ap (λ x. at.stretch ++ x) (take-append-drop (n + 1) piece) ∙ sym at.parts in
-          let front = blank-front (at.stretch ++ take (n + 1) piece) (drop (n + 1) piece) (ap is_blank parts ∙ blank) in
-          let begun : run 128 start (at.stretch ++ take (n + 1) piece) ≡ start = run-behind (at.stretch ++ take (n + 1) piece) ∙ ap (run 128 start) (blank-behind (at.stretch ++ take (n + 1) piece) front) in
-          let stop : run 128 start (at.stretch ++ take (n + 1) piece) ≡ refused = stretched_to refused (n + 1) (run_on (run 128 start feed.rest) piece n m st on refused high stuck) in
-          not_refused (sym begun ∙ stop))
-        where
-          not_refused : start ≡ refused → ⊥
-          not_refused e = cc
+    pub fault_there : (more : List ℕ) → IsFirstFault (stream ++ more) begin fault
+    fault_there more =
+        let s = spaced (drop begin stream) in
+        let front : List ℕ = s.0 ++ r.front in
+        let here : drop begin stream ≡ s.0 ++ (r.front ++ r.byte ∷ r.left) = s.2 ∙ ap (λ xs. s.0 ++ xs) (behind ∙ r.parts) in
+        let parts : drop begin (stream ++ more) ≡ front ++ r.byte ∷ (r.left ++ more) = drop-append-le begin stream more at.within ∙ ap (λ xs. xs ++ more) here ∙ simp append_assoc in
+        let place : begin + length front ≡ r.place =
+        omega (arith, ap length here, length-append s.0 (r.front ++ r.byte ∷ r.left), length-append r.front (r.byte ∷ r.left), length-append s.0 r.front, at.within, length-drop begin stream, r.counted, at.counted) in
+        subst (IsFirstFault (stream ++ more) begin) (ap (fault_of r.mode (top r.brackets) (Some r.byte)) place ∙ sym r.told)
+        (refused-at (stream ++ more) begin front r.byte (r.left ++ more) r.mode r.brackets parts (run-blank s.0 r.front s.1 ∙ r.ran) r.stuck)
 
 -- ---- where the feed stands at the stream's end
 module _ (stream : List ℕ) (begin : ℕ) (feed : Feeding) (at : IsAt stream begin [] feed) where

@@ -1,47 +1,39 @@
 -- A text has at most one first fault.
-use Rattle.std.proofs.Common.{◌≡◌, ℕ, zero, suc, ◌+◌, ◌-◌, ◌<◌, ◌≤◌, List, [], ◌∷◌, ◌++◌, length, take, drop, true, false, Option, Some, None, refl, sym, ap, subst, ◌∙◌, inl, inr, arith, lit<, length-append, length-drop}
+use Rattle.std.proofs.Common.{◌≡◌, ℕ, zero, suc, ◌+◌, ◌-◌, ◌<◌, ◌≤◌, List, [], ◌∷◌, ◌++◌, length, take, drop, true, Some, sym, ap, subst, ◌∙◌, inl, inr, arith, length-append, length-drop}
 use Rattle.std.specs.Prelude.{slice_get}
 use Rattle.std.specs.Char.{IsScalar, encode_utf8}
-use Rattle.std.proofs.lemmas.Bool.{cases_order, false_from_ne_true}
+use Rattle.std.proofs.lemmas.Bool.{cases_order}
+use Rattle.std.proofs.lemmas.Bool.Decides.{nat_tests}
 use Rattle.std.proofs.lemmas.List.{drop-drop}
 use Rattle.json_text.specs.Value.{Begins, IsUnfinished, IsTooDeepBracket, IsBrokenOff, IsStray, IsBadUtf8}
 use Rattle.json_reader.specs.Faults.{IsJsonFault}
 use Rattle.json_reader.specs.declared.fault.JsonFault.{JsonFault}
 use Rattle.json_reader.specs.declared.fault.JsonFault.TheVariants.{Syntax, Depth, Utf8}
 use Rattle.json_reader.specs.declared.sequence.Tail.{Tail}
-use Rattle.json_reader.specs.declared.sequence.Tail.TheVariants.{One, Two, Three, Long3, Low3, Long4, Low4}
+use Rattle.json_reader.specs.declared.sequence.Tail.TheVariants.{One}
 use Rattle.json_reader.specs.declared.brackets.Bracket.{Bracket}
 use Rattle.json_reader.specs.declared.machine.Place.TheVariants.{Sequence}
 use Rattle.json_reader.specs.declared.machine.Mode.{Mode}
 use Rattle.json_reader.specs.declared.machine.Mode.TheVariants.{Quoted}
-use Rattle.json_reader.specs.Machine.{state, refused, step, tail_fits, tail_after, is_stray}
-use Rattle.json_reader.proofs.Sequences.{Completes, on_tail, fitted}
-use Rattle.json_reader.proofs.Machines.{run, start, run-append}
-use Rattle.json_reader.proofs.Onward.{led_high}
+use Rattle.json_reader.specs.Machine.{state, refused, step, tail_fits}
+use Rattle.json_reader.proofs.Sequences.{Completes}
+use Rattle.json_reader.proofs.Machines.{run-append}
+use Rattle.json_reader.proofs.Steps.{led_high}
 use Rattle.json_reader.proofs.Moves.{IsOutside}
-use Rattle.json_reader.proofs.ValueRuns.{begins_runs, runs_less}
-use Rattle.json_reader.proofs.Ends.{take_one}
+use Rattle.json_reader.proofs.ValueRuns.{begins_runs, begins_less, take_one}
 use Rattle.json_reader.proofs.Places.{IsSequence, longest_one, unfinished_cut, unfinished_sequence, not_inside, stray_some}
 
 -- ---- where a sequence begins that is broken off
-fits_range : (tail : Tail) (b : ℕ) → tail_fits tail b ≡ true → (128 ≤ b) × (b < 192)
-fits_range One b e = let f = fitted 128 191 b e in (f.0, omega arith)
-fits_range Two b e = let f = fitted 128 191 b e in (f.0, omega arith)
-fits_range Three b e = let f = fitted 128 191 b e in (f.0, omega arith)
-fits_range Long3 b e = let f = fitted 160 191 b e in (omega arith, omega arith)
-fits_range Low3 b e = let f = fitted 128 159 b e in (f.0, omega arith)
-fits_range Long4 b e = let f = fitted 144 191 b e in (omega arith, omega arith)
-fits_range Low4 b e = let f = fitted 128 143 b e in (f.0, omega arith)
+fits_low : (tail : Tail) (b : ℕ) → tail_fits tail b ≡ true → b < 192
+fits_low One b e = grind (arith, nat_tests)
+fits_low tail b e = grind (arith, nat_tests)
 
 -- the bytes of a sequence behind its first are below 192
 completes_low : (more next : List ℕ) (tail : Tail) (k x : ℕ) (rest : List ℕ) → Completes (more ++ next) tail → drop k more ≡ x ∷ rest → x < 192
 completes_low [] next tail k x rest c e = absurd (omega (arith, length-drop {A = ℕ} k [], ap length e))
-completes_low (y ∷ more) next tail zero x rest c e = let same : y ≡ x = cc in subst (λ b. b < 192) same (fits_range tail y c.0).1
-completes_low (y ∷ more) next tail (suc k) x rest c e = by (tail_after tail) c.1 (λ t h. completes_low more next t k x rest h e)
-  where
-    by : (o : Option Tail) → on_tail (Completes (more ++ next)) (more ++ next ≡ []) o → ((t : Tail) → Completes (more ++ next) t → x < 192) → x < 192
-    by None none again = absurd (omega (arith, ap length none, length-append more next, ap length e, length-drop k more))
-    by (Some t) h again = again t h
+completes_low (y ∷ more) next tail zero x rest c e = let same : y ≡ x = cc in subst (λ b. b < 192) same (fits_low tail y c.0)
+completes_low (y ∷ more) next One (suc k) x rest c e = absurd (omega (arith, ap length c.1, length-append more next, ap length e, length-drop k more))
+completes_low (y ∷ more) next tail (suc k) x rest c e = completes_low more next _ k x rest c.1 e
 
 begun_least : (bytes : List ℕ) (k i : ℕ) → IsUnfinished (drop k bytes) → IsUnfinished (drop i bytes) → k < i → ⊥
 begun_least bytes k i u v less =
@@ -68,31 +60,32 @@ sequence_outside _ h = absurd h
 
 -- a byte below 128 goes on with no sequence
 sequence_refuses : (limit b : ℕ) (m : Mode) (st : List Bracket) → b < 128 → IsSequence m → step limit m st b ≡ refused
-sequence_refuses limit b (Quoted r (Sequence size tail)) st small h =
-    let apart : tail_fits tail b ≡ false = false_from_ne_true (tail_fits tail b) (λ e. let f = fits_range tail b e in omega arith) in
-    rw apart refl
+sequence_refuses limit b (Quoted r (Sequence size One)) st small h = grind arith
+sequence_refuses limit b (Quoted r (Sequence size tail)) st small h = grind arith
 sequence_refuses limit b _ st small h = absurd h
 
 module _ (bytes : List ℕ) where
+  -- a bracket is a byte below 128
+  bracket_byte : (n : ℕ) → IsTooDeepBracket bytes n → (b : ℕ) × (b < 128) × (slice_get bytes n ≡ Some b)
+  bracket_byte n deep = elim deep.bracket [ inl got ↦ (91, omega arith, got) | inr got ↦ (123, omega arith, got) ]
+
   deep_not_broken : (k n : ℕ) → IsTooDeepBracket bytes n → IsBrokenOff bytes k n → ⊥
-  deep_not_broken k n deep broken = elim deep.bracket [ inl got ↦ by 91 (lit< tt) got | inr got ↦ by 123 (lit< tt) got ]
-    where
-      by : (b : ℕ) → b < 128 → slice_get bytes n ≡ Some b → ⊥
-      by b small got =
-          let whole = begins_runs 129 (take n bytes ++ b ∷ []) (subst (Begins 129) (take_one bytes n b got) deep.deeper) in
-          let front = runs_less 129 (take n bytes) (b ∷ []) whole in
-          let inside = unfinished_sequence 129 (take n bytes) k front.mode front.brackets broken.unfinished front.reached in
-          let stuck : refused ≡ state whole.mode whole.brackets =
-          sym (run-append 129 start (take n bytes) (b ∷ []) ∙ ap (λ o. run 129 o (b ∷ [])) front.reached ∙ sequence_refuses 129 b front.mode front.brackets small inside) ∙ whole.reached in
-          cc
+  deep_not_broken k n deep broken =
+      let b = bracket_byte n deep in
+      let deeper : Begins 129 (take n bytes ++ b.0 ∷ []) = rw (take_one bytes n b.0 b.2) at deep.deeper in
+      let whole = begins_runs 129 (take n bytes ++ b.0 ∷ []) deeper in
+      let front = begins_runs 129 (take n bytes) (begins_less 129 (take n bytes) (b.0 ∷ []) deeper) in
+      let inside = unfinished_sequence 129 (take n bytes) k front.mode front.brackets broken.unfinished front.reached in
+      let stuck = sequence_refuses 129 b.0 front.mode front.brackets b.1 inside in
+      let run_there : refused ≡ state whole.mode whole.brackets = rw (run-append, front.reached, stuck) at whole.reached in
+      cc
 
   deep_not_stray : (n : ℕ) → IsTooDeepBracket bytes n → IsStray bytes n → ⊥
-  deep_not_stray n deep stray = elim deep.bracket [ inl got ↦ by 91 refl got | inr got ↦ by 123 refl got ]
-    where
-      by : (b : ℕ) → is_stray b ≡ false → slice_get bytes n ≡ Some b → ⊥
-      by b low got =
-          let same : stray.byte ≡ b = let e : Some stray.byte ≡ Some b = sym stray.read ∙ got in cc in
-          stray_some b low (subst (λ x. (c : ℕ) (more : List ℕ) → IsScalar c → encode_utf8 c ≡ x ∷ more → ⊥) same stray.begins_none)
+  deep_not_stray n deep stray =
+      let b = bracket_byte n deep in
+      let low : b.0 < 128 = b.1 in
+      let same : stray.byte ≡ b.0 = let e : Some stray.byte ≡ Some b.0 = sym stray.read ∙ b.2 in cc in
+      stray_some b.0 (grind (arith, nat_tests)) (subst (λ x. (c : ℕ) (more : List ℕ) → IsScalar c → encode_utf8 c ≡ x ∷ more → ⊥) same stray.begins_none)
 
   deep_not_utf8 : (n m : ℕ) → IsTooDeepBracket bytes n → IsBadUtf8 bytes m → ⊥
   deep_not_utf8 n m deep (inl (i, broken)) = deep_not_broken m n deep (subst (IsBrokenOff bytes m) (longest_one bytes n i deep.longest broken.longest) broken)

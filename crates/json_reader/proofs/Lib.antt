@@ -2,21 +2,14 @@
 -- ---- the machine against the grammar: where it ends a value stands, and where it refuses the first fault is
 mod NumberRuns
 mod Sequences
-mod Rests
+mod Machines
 mod Unrolled
 mod Digits
-mod Machines
-mod Onward
-mod Backward
-mod Closers
+mod Steps
 mod ValueRuns
 mod Moves
-mod Limits
-mod Ends
-mod StringPlaces
 mod Places
 pub mod FirstFaults
-mod Stays
 mod OffsetRuns
 pub mod Outcomes
 pub mod Feeds

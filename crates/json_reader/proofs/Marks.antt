@@ -1,16 +1,18 @@
 -- Names by their marks.
-use Rattle.std.proofs.Common.{◌≡◌, ◌<◌, ℕ, ◌+◌, List, [], ◌∷◌, ◌++◌, Bool, true, false, length, get_or, take, bytes_eq, All, refl, arith, sym, ap, ◌∙◌, inl, inr}
-use Rattle.std.proofs.lemmas.Bool.{cases_Bool, cases_eq, false≢true}
+use Rattle.std.proofs.Common.{◌≡◌, ◌<◌, ℕ, ◌+◌, List, [], ◌∷◌, ◌++◌, Bool, true, false, length, get_or, take, bytes_eq, All, arith, sym, ap, ◌∙◌}
+use Rattle.std.proofs.lemmas.Bool.{false≢true}
+use Rattle.std.proofs.lemmas.Grind.{common_steps}
 use Rattle.std.proofs.lemmas.Cmp.{nat_list_eq_equiv}
-use Rattle.std.proofs.lemmas.List.{take_more, map-append, get_or-set_same, get_or-set_other, length-set}
-use Rattle.std.proofs.lemmas.List.Elements.{All-weaker, All-push, All-head, All-tail}
+use Rattle.std.proofs.lemmas.List.{take_more, get_or-set_same, get_or-set_other, length-set}
+use Rattle.std.proofs.lemmas.List.Elements.{All-weaker, All-push}
 use Rattle.std.proofs.lemmas.Map.Keys.{IsDistinct-push}
 use Rattle.std.proofs.Math.ListN.{set}
 use Rattle.std.specs.List.{IsDistinct, list_any}
 use Rattle.json_text.specs.Parts.{names_of}
-use Rattle.json_reader.specs.Places.{cut, entry, entries, mark_of}
+use Rattle.json_reader.specs.Places.{cut, entries, mark_of}
 use Rattle.json_reader.specs.declared.collapsing.Place.{Place}
-use Rattle.json_text.proofs.Collapsed.{bytes_eq-true}
+use Rattle.std.proofs.lemmas.List.Folds.{list_any_none}
+use Rattle.json_text.proofs.Collapsed.{bytes_eq-apart}
 use Rattle.json_reader.proofs.Placing.{nowhere}
 
 abbrev HasMark : List Bool → List ℕ → Type 0
@@ -28,26 +30,16 @@ none-seen bytes places seen size = record { distinct = tt; marked = λ k d high.
 
 -- a name whose mark wasn't seen is new
 pub unseen : (seen : List Bool) (name : List ℕ) (names : List (List ℕ)) → All (HasMark seen) names → get_or seen (mark_of name) false ≡ false → list_any (bytes_eq name) names ≡ false
-unseen seen name [] marked new = refl
-unseen seen name (n ∷ ns) marked new = elim (cases_Bool (bytes_eq name n)) [
-  | inl e ↦
-      let here : get_or seen (mark_of n) false ≡ true = All-head (HasMark seen) n ns marked in
-      absurd (false≢true (sym new ∙ ap (λ (x : List ℕ). get_or seen (mark_of x) false) (bytes_eq-true name n e) ∙ here))
-  | inr e ↦ rw e (unseen seen name ns (All-tail (HasMark seen) n ns marked) new)
-]
+unseen seen name names marked new =
+    let apart : (n : List ℕ) → HasMark seen n → bytes_eq name n ≡ false = λ n had. bytes_eq-apart name n (λ same. false≢true (sym new ∙ ap (λ (x : List ℕ). get_or seen (mark_of x) false) same ∙ had)) in
+    list_any_none (bytes_eq name) names (All-weaker (HasMark seen) (λ n. bytes_eq name n ≡ false) apart names marked)
 
 names-more : (bytes : List ℕ) (places : List Place) (i : ℕ) → i < length places
     → names_of (entries bytes (take (i + 1) places)) ≡ names_of (entries bytes (take i places)) ++ cut bytes (get_or places i nowhere).name ∷ []
-names-more bytes places i here =
-    let place = get_or places i nowhere in
-    ap (λ ps. names_of (entries bytes ps)) (take_more places i nowhere here) ∙ ap names_of (map-append (entry bytes) (take i places) (place ∷ []))
-    ∙ map-append _ (entries bytes (take i places)) (entry bytes place ∷ [])
+names-more bytes places i here = grind (arith, common_steps, take_more places i nowhere here)
 
 still-marked : (seen : List Bool) (mark : ℕ) → mark < length seen → (name : List ℕ) → HasMark seen name → HasMark (set seen mark true) name
-still-marked seen mark here name had = elim (cases_eq (mark_of name) mark) [
-  | inl e ↦ ap (λ k. get_or (set seen mark true) k false) e ∙ get_or-set_same seen mark true false here
-  | inr other ↦ get_or-set_other seen mark (mark_of name) true false other ∙ had
-]
+still-marked seen mark here name had = grind (arith, common_steps, get_or-set_same seen mark true false here, get_or-set_other seen mark (mark_of name) true false)
 
 -- one name more, which is new
 pub seen-more : (bytes : List ℕ) (places : List Place) (i : ℕ) (seen : List Bool) (mark : ℕ) (name : List ℕ) → i < length places → AreSeen bytes places i seen

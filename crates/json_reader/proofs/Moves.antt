@@ -1,29 +1,33 @@
--- What the machine's moves keep.
-use Rattle.std.proofs.Common.{◌≡◌, ◌⊎◌, inr, ◌==◌, ◌&&◌, not, ℕ, suc, ◌+◌, ◌<◌, ◌≤◌, List, [], ◌∷◌, ◌++◌, length, Bool, true, false, cond, Option, Some, None, refl, sym, ap, subst, ◌∙◌, arith, append_assoc, append-nil, nat_lt, length-append}
-use Rattle.std.proofs.lemmas.Bool.{eqb-true, ne_eqb, cond_both}
-use Rattle.json_text.specs.Characters.{is_space, is_hex}
-use Rattle.json_text.specs.Tree.{opening, letter_meaning}
+-- What the moves of the machine keep, where an escape may come, and what the limit on open brackets refuses.
+use Rattle.std.proofs.Common.{◌≡◌, ◌⊎◌, inr, ◌==◌, ◌&&◌, not, ℕ, ◌+◌, ◌<◌, ◌≤◌, List, [], ◌∷◌, ◌++◌, length, Bool, true, false, Option, Some, None, refl, sym, ap, subst, ◌∙◌, arith, append_assoc, append-nil, nat_lt, length-append, zero, suc, replicate, inl, length-drop}
+use Rattle.std.proofs.lemmas.Bool.{eqb-true, cond_both, false≢true, cases_lt, le-ltb, ltb-true, lt-ltb}
+use Rattle.json_text.specs.Tree.{opening}
 use Rattle.json_text.specs.Value.{extends_number}
 use Rattle.json_reader.specs.declared.number.Part.{Part}
 use Rattle.json_reader.specs.declared.sequence.Tail.{Tail}
-use Rattle.json_reader.specs.declared.sequence.Tail.TheVariants.{One, Two, Three, Long3, Low3, Long4, Low4}
+use Rattle.json_reader.specs.declared.sequence.Tail.TheVariants.{One}
 use Rattle.json_reader.specs.declared.brackets.Bracket.{Bracket}
 use Rattle.json_reader.specs.declared.brackets.Bracket.TheVariants.{Square, Curly}
 use Rattle.json_reader.specs.declared.machine.Role.{Role}
 use Rattle.json_reader.specs.declared.machine.Role.TheVariants as role
-use Rattle.json_reader.specs.declared.machine.Place.{Place}
 use Rattle.json_reader.specs.declared.machine.Place.TheVariants.{Plain, Escape, Hex, Sequence}
-use Rattle.json_reader.specs.declared.machine.Letters.{Letters}
 use Rattle.json_reader.specs.declared.machine.Letters.TheVariants.{Ull}
 use Rattle.json_reader.specs.declared.machine.Mode.{Mode}
-use Rattle.json_reader.specs.declared.machine.Mode.TheVariants.{Fresh, Name, Colon, After, Quoted, Number, Word}
-use Rattle.json_reader.specs.declared.machine.Mode.TheVariants as mode
+use Rattle.json_reader.specs.declared.machine.Mode.TheVariants.{Fresh, After, Quoted, Number, Word}
 use Rattle.json_reader.specs.declared.machine.Move.{Move}
-use Rattle.json_reader.specs.declared.machine.Move.TheVariants.{To, Open, Close, Refuse}
-use Rattle.json_reader.specs.Machine.{Outcome, state, refused, top, applied, moved, container_of, closes_bracket, after_comma, after_string, value_begun, name_begun, first_move, fresh_move, after_move, part_begun, part_after, is_complete, number_on, number_move_on, tail_led, tail_fits, tail_after, tail_length, led_on, sequence_on, string_move, word_on, letters_after, first_letter}
+use Rattle.json_reader.specs.declared.machine.Move.TheVariants.{To, Open, Close, End, Refuse}
+use Rattle.json_reader.specs.Machine.{Outcome, state, top, applied, moved, container_of, after_move, part_after, is_complete, number_move_on, tail_led, tail_fits, tail_length, plain_move, refused, opens, string_move, is_bare, keeps_bare, keeps_digits, keeps_space}
 use Rattle.json_reader.proofs.Sequences.{Completes, IsChar, led_char}
-use Rattle.json_reader.proofs.Machines.{go, run}
+use Rattle.json_reader.proofs.Machines.{go, run, run-append}
+use Rattle.json_reader.proofs.Steps.{lead_char}
 use Rattle.json_reader.proofs.NumberRuns.{ended_part}
+use Rattle.json_reader.specs.declared.number.Part.TheVariants.{Minus, Whole}
+use Rattle.json_reader.specs.declared.machine.Place.{Place}
+use Rattle.json_text.proofs.Reading.{append-none}
+use Rattle.json_reader.proofs.ValueRuns.{digit_more, refused_stays}
+use Rattle.std.specs.List.{AllByRecursion}
+use Rattle.std.proofs.lemmas.Bool.Decides.{nat_tests}
+use Rattle.json_text.specs.Characters.{is_space, is_digit, is_plain}
 
 -- P holds of the mode that the move leads to
 abbrev pub OnMove : (Mode → Type 0) → Move → Type 0
@@ -38,12 +42,12 @@ OnState P (state m st) = P m
 OnState P o = Unit {0}
 
 pub on_applied : (P : Mode → Type 0) (limit : ℕ) (st : List Bracket) (b : ℕ) (move : Move) → OnMove P move → OnState P (applied limit st b move)
-on_applied P limit st b (Open bracket) p = opened (nat_lt (length st) limit)
-  where
-    opened : (room : Bool) → OnState P (cond room (state Fresh (bracket ∷ st)) refused)
-    opened true = p
-    opened false = tt
+on_applied P limit st b (Open bracket) p = cond_both (nat_lt (length st) limit) _ _ (OnState P) (λ room. p) (λ full. tt)
 on_applied P limit st b move p = p
+
+pub on_go : (P Q : Mode → Type 0) (limit b : ℕ) → ((m : Mode) (top : Option Bracket) → P m → OnMove Q (moved m top b)) → (o : Outcome) → OnState P o → OnState Q (go limit o b)
+on_go P Q limit b moves (state m st) p = on_applied Q limit st b (moved m (top st) b) (moves m (top st) p)
+on_go P Q limit b moves o p = tt
 
 -- ---- the bytes of a sequence that have come
 pub record HasCome (bytes : List ℕ) (n : ℕ) (tail : Tail) : Type 0 where
@@ -65,135 +69,65 @@ Kept bytes b (To m) = Keeps (bytes ++ b ∷ []) m
 Kept bytes b (Open bracket) = b ≡ opening (container_of bracket)
 Kept bytes b move = Unit {0}
 
+-- a move that neither enters a sequence nor opens a bracket by another byte
+abbrev IsCalm : ℕ → Move → Bool
+IsCalm b (To (Quoted r (Sequence n tail))) = false
+IsCalm b (Open bracket) = b == opening (container_of bracket)
+IsCalm b move = true
+
+after_calm : (top : Option Bracket) (b : ℕ) → IsCalm b (after_move top b) ≡ true
+after_calm None b = refl
+after_calm (Some Square) b = grind arith
+after_calm (Some Curly) b = grind arith
+
+number_calm : (o : Option Part) (ends : Bool) (top : Option Bracket) (b : ℕ) → IsCalm b (number_move_on o ends top b) ≡ true
+number_calm None true top b = after_calm top b
+number_calm None false top b = refl
+number_calm (Some part) ends top b = refl
+
 module _ (bytes : List ℕ) (b : ℕ) where
-  number_kept : (o : Option Part) → Kept bytes b (number_on o)
-  number_kept None = tt
-  number_kept (Some part) = tt
+  calm_kept : (move : Move) → IsCalm b move ≡ true → Kept bytes b move
+  calm_kept (To (Quoted r (Sequence n tail))) calm = absurd (false≢true calm)
+  calm_kept (Open bracket) calm = eqb-true b (opening (container_of bracket)) calm
+  calm_kept move calm = tt
 
-  value_kept : Kept bytes b (value_begun b)
-  value_kept = cond_both (b == 34) _ _ (Kept bytes b) (λ e. tt) (λ e.
-      cond_both (b == 91) _ _ (Kept bytes b) (λ e. eqb-true b 91 e) (λ e.
-      cond_both (b == 123) _ _ (Kept bytes b) (λ e. eqb-true b 123 e) (λ e.
-      cond_both (b == 110) _ _ (Kept bytes b) (λ e. tt) (λ e.
-      cond_both (b == 116) _ _ (Kept bytes b) (λ e. tt) (λ e.
-      cond_both (b == 102) _ _ (Kept bytes b) (λ e. tt) (λ e. number_kept (part_begun b)))))))
+  plain_kept : (r : Role) (o : Option Tail) → tail_led b ≡ o → Kept bytes b (plain_move r b)
+  plain_kept role.Name None e = calm_kept _ (grind arith)
+  plain_kept role.Value None e = calm_kept _ (grind arith)
+  plain_kept r (Some tail) e =
+      rw (lead_char r b tail e) (record { before = bytes; come = b ∷ []; parts = refl; counts = omega arith; some = omega arith; completes = λ t c. led_char b t tail e c })
 
-  name_kept : Kept bytes b (name_begun b)
-  name_kept = cond_both (b == 34) _ _ (Kept bytes b) (λ e. tt) (λ e. tt)
-
-  first_kept : (bracket : Bracket) → Kept bytes b (first_move bracket b)
-  first_kept Square = value_kept
-  first_kept Curly = name_kept
-
-  fresh_kept : (top : Option Bracket) → Kept bytes b (fresh_move top b)
-  fresh_kept None = tt
-  fresh_kept (Some bracket) = cond_both (is_space b) _ _ (Kept bytes b) (λ e. tt) (λ e. cond_both (closes_bracket bracket b) _ _ (Kept bytes b) (λ e. tt) (λ e. first_kept bracket))
-
-  comma_kept : (bracket : Bracket) → Kept bytes b (To (after_comma bracket))
-  comma_kept Square = tt
-  comma_kept Curly = tt
-
-  after_kept : (top : Option Bracket) → Kept bytes b (after_move top b)
-  after_kept None = tt
-  after_kept (Some bracket) = cond_both (is_space b) _ _ (Kept bytes b) (λ e. tt) (λ e.
-      cond_both (closes_bracket bracket b) _ _ (Kept bytes b) (λ e. tt) (λ e.
-      cond_both (b == 44) _ _ (Kept bytes b) (λ e. comma_kept bracket) (λ e. tt)))
-
-  number_on_kept : (o : Option Part) (ends : Bool) (top : Option Bracket) → Kept bytes b (number_move_on o ends top b)
-  number_on_kept None ends top = cond_both ends _ _ (Kept bytes b) (λ e. after_kept top) (λ e. tt)
-  number_on_kept (Some part) ends top = tt
-
-  word_kept : (o : Option Letters) → Kept bytes b (word_on o)
-  word_kept None = tt
-  word_kept (Some letters) = tt
-
-  string_end_kept : (r : Role) → Kept bytes b (To (after_string r))
-  string_end_kept role.Name = tt
-  string_end_kept role.Value = tt
-
-  led_kept : (r : Role) (o : Option Tail) → tail_led b ≡ o → Kept bytes b (led_on r o)
-  led_kept r None e = tt
-  led_kept r (Some tail) e = record { before = bytes; come = b ∷ []; parts = refl; counts = omega arith; some = omega arith; completes = λ t c. led_char b t tail e c }
-
-  sequence_on_kept : (r : Role) (n : ℕ) (tail : Tail) (o : Option Tail) → tail_after tail ≡ o → tail_fits tail b ≡ true → HasCome bytes n tail → Kept bytes b (sequence_on r n o)
-  sequence_on_kept r n tail None e fits h = tt
-  sequence_on_kept r n tail (Some next) e fits h = record {
+  pub kept : (m : Mode) (top : Option Bracket) → Keeps bytes m → Kept bytes b (moved m top b)
+  kept (Quoted r Plain) top h = plain_kept r (tail_led b) refl
+  kept (Quoted r (Sequence n One)) top h = cond_both (tail_fits One b) _ _ (Kept bytes b) (λ fits. tt) (λ _. tt)
+  kept (Quoted r (Sequence n tail)) top h = cond_both (tail_fits tail b) _ _ (Kept bytes b) (λ fits. record {
     before = h.before;
     come = h.come ++ b ∷ [];
     parts = ap (λ x. x ++ b ∷ []) h.parts ∙ append_assoc h.before h.come (b ∷ []);
-    counts = omega (arith, h.counts, length-append h.come (b ∷ []), shorter tail next e);
+    counts = omega (arith, h.counts, length-append h.come (b ∷ []));
     some = omega (arith, h.some, length-append h.come (b ∷ []));
-    completes = λ t c. subst IsChar (sym (append_assoc h.come (b ∷ []) t)) (h.completes (b ∷ t) (fits, rw e c));
-  }
-    where
-      shorter : (tail next : Tail) → tail_after tail ≡ Some next → tail_length tail ≡ suc (tail_length next)
-      shorter One next e = absurd (cc)
-      shorter Two next e = let same : One ≡ next = cc in ap (λ x. suc (tail_length x)) same
-      shorter Three next e = let same : Two ≡ next = cc in ap (λ x. suc (tail_length x)) same
-      shorter Long3 next e = let same : One ≡ next = cc in ap (λ x. suc (tail_length x)) same
-      shorter Low3 next e = let same : One ≡ next = cc in ap (λ x. suc (tail_length x)) same
-      shorter Long4 next e = let same : Two ≡ next = cc in ap (λ x. suc (tail_length x)) same
-      shorter Low4 next e = let same : Two ≡ next = cc in ap (λ x. suc (tail_length x)) same
-
-  string_kept : (r : Role) (place : Place) → Keeps bytes (Quoted r place) → Kept bytes b (string_move r place b)
-  string_kept r Plain h = cond_both (b == 34) _ _ (Kept bytes b) (λ e. string_end_kept r) (λ e.
-      cond_both (b == 92) _ _ (Kept bytes b) (λ e. tt) (λ e.
-      cond_both (nat_lt b 32) _ _ (Kept bytes b) (λ e. tt) (λ e.
-      cond_both (nat_lt b 128) _ _ (Kept bytes b) (λ e. tt) (λ e. led_kept r (tail_led b) refl))))
-  string_kept r Escape h = cond_both (b == 117) _ _ (Kept bytes b) (λ e. tt) (λ e. cond_both (letter_meaning b == 0) _ _ (Kept bytes b) (λ e. tt) (λ e. tt))
-  string_kept r (Hex more) h = cond_both (is_hex b) _ _ (Kept bytes b) (λ e. cond_both (more == 0) _ _ (Kept bytes b) (λ e. tt) (λ e. tt)) (λ e. tt)
-  string_kept r (Sequence n tail) h = cond_both (tail_fits tail b) _ _ (Kept bytes b) (λ e. sequence_on_kept r n tail (tail_after tail) refl e h) (λ e. tt)
-
-  pub kept : (m : Mode) (top : Option Bracket) → Keeps bytes m → Kept bytes b (moved m top b)
-  kept mode.Value top h = cond_both (is_space b) _ _ (Kept bytes b) (λ e. tt) (λ e. value_kept)
-  kept Fresh top h = fresh_kept top
-  kept Name top h = cond_both (is_space b) _ _ (Kept bytes b) (λ e. tt) (λ e. name_kept)
-  kept Colon top h = cond_both (is_space b) _ _ (Kept bytes b) (λ e. tt) (λ e. cond_both (b == 58) _ _ (Kept bytes b) (λ e. tt) (λ e. tt))
-  kept After top h = after_kept top
-  kept (Quoted r place) top h = string_kept r place h
-  kept (Number part) top h = number_on_kept (part_after part b) (is_complete part && not (extends_number b)) top
-  kept (Word letters) top h = cond_both (first_letter letters == b) _ _ (Kept bytes b) (λ e. word_kept (letters_after letters)) (λ e. tt)
+    completes = λ t c. subst IsChar (sym (append_assoc h.come (b ∷ []) t)) (h.completes (b ∷ t) (fits, c));
+  }) (λ _. tt)
+  kept Fresh None h = tt
+  kept Fresh (Some Square) h = calm_kept _ (grind arith)
+  kept After top h = calm_kept _ (after_calm top b)
+  kept (Number part) top h = calm_kept _ (number_calm (part_after part b) (is_complete part && not (extends_number b)) top b)
+  kept (Word Ull) top h = calm_kept _ (grind arith)
+  kept m top h = calm_kept _ (grind arith)
 
   kept_on : (move : Move) → Kept bytes b move → OnMove (Keeps (bytes ++ b ∷ [])) move
   kept_on (Open bracket) k = tt
   kept_on move k = k
 
-  go_keeps : (limit : ℕ) (o : Outcome) → OnState (Keeps bytes) o → OnState (Keeps (bytes ++ b ∷ [])) (go limit o b)
-  go_keeps limit (state m st) k = on_applied (Keeps (bytes ++ b ∷ [])) limit st b (moved m (top st) b) (kept_on (moved m (top st) b) (kept m (top st) k))
-  go_keeps limit o k = tt
-
 pub run_keeps : (limit : ℕ) (bytes xs : List ℕ) (o : Outcome) → OnState (Keeps bytes) o → OnState (Keeps (bytes ++ xs)) (run limit o xs)
 run_keeps limit bytes [] o k = subst (λ x. OnState (Keeps x) o) (sym (append-nil bytes)) k
 run_keeps limit bytes (x ∷ xs) o k =
     subst (λ y. OnState (Keeps y) (run limit (go limit o x) xs)) (append_assoc bytes (x ∷ []) xs)
-    (run_keeps limit (bytes ++ x ∷ []) xs (go limit o x) (go_keeps bytes x limit o k))
+    (run_keeps limit (bytes ++ x ∷ []) xs (go limit o x) (on_go (Keeps bytes) (Keeps (bytes ++ x ∷ [])) limit x (λ m top h. kept_on bytes x (moved m top x) (kept bytes x m top h)) o k))
 
 -- ---- a `\` and a byte that begins a sequence
 abbrev pub IsStrange : ℕ → Type 0
 IsStrange b = (b ≡ 92) ⊎ (192 ≤ b)
-
-strange_space : (b : ℕ) → IsStrange b → is_space b ≡ false
-strange_space b h = grind arith
-
-strange_value : (b : ℕ) → IsStrange b → value_begun b ≡ Refuse
-strange_value b h = grind arith
-
-strange_extends : (b : ℕ) → IsStrange b → extends_number b ≡ false
-strange_extends b h = grind arith
-
-strange_tail : (tail : Tail) (b : ℕ) → IsStrange b → tail_fits tail b ≡ false
-strange_tail One b h = grind arith
-strange_tail tail b h = grind arith
-
-strange_word : (letters : Letters) (b : ℕ) → IsStrange b → (first_letter letters == b) ≡ false
-strange_word Ull b h = grind arith
-strange_word letters b h = grind arith
-
-high_hex : (b : ℕ) → 192 ≤ b → is_hex b ≡ false
-high_hex b h = grind arith
-
-high_letter : (b : ℕ) → 192 ≤ b → letter_meaning b ≡ 0
-high_letter b h = grind arith
 
 -- the machine is between two characters of a string
 abbrev pub IsBetween : Mode → Type 0
@@ -207,45 +141,163 @@ IsOutside (Quoted r Escape) = ⊥
 IsOutside (Quoted r (Hex more)) = ⊥
 IsOutside m = Unit {0}
 
-module _ (b : ℕ) (strange : IsStrange b) where
-  other : (k : ℕ) → k < 192 → (k ≡ 92 → ⊥) → (b == k) ≡ false
-  other k low no_slash = ne_eqb b k (λ e. omega (arith, strange))
+-- a move that leads on
+abbrev Leads : Move → Bool
+Leads End = false
+Leads Refuse = false
+Leads move = true
 
-  strange_first : (bracket : Bracket) → OnMove (λ m. ⊥) (first_move bracket b)
-  strange_first Square = rw (strange_value b strange) tt
-  strange_first Curly = rw (other 34 (omega arith) (λ e. omega arith)) tt
+not_led : (move : Move) → Leads move ≡ false → OnMove (λ m. ⊥) move
+not_led End e = tt
+not_led Refuse e = tt
+not_led move e = absurd (false≢true (sym e))
 
-  strange_closing : (bracket : Bracket) → closes_bracket bracket b ≡ false
-  strange_closing Square = other 93 (omega arith) (λ e. omega arith)
-  strange_closing Curly = other 125 (omega arith) (λ e. omega arith)
+module _ (b : ℕ) (is : IsStrange b) where
+  strange_after : (top : Option Bracket) → Leads (after_move top b) ≡ false
+  strange_after None = refl
+  strange_after (Some Square) = grind arith
+  strange_after (Some Curly) = grind arith
 
-  strange_after : (top : Option Bracket) → OnMove (λ m. ⊥) (after_move top b)
-  strange_after None = tt
-  strange_after (Some bracket) = rw (strange_space b strange, strange_closing bracket, other 44 (omega arith) (λ e. omega arith)) tt
-
-  strange_fresh : (top : Option Bracket) → OnMove (λ m. ⊥) (fresh_move top b)
-  strange_fresh None = tt
-  strange_fresh (Some bracket) = rw (strange_space b strange, strange_closing bracket) (strange_first bracket)
-
-  strange_number : (ends : Bool) (top : Option Bracket) → OnMove (λ m. ⊥) (number_move_on None ends top b)
-  strange_number true top = strange_after top
-  strange_number false top = tt
+  strange : (m : Mode) (top : Option Bracket) → IsOutside m → Leads (moved m top b) ≡ false
+  strange (Quoted r Plain) top h = absurd h
+  strange (Quoted r Escape) top h = absurd h
+  strange (Quoted r (Hex more)) top h = absurd h
+  strange (Quoted r (Sequence n One)) top h = grind arith
+  strange Fresh None h = refl
+  strange Fresh (Some Square) h = grind arith
+  strange After top h = strange_after top
+  strange (Number part) top h = rw (ended_part part b (grind arith)) (cond_both (is_complete part && not (extends_number b)) _ _ (λ m. Leads m ≡ false) (λ _. strange_after top) (λ _. refl))
+  strange (Word Ull) top h = grind arith
+  strange m top h = grind arith
 
   -- where no escape may come the machine does not go on with it
   pub outside_moved : (m : Mode) (top : Option Bracket) → IsOutside m → OnMove (λ m. ⊥) (moved m top b)
-  outside_moved mode.Value top h = rw (strange_space b strange, strange_value b strange) tt
-  outside_moved Fresh top h = strange_fresh top
-  outside_moved Name top h = rw (strange_space b strange, other 34 (omega arith) (λ e. omega arith)) tt
-  outside_moved Colon top h = rw (strange_space b strange, other 58 (omega arith) (λ e. omega arith)) tt
-  outside_moved After top h = strange_after top
-  outside_moved (Quoted r (Sequence n tail)) top h = rw (strange_tail tail b strange) tt
-  outside_moved (Quoted r place) top h = absurd h
-  outside_moved (Number part) top h = rw (ended_part part b (strange_extends b strange)) (strange_number (is_complete part && not (extends_number b)) top)
-  outside_moved (Word letters) top h = rw (strange_word letters b strange) tt
+  outside_moved m top h = not_led (moved m top b) (strange m top h)
 
 -- only between two characters does the machine go on with a byte that begins a sequence
 pub high_moved : (b : ℕ) → 192 ≤ b → (m : Mode) (top : Option Bracket) → (IsBetween m → ⊥) → OnMove (λ m. ⊥) (moved m top b)
 high_moved b high (Quoted r Plain) top no_plain = absurd (no_plain tt)
-high_moved b high (Quoted r Escape) top no_plain = rw (ne_eqb b 117 (λ e. omega arith), high_letter b high) tt
-high_moved b high (Quoted r (Hex more)) top no_plain = rw (high_hex b high) tt
+high_moved b high (Quoted r Escape) top no_plain = not_led _ (grind arith)
+high_moved b high (Quoted r (Hex more)) top no_plain = not_led _ (grind arith)
 high_moved b high m top no_plain = outside_moved b (inr high) m top tt
+
+-- ---- inside a string an escape may come, and elsewhere none may
+-- the place is inside no sequence
+abbrev pub IsInside : Place → Type 0
+IsInside (Sequence n tail) = ⊥
+IsInside place = Unit {0}
+
+zero_moved : (m : Mode) (top : Option Bracket) → IsOutside m → OnMove IsOutside (moved m top 48)
+zero_moved (Quoted r Plain) top h = absurd h
+zero_moved (Quoted r Escape) top h = absurd h
+zero_moved (Quoted r (Hex more)) top h = absurd h
+zero_moved (Quoted r (Sequence n One)) top h = tt
+zero_moved Fresh None h = tt
+zero_moved Fresh (Some Square) h = tt
+zero_moved After None h = tt
+zero_moved After (Some Square) h = tt
+zero_moved (Number Minus) top h = tt
+zero_moved (Word Ull) top h = tt
+zero_moved m top h = tt
+
+pub no_escape : (limit : ℕ) (o : Outcome) (zeros : ℕ) → OnState IsOutside o → OnState (λ m. ⊥) (run limit o (replicate zeros 48 ++ 92 ∷ []))
+no_escape limit o zero h = on_go IsOutside (λ m. ⊥) limit 92 (outside_moved 92 (inl refl)) o h
+no_escape limit o (suc zeros) h = no_escape limit (go limit o 48) zeros (on_go IsOutside IsOutside limit 48 zero_moved o h)
+
+-- ---- inside a string an escape comes after some zeros
+abbrev Goes : Outcome → Type 0
+Goes o = (m : Mode) × (st : List Bracket) × (o ≡ state m st)
+
+hex_goes : (limit : ℕ) (r : Role) (more : ℕ) (st : List Bracket) → run limit (state (Quoted r (Hex more)) st) (replicate (suc more) 48) ≡ state (Quoted r Plain) st
+hex_goes limit r zero st = refl
+hex_goes limit r (suc more) st = ap (λ place. run limit (state (Quoted r place) st) (replicate (suc more) 48)) (digit_more more) ∙ hex_goes limit r more st
+
+pub some_escape : (limit : ℕ) (r : Role) (place : Place) (st : List Bracket) → IsInside place → (zeros : ℕ) × Goes (run limit (state (Quoted r place) st) (replicate zeros 48 ++ 92 ∷ []))
+some_escape limit r Plain st h = (0, (Quoted r Escape, st, refl))
+some_escape limit r Escape st h = (0, (Quoted r Plain, st, refl))
+some_escape limit r (Hex more) st h =
+    (suc more, (Quoted r Escape, st, run-append limit (state (Quoted r (Hex more)) st) (replicate (suc more) 48) (92 ∷ []) ∙ ap (λ o. run limit o (92 ∷ [])) (hex_goes limit r more st)))
+some_escape limit r (Sequence n tail) st h = absurd h
+
+-- ---- inside a sequence
+pub tail_run : (limit : ℕ) (r : Role) (n : ℕ) (st : List Bracket) (more next : List ℕ) (tail : Tail) → Completes (more ++ next) tail → (next ≡ [] → ⊥)
+    → (rest : Tail) × (run limit (state (Quoted r (Sequence n tail)) st) more ≡ state (Quoted r (Sequence n rest)) st)
+tail_run limit r n st [] next tail c some = (tail, refl)
+tail_run limit r n st (x ∷ more) next One c some = absurd (some (append-none more next c.1))
+tail_run limit r n st (x ∷ more) next tail c some = rw c.0 (tail_run limit r n st more next _ c.1 some)
+
+-- ---- a greater limit refuses nothing more
+applied_more : (limit : ℕ) (st : List Bracket) (b : ℕ) (move : Move) → (applied limit st b move ≡ refused) ⊎ (applied (suc limit) st b move ≡ applied limit st b move)
+applied_more limit st b (Open bracket) = elim (cases_lt (length st) limit) [
+  | inl room ↦ inr (rw (lt-ltb (length st) limit room, lt-ltb (length st) (suc limit) (omega arith)) refl)
+  | inr full ↦ inl (rw (le-ltb (length st) limit full) refl)
+]
+applied_more limit st b move = inr refl
+
+go_more : (limit : ℕ) (o : Outcome) (b : ℕ) → (go limit o b ≡ refused) ⊎ (go (suc limit) o b ≡ go limit o b)
+go_more limit (state m st) b = applied_more limit st b (moved m (top st) b)
+go_more limit o b = inr refl
+
+pub run_more : (limit : ℕ) (o : Outcome) (xs : List ℕ) (m : Mode) (st : List Bracket) → run limit o xs ≡ state m st → run (suc limit) o xs ≡ state m st
+run_more limit o [] m st e = e
+run_more limit o (x ∷ xs) m st e = elim (go_more limit o x) [
+  | inl stuck ↦ absurd (refused_stays limit xs m st (rw stuck at e))
+  | inr same ↦ rw same (run_more limit (go limit o x) xs m st e)
+]
+
+-- ---- no more are open than may be
+abbrev pub IsWithin : ℕ → Outcome → Type 0
+IsWithin limit (state m st) = length st ≤ limit
+IsWithin limit o = Unit {0}
+
+applied_within : (limit : ℕ) (st : List Bracket) (b : ℕ) (move : Move) → length st ≤ limit → IsWithin limit (applied limit st b move)
+applied_within limit st b (To m) h = h
+applied_within limit st b (Open bracket) h = cond_both (nat_lt (length st) limit) _ _ (IsWithin limit) (λ room. omega (arith, ltb-true (length st) limit room)) (λ full. tt)
+applied_within limit st b Close h = omega (arith, length-drop 1 st)
+applied_within limit st b move h = tt
+
+go_within : (limit : ℕ) (o : Outcome) (b : ℕ) → IsWithin limit o → IsWithin limit (go limit o b)
+go_within limit (state m st) b h = applied_within limit st b (moved m (top st) b) h
+go_within limit o b h = tt
+
+pub run_within : (limit : ℕ) (o : Outcome) (xs : List ℕ) → IsWithin limit o → IsWithin limit (run limit o xs)
+run_within limit o [] h = h
+run_within limit o (x ∷ xs) h = run_within limit (go limit o x) xs (go_within limit o x h)
+
+-- ---- what the lesser limit alone refuses
+pub deep_opens : (limit : ℕ) (st : List Bracket) (b : ℕ) (move : Move) (m : Mode) (after : List Bracket) → applied limit st b move ≡ refused → applied (suc limit) st b move ≡ state m after → opens move ≡ true
+deep_opens limit st b (Open bracket) m after e more = refl
+deep_opens limit st b move m after e more = absurd (cc)
+
+-- a refused bracket is one too many, and could stand under one more
+pub opens_deeper : (limit : ℕ) (st : List Bracket) (b : ℕ) (move : Move) → length st ≤ limit → opens move ≡ true → (m : Mode) × (after : List Bracket) × (applied (suc limit) st b move ≡ state m after)
+opens_deeper limit st b (Open bracket) h e = (Fresh, bracket ∷ st, rw (lt-ltb (length st) (suc limit) (omega arith)) refl)
+opens_deeper limit st b move h e = absurd (false≢true e)
+
+-- no bracket opens in a string
+pub string_shut : (r : Role) (place : Place) (b : ℕ) → opens (string_move r place b) ≡ false
+string_shut r Plain b = grind arith
+string_shut r place b = grind arith
+
+-- ---- the bytes that leave a mode as it is
+pub bare_stays : (m : Mode) (top : Option Bracket) → keeps_bare m ≡ true → (b : ℕ) → is_bare b ≡ true → moved m top b ≡ To m
+bare_stays (Quoted r Plain) top keeps b is = grind arith
+bare_stays m top keeps b is = absurd (false≢true keeps)
+
+pub digit_stays : (m : Mode) (top : Option Bracket) → keeps_digits m ≡ true → (b : ℕ) → is_digit b ≡ true → moved m top b ≡ To m
+digit_stays (Number Whole) top keeps b is = grind arith
+digit_stays m top keeps b is = grind arith
+
+pub space_stays : (m : Mode) (top : Option Bracket) → keeps_space m top ≡ true → (b : ℕ) → is_space b ≡ true → moved m top b ≡ To m
+space_stays Fresh None keeps b is = grind arith
+space_stays After None keeps b is = grind arith
+space_stays m top keeps b is = grind arith
+
+-- ---- the machine over it
+pub stay_run : (m : Mode) (st : List Bracket) (xs : List ℕ) → AllByRecursion (λ b. moved m (top st) b ≡ To m) xs → run 128 (state m st) xs ≡ state m st
+stay_run m st [] all = refl
+stay_run m st (x ∷ xs) all = ap (λ move. run 128 (applied 128 st x move) xs) all.0 ∙ stay_run m st xs all.1
+
+-- ---- what is written of it
+pub bare-plain : (b : ℕ) → is_bare b ≡ true → is_plain b ≡ true
+bare-plain b is = grind (arith, nat_tests)

@@ -1,8 +1,9 @@
 -- The machine over the bytes from an offset on.
-use Rattle.std.proofs.Common.{◌≡◌, ℕ, suc, ◌+◌, ◌-◌, ◌<◌, ◌≤◌, List, [], ◌∷◌, length, take, drop, ◌++◌, get_or, Some, None, sym, ap, ap₂, subst, ◌∙◌, arith, length-drop, append_assoc}
+use Rattle.std.proofs.Common.{◌≡◌, ℕ, suc, ◌+◌, ◌-◌, ◌<◌, ◌≤◌, List, [], ◌∷◌, length, take, drop, ◌++◌, get_or, Some, None, refl, sym, ap, subst, ◌∙◌, arith, length-drop, append_assoc}
 use Rattle.std.specs.Prelude.{slice_get}
 use Rattle.std.specs.List.{AllByRecursion}
-use Rattle.std.proofs.lemmas.List.{append_cancel_right, drop-drop, drop-take, get_or-drop, drop_all, take-append-drop, take-take}
+use Rattle.std.proofs.lemmas.List.{append_cancel_right, drop-drop, get_or-drop, drop_all, take-append-drop}
+use Rattle.std.proofs.Math.Seq.{take-add}
 use Rattle.std.proofs.lemmas.Option.{slice_get-get_or, slice_get_past}
 use Rattle.json_text.specs.Value.{Stands}
 use Rattle.json_reader.specs.Faults.{IsFirstFault, IsJsonFault}
@@ -11,14 +12,9 @@ use Rattle.json_reader.specs.declared.machine.Mode.{Mode}
 use Rattle.json_reader.specs.declared.machine.Move.TheVariants.{To}
 use Rattle.json_reader.specs.Machine.{Outcome, state, ended, refused, top, moved, step, fault_of}
 use Rattle.json_reader.proofs.Machines.{run, start, run-append}
-use Rattle.json_reader.proofs.Ends.{take_one, ended_stands, refused_faulty, done_stands, undone_faulty}
+use Rattle.json_reader.proofs.ValueRuns.{take_one, ended_stands, refused_faulty, done_stands, undone_faulty}
 use Rattle.json_reader.proofs.Places.{told}
-use Rattle.json_reader.proofs.Stays.{stay_run}
-
--- a front of two parts
-pub take-plus : (n k : ℕ) (xs : List ℕ) → take (n + k) xs ≡ take n xs ++ take k (drop n xs)
-take-plus n k xs =
-    sym (take-append-drop n (take (n + k) xs)) ∙ ap₂ (λ (x y : List ℕ). x ++ y) (take-take n (n + k) xs (omega arith)) (drop-take n k xs)
+use Rattle.json_reader.proofs.Moves.{stay_run}
 
 module _ (bytes : List ℕ) (at i : ℕ) (low : at ≤ i) where
   got : i < length bytes → slice_get (drop at bytes) (i - at) ≡ Some (get_or bytes i 0)
@@ -38,7 +34,7 @@ module _ (bytes : List ℕ) (at i : ℕ) (low : at ≤ i) where
   pub stretch_more : (j : ℕ) → i ≤ j → take (j - at) (drop at bytes) ≡ take (i - at) (drop at bytes) ++ take (j - i) (drop i bytes)
   stretch_more j up =
       let sum : (i - at) + (j - i) ≡ j - at = omega arith in
-      ap (λ k. take k (drop at bytes)) (sym sum) ∙ take-plus (i - at) (j - i) (drop at bytes) ∙ ap (λ xs. take (i - at) (drop at bytes) ++ take (j - i) xs) behind
+      rw (← sum, take-add, behind) refl
 
   pub whole_value : (text : List ℕ) (s : Stands (drop at bytes) text (drop i bytes)) → take (i - at) (drop at bytes) ≡ s.blank ++ s.value
   whole_value text s =
@@ -47,19 +43,12 @@ module _ (bytes : List ℕ) (at i : ℕ) (low : at ≤ i) where
 
   module _ (m : Mode) (st : List Bracket) (is : run 128 start (take (i - at) (drop at bytes)) ≡ state m st) where
     pub read_on : (o : Outcome) → i < length bytes → step 128 m st (get_or bytes i 0) ≡ o → run 128 start (take (i + 1 - at) (drop at bytes)) ≡ o
-    read_on o high e =
-        let one : suc (i - at) ≡ i + 1 - at = omega arith in
-        ap (λ k. run 128 start (take k (drop at bytes))) (sym one) ∙ ap (run 128 start) (take_one (drop at bytes) (i - at) (get_or bytes i 0) (got high))
-        ∙ run-append 128 start (take (i - at) (drop at bytes)) (get_or bytes i 0 ∷ []) ∙ ap (λ o'. run 128 o' (get_or bytes i 0 ∷ [])) is ∙ e
+    read_on o high e = rw (one_more high, run-append 128 start (take (i - at) (drop at bytes)) (get_or bytes i 0 ∷ []), is) e
 
     -- the bytes from i to j leave the machine as it is
     pub stayed : (j : ℕ) → i ≤ j → AllByRecursion (λ b. moved m (top st) b ≡ To m) (take (j - i) (drop i bytes)) → run 128 start (take (j - at) (drop at bytes)) ≡ state m st
     stayed j up all =
-        let sum : (i - at) + (j - i) ≡ j - at = omega arith in
-        ap (λ k. run 128 start (take k (drop at bytes))) (sym sum) ∙ ap (run 128 start) (take-plus (i - at) (j - i) (drop at bytes))
-        ∙ run-append 128 start (take (i - at) (drop at bytes)) (take (j - i) (drop (i - at) (drop at bytes)))
-        ∙ ap (λ o. run 128 o (take (j - i) (drop (i - at) (drop at bytes)))) is
-        ∙ ap (λ xs. run 128 (state m st) (take (j - i) xs)) behind ∙ stay_run m st (take (j - i) (drop i bytes)) all
+        rw (stretch_more j up, run-append 128 start (take (i - at) (drop at bytes)) (take (j - i) (drop i bytes)), is) (stay_run m st (take (j - i) (drop i bytes)) all)
 
     -- the value ends before the byte at i
     pub end_found : i < length bytes → step 128 m st (get_or bytes i 0) ≡ ended (get_or bytes i 0) → (text : List ℕ) × Stands (drop at bytes) text (drop i bytes)
@@ -72,11 +61,9 @@ module _ (bytes : List ℕ) (at i : ℕ) (low : at ≤ i) where
         record {
           faulty = refused_faulty (drop at bytes) (i - at) m st is (get_or bytes i 0) (got high) e;
           first = subst (λ k. IsJsonFault bytes at (fault_of m (top st) (Some (get_or bytes i 0)) k)) place
-              (told bytes at (i - at) (omega (arith, length-drop at bytes)) m st is (λ b g. subst (λ x. step 128 m st x ≡ refused) (same b g) e) (Some (get_or bytes i 0)) (got high));
+              (told bytes at (i - at) (omega (arith, length-drop at bytes)) m st is
+              (λ b g. let s : Some (get_or bytes i 0) ≡ Some b = sym (got high) ∙ g in let same : get_or bytes i 0 ≡ b = cc in rw (← same) e) (Some (get_or bytes i 0)) (got high));
         }
-      where
-        same : (b : ℕ) → slice_get (drop at bytes) (i - at) ≡ Some b → get_or bytes i 0 ≡ b
-        same b g = let s : Some (get_or bytes i 0) ≡ Some b = sym (got high) ∙ g in cc
 
     -- the bytes end
     module _ (full : i ≡ length bytes) where

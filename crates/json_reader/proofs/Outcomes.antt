@@ -1,5 +1,6 @@
 -- At each offset a value stands or there is a first fault.
-use Rattle.std.proofs.Common.{◌≡◌, ◌⊎◌, inl, inr, ℕ, zero, suc, ◌+◌, ◌-◌, ◌≤◌, ◌<◌, List, [], ◌∷◌, Bool, true, false, length, take, drop, get_or, Some, None, if◌then◌else◌, refl, sym, ◌∙◌, arith, nat_lt}
+use Rattle.std.proofs.Common.{◌≡◌, ◌⊎◌, inl, inr, ℕ, zero, suc, ◌+◌, ◌-◌, ◌≤◌, ◌<◌, List, [], ◌∷◌, length, take, drop, get_or, Some, None, refl, sym, ◌∙◌, arith, nat_lt}
+use Rattle.std.proofs.lemmas.Bool.{cond_both}
 use Rattle.json_text.specs.Value.{Stands}
 use Rattle.json_reader.specs.Faults.{IsFirstFault}
 use Rattle.json_reader.specs.Machine.{Outcome, state, ended, refused, top, moved, applied, fault_of}
@@ -19,11 +20,7 @@ Comes b o = ((m : Mode) × (st : List Bracket) × (o ≡ state m st)) ⊎ ((o �
 
 comes : (limit : ℕ) (st : List Bracket) (b : ℕ) (move : Move) → Comes b (applied limit st b move)
 comes limit st b (To m) = inl (m, st, refl)
-comes limit st b (Open bracket) =
-    elim (nat_lt (length st) limit) as (λ (t : Bool). Comes b (if t then state Fresh (bracket ∷ st) else refused)) [
-      | true ↦ inl (Fresh, bracket ∷ st, refl)
-      | false ↦ inr (inr refl)
-    ]
+comes limit st b (Open bracket) = cond_both (nat_lt (length st) limit) _ _ (Comes b) (λ room. inl (Fresh, bracket ∷ st, refl)) (λ full. inr (inr refl))
 comes limit st b Close = inl (After, drop 1 st, refl)
 comes limit st b End = inr (inl refl)
 comes limit st b Refuse = inr (inr refl)

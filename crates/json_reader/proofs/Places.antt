@@ -9,7 +9,6 @@ use Rattle.std.proofs.lemmas.Option.{slice_get-get_or}
 use Rattle.std.proofs.lemmas.List.{take-take, drop_at, length-take-le}
 use Rattle.json_text.specs.Value.{Begins, IsLongest, IsInString, IsUnfinished, IsTooDeepBracket, IsBrokenOff, IsStray, IsBadSyntax}
 use Rattle.json_reader.specs.Faults.{IsJsonFault}
-use Rattle.json_reader.specs.declared.fault.JsonFault.{JsonFault}
 use Rattle.json_reader.specs.declared.fault.JsonFault.TheVariants.{Syntax, Depth, Utf8}
 use Rattle.json_reader.specs.declared.sequence.Tail.{Tail}
 use Rattle.json_reader.specs.declared.brackets.Bracket.{Bracket}
@@ -25,13 +24,13 @@ use Rattle.json_reader.specs.Machine.{Outcome, state, ended, refused, top, appli
 use Rattle.json_text.proofs.Reading.{append-none}
 use Rattle.json_reader.proofs.Sequences.{Completes, IsChar, char_led, led_char}
 use Rattle.json_reader.proofs.Machines.{run, start, run-append}
-use Rattle.json_reader.proofs.Closers.{tail_closed}
-use Rattle.json_reader.proofs.Onward.{lead_char, led_high}
+use Rattle.json_reader.proofs.ValueRuns.{tail_closed}
+use Rattle.json_reader.proofs.Steps.{lead_char, led_high}
 use Rattle.json_reader.proofs.Moves.{OnState, on_applied, HasCome, Keeps, Kept, kept, run_keeps, IsBetween, IsOutside, high_moved}
-use Rattle.json_reader.proofs.Limits.{IsWithin, run_more, run_within, deep_opens, opens_deeper, string_shut}
-use Rattle.json_reader.proofs.StringPlaces.{IsInside, no_escape, some_escape, tail_run}
+use Rattle.json_reader.proofs.Moves.{IsWithin, run_more, run_within, deep_opens, opens_deeper, string_shut}
+use Rattle.json_reader.proofs.Moves.{IsInside, no_escape, some_escape, tail_run}
 use Rattle.json_reader.proofs.ValueRuns.{begins_runs, runs_begins, begins_less, refused_stays, ended_stays}
-use Rattle.json_reader.proofs.Ends.{take_one}
+use Rattle.json_reader.proofs.ValueRuns.{take_one}
 
 -- the machine is inside a sequence
 abbrev pub IsSequence : Mode → Type 0
@@ -123,8 +122,41 @@ not_inside bytes m st is outside (zeros, begins) =
     ap (λ o. run 128 o (replicate zeros 48 ++ 92 ∷ [])) (sym is) ∙ sym (run-append 128 start bytes (replicate zeros 48 ++ 92 ∷ [])) ∙ r.reached in
     subst (OnState (λ x. ⊥)) e (no_escape 128 (state m st) zeros outside)
 
+-- ---- stray bytes
+stray_none : (b c : ℕ) (more : List ℕ) → is_stray b ≡ true → IsScalar c → encode_utf8 c ≡ b ∷ more → ⊥
+stray_none b c more stray scalar e =
+    let p = and_parts (nat_le 128 b) (is_none (tail_led b)) stray in
+    let high : 128 ≤ b = leb-true 128 b p.0 in
+    elim (cases_lt c 128) [
+      | inl small ↦
+          let one : c ∷ [] ≡ b ∷ more = sym (encode_ascii c small) ∙ e in
+          let same : c ≡ b = cc in
+          omega arith
+      | inr big ↦
+          let l = char_led c scalar big in
+          let all : l.first ∷ l.more ≡ b ∷ more = sym l.spells ∙ e in
+          let same : l.first ≡ b = cc in
+          false≢true (ap is_none (sym l.led) ∙ ap (λ x. is_none (tail_led x)) same ∙ p.1)
+    ]
+
+pub stray_some : (b : ℕ) → is_stray b ≡ false → ((c : ℕ) (more : List ℕ) → IsScalar c → encode_utf8 c ≡ b ∷ more → ⊥) → ⊥
+stray_some b stray none = elim (and_cases (nat_le 128 b) (is_none (tail_led b)) stray) [
+  | inl low ↦ let small : b < 128 = leb-false 128 b low in none b [] (low_scalar b (omega arith)) (encode_ascii b small)
+  | inr led ↦ by (tail_led b) refl led
+]
+  where
+    by : (o : Option Tail) → tail_led b ≡ o → is_none o ≡ false → ⊥
+    by None e l = false≢true (sym l)
+    by (Some tail) e l =
+        let t = tail_closed tail in
+        let c = led_char b t.0 tail e t.1 in
+        none c.0 t.0 c.1 c.3
+
 -- ---- the fault behind the first n bytes
-module _ (bytes : List ℕ) (n : ℕ) (within : n ≤ length bytes) where
+module _ (every : List ℕ) (at n : ℕ) (within : n ≤ length (drop at every)) where
+  abbrev bytes : List ℕ
+  bytes = drop at every
+
   abbrev Stops : Mode → List Bracket → Type 0
   Stops m st = (b : ℕ) → slice_get bytes n ≡ Some b → step 128 m st b ≡ refused
 
@@ -195,112 +227,52 @@ module _ (bytes : List ℕ) (n : ℕ) (within : n ≤ length bytes) where
       ];
     }
 
--- ---- stray bytes
-stray_none : (b c : ℕ) (more : List ℕ) → is_stray b ≡ true → IsScalar c → encode_utf8 c ≡ b ∷ more → ⊥
-stray_none b c more stray scalar e =
-    let p = and_parts (nat_le 128 b) (is_none (tail_led b)) stray in
-    let high : 128 ≤ b = leb-true 128 b p.0 in
-    elim (cases_lt c 128) [
-      | inl small ↦
-          let one : c ∷ [] ≡ b ∷ more = sym (encode_ascii c small) ∙ e in
-          let same : c ≡ b = cc in
-          omega arith
-      | inr big ↦
-          let l = char_led c scalar big in
-          let all : l.first ∷ l.more ≡ b ∷ more = sym l.spells ∙ e in
-          let same : l.first ≡ b = cc in
-          false≢true (ap is_none (sym l.led) ∙ ap (λ x. is_none (tail_led x)) same ∙ p.1)
-    ]
+    -- no bracket is one too many where the next byte opens none
+    not_deep : (next : Option ℕ) → slice_get bytes n ≡ next → ((b : ℕ) → next ≡ Some b → opens (moved m (top st) b) ≡ false) → IsTooDeepBracket bytes n → ⊥
+    not_deep next g shut d = let o = deep_opens_here d in false≢true (sym (shut o.0 (sym g ∙ o.1)) ∙ o.2)
 
-pub stray_some : (b : ℕ) → is_stray b ≡ false → ((c : ℕ) (more : List ℕ) → IsScalar c → encode_utf8 c ≡ b ∷ more → ⊥) → ⊥
-stray_some b stray none = elim (and_cases (nat_le 128 b) (is_none (tail_led b)) stray) [
-  | inl low ↦ let small : b < 128 = leb-false 128 b low in none b [] (low_scalar b (omega arith)) (encode_ascii b small)
-  | inr led ↦ by (tail_led b) refl led
-]
-  where
-    by : (o : Option Tail) → tail_led b ≡ o → is_none o ≡ false → ⊥
-    by None e l = false≢true (sym l)
-    by (Some tail) e l =
-        let t = tail_closed tail in
-        let c = led_char b t.0 tail e t.1 in
-        none c.0 t.0 c.1 c.3
+    -- outside strings
+    told_bracket : IsOutside m → (IsSequence m → ⊥) → (next : Option ℕ) → slice_get bytes n ≡ next → IsJsonFault every at (bracket_fault m (top st) next (at + n))
+    told_bracket outside none None g = (n, refl, syntax (not_deep None g (λ b e. cc)) none (λ s. not_inside (take n bytes) m st is outside s.inside))
+    told_bracket outside none (Some b) g = by (opens (moved m (top st) b)) refl
+      where
+        by : (open' : Bool) → opens (moved m (top st) b) ≡ open' → IsJsonFault every at (cond open' (Depth (at + n)) (Syntax (at + n)))
+        by true o = (n, refl, too_deep b g o)
+        by false o =
+            let shut : (k : ℕ) → Some b ≡ Some k → opens (moved m (top st) k) ≡ false = λ k e. let same : b ≡ k = cc in subst (λ x. opens (moved m (top st) x) ≡ false) same o in
+            (n, refl, syntax (not_deep (Some b) g shut) none (λ s. not_inside (take n bytes) m st is outside s.inside))
 
--- ---- which fault it is
-module _ (every : List ℕ) (at n : ℕ) (within : n ≤ length (drop at every)) (m : Mode) (st : List Bracket)
-    (is : run 128 start (take n (drop at every)) ≡ state m st) (stops : Stops (drop at every) n within m st) where
-  bytes : List ℕ
-  bytes = drop at every
+  -- inside strings
+  module _ (r : Role) (place : Place) (st : List Bracket) (is : run 128 start (take n bytes) ≡ state (Quoted r place) st) (stops : Stops (Quoted r place) st) where
+    inside : IsInside place → IsInString (take n bytes)
+    inside in_string =
+        let e = some_escape 128 r place st in_string in
+        let zeros : List ℕ = replicate e.0 48 ++ 92 ∷ [] in
+        let ran : run 128 start (take n bytes ++ zeros) ≡ state e.1.0 e.1.1 = run-append 128 start (take n bytes) zeros ∙ ap (λ o. run 128 o zeros) is ∙ e.1.2 in
+        (e.0, runs_begins 128 (take n bytes ++ zeros) (record { mode = e.1.0; brackets = e.1.1; reached = ran }))
 
-  abbrev Told : JsonFault → Type 0
-  Told fault = IsJsonFault every at fault
+    syntax_there : (IsSequence (Quoted r place) → ⊥) → (next : Option ℕ) → slice_get bytes n ≡ next → (IsStray bytes n → ⊥) → IsJsonFault every at (Syntax (at + n))
+    syntax_there none next g = λ stray. (n, refl, syntax (Quoted r place) st is stops (not_deep (Quoted r place) st is stops next g (λ b e. string_shut r place b)) none stray)
 
-  told_syntax : IsBadSyntax (drop at every) n → Told (Syntax (at + n))
-  told_syntax bad = (n, refl, bad)
-
-  shallow : (b : ℕ) → slice_get (drop at every) n ≡ Some b → opens (moved m (top st) b) ≡ false → IsTooDeepBracket (drop at every) n → ⊥
-  shallow b g shut d =
-      let o = deep_opens_here (drop at every) n within m st is stops d in
-      let same : b ≡ o.0 = let e : Some b ≡ Some o.0 = sym g ∙ o.1 in cc in
-      false≢true (sym shut ∙ ap (λ x. opens (moved m (top st) x)) same ∙ o.2)
-
-  at_end : slice_get (drop at every) n ≡ None → IsTooDeepBracket (drop at every) n → ⊥
-  at_end none d =
-      let o = deep_opens_here (drop at every) n within m st is stops d in
-      let e : None ≡ Some o.0 = sym none ∙ o.1 in
-      cc
-
-  -- outside strings
-  told_bracket : IsOutside m → (IsSequence m → ⊥) → (next : Option ℕ) → slice_get (drop at every) n ≡ next → Told (bracket_fault m (top st) next (at + n))
-  told_bracket outside none None g = told_syntax (syntax (drop at every) n within m st is stops (at_end g) none (λ s. not_inside (take n (drop at every)) m st is outside s.inside))
-  told_bracket outside none (Some b) g = by (opens (moved m (top st) b)) refl
-    where
-      by : (open' : Bool) → opens (moved m (top st) b) ≡ open' → Told (cond open' (Depth (at + n)) (Syntax (at + n)))
-      by true o = (n, refl, too_deep (drop at every) n within m st is stops b g o)
-      by false o = told_syntax (syntax (drop at every) n within m st is stops (shallow b g o) none (λ s. not_inside (take n (drop at every)) m st is outside s.inside))
-
--- inside strings
-module _ (every : List ℕ) (at n : ℕ) (within : n ≤ length (drop at every)) (r : Role) (place : Place) (st : List Bracket)
-    (is : run 128 start (take n (drop at every)) ≡ state (Quoted r place) st) (stops : Stops (drop at every) n within (Quoted r place) st) where
-  inside : IsInside place → IsInString (take n (drop at every))
-  inside in_string =
-      let e = some_escape 128 r place st in_string in (
-        e.0,
-        runs_begins 128 (take n (drop at every) ++ (replicate e.0 48 ++ 92 ∷ [])) (record {
-          mode = e.1.0;
-          brackets = e.1.1;
-          reached = run-append 128 start (take n (drop at every)) (replicate e.0 48 ++ 92 ∷ []) ∙ ap (λ o. run 128 o (replicate e.0 48 ++ 92 ∷ [])) is ∙ e.1.2;
-        }),
-      )
-
-  told_stray : IsInside place → (IsSequence (Quoted r place) → ⊥) → (next : Option ℕ) → slice_get (drop at every) n ≡ next → IsJsonFault every at (stray_fault next (at + n))
-  told_stray in_string none None g = (
-    n,
-    refl,
-    syntax (drop at every) n within (Quoted r place) st is stops (at_end every at n within (Quoted r place) st is stops g) none
-        (λ s. let e : None ≡ Some s.byte = sym g ∙ s.read in cc),
-  )
-  told_stray in_string none (Some b) g = by (is_stray b) refl
-    where
-      by : (stray : Bool) → is_stray b ≡ stray → IsJsonFault every at (cond stray (Utf8 (at + n)) (Syntax (at + n)))
-      by true e = (
-        n,
-        refl,
-        inr (record {
-          longest = longest (drop at every) n within (Quoted r place) st is stops;
-          inside = inside in_string;
-          byte = b;
-          read = g;
-          begins_none = λ c more. stray_none b c more e;
-        }),
-      )
-      by false e = (
-        n,
-        refl,
-        syntax (drop at every) n within (Quoted r place) st is stops
-            (shallow every at n within (Quoted r place) st is stops b g (string_shut r place b)) none
-            (λ s. let same : s.byte ≡ b = let x : Some s.byte ≡ Some b = sym s.read ∙ g in cc in
-            stray_some b e (subst (λ x. (c : ℕ) (more : List ℕ) → IsScalar c → encode_utf8 c ≡ x ∷ more → ⊥) same s.begins_none)),
-      )
+    told_stray : IsInside place → (IsSequence (Quoted r place) → ⊥) → (next : Option ℕ) → slice_get bytes n ≡ next → IsJsonFault every at (stray_fault next (at + n))
+    told_stray in_string none None g = syntax_there none None g (λ s. let e : None ≡ Some s.byte = sym g ∙ s.read in cc)
+    told_stray in_string none (Some b) g = by (is_stray b) refl
+      where
+        by : (stray : Bool) → is_stray b ≡ stray → IsJsonFault every at (cond stray (Utf8 (at + n)) (Syntax (at + n)))
+        by true e = (
+          n,
+          refl,
+          inr (record {
+            longest = longest (Quoted r place) st is stops;
+            inside = inside in_string;
+            byte = b;
+            read = g;
+            begins_none = λ c more. stray_none b c more e;
+          }),
+        )
+        by false e = syntax_there none (Some b) g (λ s.
+            let same : s.byte ≡ b = let x : Some s.byte ≡ Some b = sym s.read ∙ g in cc in
+            stray_some b e (subst (λ x. (c : ℕ) (more : List ℕ) → IsScalar c → encode_utf8 c ≡ x ∷ more → ⊥) same s.begins_none))
 
 -- inside a sequence
 unfinished : (come : List ℕ) (tail : Tail) → 0 < length come → ((t : List ℕ) → Completes t tail → IsChar (come ++ t)) → IsUnfinished come
@@ -311,10 +283,10 @@ unfinished (first ∷ more) tail some completes =
     (c.0, first, more, t.0, c.1, refl, c.3, λ e. subst (λ x. Completes x tail) e t.1)
 
 told_sequence : (every : List ℕ) (at n : ℕ) (within : n ≤ length (drop at every)) (r : Role) (size : ℕ) (tail : Tail) (st : List Bracket)
-    → (is : run 128 start (take n (drop at every)) ≡ state (Quoted r (Sequence size tail)) st) → Stops (drop at every) n within (Quoted r (Sequence size tail)) st
+    → (is : run 128 start (take n (drop at every)) ≡ state (Quoted r (Sequence size tail)) st) → Stops every at n within (Quoted r (Sequence size tail)) st
     → IsJsonFault every at (Utf8 ((at + n) - (size - tail_length tail)))
 told_sequence every at n within r size tail st is stops =
-    let h : HasCome (take n (drop at every)) size tail = keeps (drop at every) n within (Quoted r (Sequence size tail)) st is stops in
+    let h : HasCome (take n (drop at every)) size tail = keeps every at n within (Quoted r (Sequence size tail)) st is stops in
     let long : length h.before + length h.come ≡ n = sym (length-append h.before h.come) ∙ ap length (sym h.parts) ∙ length-take-le n (drop at every) within in
     let rest : drop (length h.before) (take n (drop at every)) ≡ h.come = ap (drop (length h.before)) h.parts ∙ drop_at h.before h.come (length h.before) refl in (
       length h.before,
@@ -322,7 +294,7 @@ told_sequence every at n within r size tail st is stops =
       inl (
         n,
         record {
-          longest = longest (drop at every) n within (Quoted r (Sequence size tail)) st is stops;
+          longest = longest every at n within (Quoted r (Sequence size tail)) st is stops;
           before = omega (arith, h.some);
           unfinished = subst IsUnfinished (sym rest) (unfinished h.come tail h.some h.completes);
         },
@@ -331,7 +303,7 @@ told_sequence every at n within r size tail st is stops =
 
 -- the fault of the code is the first one
 pub told : (every : List ℕ) (at n : ℕ) (within : n ≤ length (drop at every)) (m : Mode) (st : List Bracket)
-    → (is : run 128 start (take n (drop at every)) ≡ state m st) → Stops (drop at every) n within m st → (next : Option ℕ) → slice_get (drop at every) n ≡ next
+    → (is : run 128 start (take n (drop at every)) ≡ state m st) → Stops every at n within m st → (next : Option ℕ) → slice_get (drop at every) n ≡ next
     → IsJsonFault every at (fault_of m (top st) next (at + n))
 told every at n within (Quoted r (Sequence size tail)) st is stops next g = told_sequence every at n within r size tail st is stops
 told every at n within (Quoted r place) st is stops next g = told_stray every at n within r place st is stops tt (λ h. h) next g

@@ -1,5 +1,5 @@
 -- A writer that is ready for the rest behind a value, whose compact text it has written, was ready for the value.
-use Rattle.std.proofs.Common.{◌≡◌, ℕ, ◌+◌, ◌-◌, List, [], ◌∷◌, ◌++◌, Bool, true, false, eqb, Option, Some, None, map, flat_map, length, refl, sym, ap, subst, ◌∙◌, arith, inl, inr, append_assoc, append-nil}
+use Rattle.std.proofs.Common.{◌≡◌, ℕ, ◌+◌, ◌-◌, List, [], ◌∷◌, ◌++◌, Bool, true, false, eqb, Option, Some, None, map, flat_map, refl, sym, ap, subst, ◌∙◌, arith, inl, inr, append_assoc, append-nil}
 use Rattle.std.specs.Char.{encode_utf8}
 use Rattle.std.specs.List.{list_all, AllByRecursion, join_with_byte}
 use Rattle.std.proofs.lemmas.Bool.{and_parts, false≢true}
@@ -9,9 +9,11 @@ use Rattle.json_text.specs.Characters.{is_space, is_blank, is_plain, is_digit, q
 use Rattle.json_text.specs.Compact.{Member, content, compact, members, collapsed, label_name, member_text, array_text, object_text}
 use Rattle.json_text.specs.Walk.{outside, inside, Quoted}
 use Rattle.json_text.specs.Tree.{Piece, bare, letter, unit, IsPiece, piece_spelling, string_spelling, array, object, Label, unnamed, named, IsLabel, label_spelling, Tree, scalar, text, empty, filled, Values, last, next, spelling, values_spelling, IsGood, AreGood}
-use Rattle.json_reader.specs.Drafts.{Drafted, fresh, grown, pair_text, pairs_text}
+use Rattle.json_reader.specs.Drafts.{Drafted, grown, pair_text, pairs_text}
 use Rattle.json_reader.specs.Places.{quoted}
-use Rattle.json_reader.specs.Writing.{Writing, between, AreAlike, Ready}
+use Rattle.json_reader.specs.Writing.{Writing, between, deed, deed_at, Can, Done, AreAlike, Ready}
+use Rattle.json_reader.specs.declared.writing.Deed.{Deed}
+use Rattle.json_reader.specs.declared.writing.Deed.TheVariants.{Skip, Keep, Slash, Push}
 use Rattle.json_reader.specs.declared.staying.Ground.TheVariants as ground
 use Rattle.json_text.proofs.CompactLaws.{members-utf8}
 use Rattle.json_text.proofs.Escapes.{content-bare}
@@ -28,25 +30,32 @@ draft ms name current level = record { members = ms; name = name; current = curr
 abbrev within : Bool → Bool → List ℕ → Drafted → List Drafted → Writing
 within escaped escapes string here around = record { place = inside escaped; escapes = escapes; string = string; here = here; around = around }
 
+-- whether an escape came, behind these pieces
+abbrev escapes-after : Bool → List Piece → Bool
+escapes-after escapes [] = escapes
+escapes-after escapes (bare c ∷ ps) = escapes-after escapes ps
+escapes-after escapes (letter b ∷ ps) = escapes-after true ps
+escapes-after escapes (unit a b c d ∷ ps) = escapes-after true ps
+
+escapes-stay : (ps : List Piece) → escapes-after true ps ≡ false → ⊥
+escapes-stay [] e = false≢true (sym e)
+escapes-stay (bare c ∷ ps) e = escapes-stay ps e
+escapes-stay (letter b ∷ ps) e = escapes-stay ps e
+escapes-stay (unit a b c d ∷ ps) e = escapes-stay ps e
+
 -- a string without escapes is its own quote
-abbrev AreBare : List Piece → Type 0
-AreBare [] = Unit {0}
-AreBare (bare c ∷ pieces) = AreBare pieces
-AreBare (letter b ∷ pieces) = ⊥
-AreBare (unit a b c d ∷ pieces) = ⊥
-
-bare-content : (ps : List Piece) → AllByRecursion IsPiece ps → AreBare ps → flat_map quoted_byte (content ps) ≡ flat_map piece_spelling ps
+bare-content : (ps : List Piece) → AllByRecursion IsPiece ps → escapes-after false ps ≡ false → flat_map quoted_byte (content ps) ≡ flat_map piece_spelling ps
 unfolding content
-bare-content [] good are = refl
-bare-content (bare c ∷ ps) good are =
+bare-content [] good none = refl
+bare-content (bare c ∷ ps) good none =
     ap (flat_map quoted_byte) (content-bare c ps good.0.0) ∙ flat_map-append quoted_byte (encode_utf8 c) (content ps)
-    ∙ rw (quoted-bare c good.0, bare-content ps good.1 are) refl
-bare-content (letter b ∷ ps) good are = absurd are
-bare-content (unit a b c d ∷ ps) good are = absurd are
+    ∙ rw (quoted-bare c good.0, bare-content ps good.1 none) refl
+bare-content (letter b ∷ ps) good none = absurd (escapes-stay ps none)
+bare-content (unit a b c d ∷ ps) good none = absurd (escapes-stay ps none)
 
-bare-quote : (ps : List Piece) → AllByRecursion IsPiece ps → AreBare ps → string_spelling ps ≡ quote (content ps)
+bare-quote : (ps : List Piece) → AllByRecursion IsPiece ps → escapes-after false ps ≡ false → string_spelling ps ≡ quote (content ps)
 unfolding quote
-bare-quote ps good are = ap (λ s. 34 ∷ (s ++ 34 ∷ [])) (sym (bare-content ps good are))
+bare-quote ps good none = ap (λ s. 34 ∷ (s ++ 34 ∷ [])) (sym (bare-content ps good none))
 
 one-more : (xs : List ℕ) (x : ℕ) (ys : List ℕ) → (xs ++ x ∷ []) ++ ys ≡ xs ++ x ∷ ys
 one-more xs x ys = append_assoc xs (x ∷ []) ys
@@ -81,108 +90,104 @@ object-shut values good c =
 some-none : {A : Type 0} {name : List ℕ} → Some name ≡ None → A
 some-none e = absurd (cc)
 
+-- ---- bytes that are all taken in one way
+pushes : (b level : ℕ) → is_part_of_literal b ≡ true → deed outside level b ≡ Push
+pushes b level part = grind (arith, nat_tests)
+
+keeps : (escaped : Bool) (b level : ℕ) → is_plain b ≡ true → deed (inside escaped) level b ≡ Keep
+keeps true b level plain = refl
+keeps false b level plain = rw (plain-quote b plain, plain-slash b plain) refl
+
+digit-part : (b : ℕ) → is_digit b ≡ true → is_part_of_literal b ≡ true
+digit-part b digit = grind (arith, nat_tests)
+
+digit-solid : (b : ℕ) → is_digit b ≡ true → is_space b ≡ false
+digit-solid b digit = grind (arith, nat_tests)
+
+all-pass : (p q : ℕ → Bool) → ((b : ℕ) → p b ≡ true → q b ≡ true) → (xs : List ℕ) → AllByRecursion (λ b. p b ≡ true) xs → list_all q xs ≡ true
+all-pass p q each [] pass = refl
+all-pass p q each (x ∷ xs) pass = rw (each x pass.0, all-pass p q each xs pass.1) refl
+
 module _ (written : List ℕ) where
   abbrev Is : Writing → List ℕ → Type 0
   Is w rest = Ready written w rest
 
-  -- ---- white space, and bytes that are appended
-  pub blank-ready : (blank rest : List ℕ) (d : Drafted) (ds : List Drafted) → is_blank blank ≡ true → Is (between d ds) rest → Is (between d ds) (blank ++ rest)
-  blank-ready [] rest d ds is r = r
-  blank-ready (b ∷ blank) rest d ds is r =
-      let both = and_parts (is_space b) (is_blank blank) is in
-      rw both.0 (tt, λ new e. subst (λ w. Is w (blank ++ rest)) (sym e) (blank-ready blank rest d ds both.1 r))
+  -- Over these bytes the writer comes from here to there, and in no other way.
+  abbrev Takes : List ℕ → Writing → Writing → Type 0
+  Takes xs w to = (rest : List ℕ) → (Is to rest → Is w (xs ++ rest)) × (Is w (xs ++ rest) → Is to rest)
 
-  literal-ready : (xs rest : List ℕ) (ms : List Member) (n : Option (List ℕ)) (c : List ℕ) (l : ℕ) (ds : List Drafted) → list_all is_part_of_literal xs ≡ true
-      → Is (between (draft ms n (c ++ xs) l) ds) rest → Is (between (draft ms n c l) ds) (xs ++ rest)
-  literal-ready [] rest ms n c l ds is r = subst (λ s. Is (between (draft ms n s l) ds) rest) (append-nil c) r
-  literal-ready (x ∷ xs) rest ms n c l ds is r =
+  takes-byte : (d : Deed) (b : ℕ) (xs : List ℕ) (w mid to : Writing) → deed_at w b ≡ d → Can d w b → ((new : Writing) → Done d w b new → new ≡ mid) → Done d w b mid
+      → Takes xs mid to → Takes (b ∷ xs) w to
+  takes-byte d b xs w mid to same can only done takes rest =
+      subst (λ e. (Is to rest → Can e w b × ((new : Writing) → Done e w b new → Is new (xs ++ rest))) × (Can e w b × ((new : Writing) → Done e w b new → Is new (xs ++ rest)) → Is to rest)) (sym same)
+      (λ r. (can, λ new is. subst (λ v. Is v (xs ++ rest)) (sym (only new is)) ((takes rest).0 r)), λ r. (takes rest).1 (r.1 mid done))
+
+  takes-append : (xs ys : List ℕ) (w mid to : Writing) → Takes xs w mid → Takes ys mid to → Takes (xs ++ ys) w to
+  takes-append xs ys w mid to front back rest =
+      subst (λ zs. (Is to rest → Is w zs) × (Is w zs → Is to rest)) (sym (append_assoc xs ys rest))
+      (λ r. (front (ys ++ rest)).0 ((back rest).0 r), λ r. (back rest).1 ((front (ys ++ rest)).1 r))
+
+  -- ---- white space, and bytes that are appended
+  blanks : (xs : List ℕ) (d : Drafted) (ds : List Drafted) → is_blank xs ≡ true → Takes xs (between d ds) (between d ds)
+  blanks [] d ds is = λ rest. (λ r. r, λ r. r)
+  blanks (x ∷ xs) d ds is =
+      let both = and_parts (is_space x) (is_blank xs) is in
+      takes-byte Skip x xs _ (between d ds) _ (rw both.0 refl) tt (λ new e. e) refl (blanks xs d ds both.1)
+
+  pub blank-ready : (blank rest : List ℕ) (d : Drafted) (ds : List Drafted) → is_blank blank ≡ true → Is (between d ds) rest → Is (between d ds) (blank ++ rest)
+  blank-ready blank rest d ds is = (blanks blank d ds is rest).0
+
+  literals : (xs : List ℕ) (d : Drafted) (ds : List Drafted) → list_all is_part_of_literal xs ≡ true → Takes xs (between d ds) (between (grown d xs) ds)
+  literals [] d ds is = subst (λ c. Takes [] (between d ds) (between (record d { current = c }) ds)) (sym (append-nil d.current)) (λ rest. (λ r. r, λ r. r))
+  literals (x ∷ xs) d ds is =
       let both = and_parts (is_part_of_literal x) (list_all is_part_of_literal xs) is in
-      let plain = both.0 in
-      let space : is_space x ≡ false = grind (arith, nat_tests) in
-      let mark : eqb x 34 ≡ false = grind (arith, nat_tests) in
-      let comma : eqb x 44 ≡ false = grind (arith, nat_tests) in
-      let colon : eqb x 58 ≡ false = grind (arith, nat_tests) in
-      let deeper : eqb x 91 ≡ false = grind (arith, nat_tests) in
-      let shallower : eqb x 93 ≡ false = grind (arith, nat_tests) in
-      let opens : eqb x 123 ≡ false = grind (arith, nat_tests) in
-      let shuts : eqb x 125 ≡ false = grind (arith, nat_tests) in
-      rw (space, mark, comma, colon, deeper, shallower, opens, shuts)
-      (tt, λ new e. subst (λ w. Is w (xs ++ rest)) (sym e) (literal-ready xs rest ms n (c ++ x ∷ []) l ds both.1 (subst (λ s. Is (between (draft ms n s l) ds) rest) (sym (one-more c x xs)) r)))
+      subst (λ c. Takes (x ∷ xs) (between d ds) (between (record d { current = c }) ds)) (one-more d.current x xs)
+      (takes-byte Push x xs _ (between (grown d (x ∷ [])) ds) _ (pushes x d.level both.0) tt (λ new e. e) refl (literals xs (grown d (x ∷ [])) ds both.1))
 
   -- ---- strings
-  keep-ready : (xs rest s : List ℕ) (escapes : Bool) (d : Drafted) (ds : List Drafted) → list_all is_plain xs ≡ true
-      → Is (within false escapes (s ++ xs) d ds) rest → Is (within false escapes s d ds) (xs ++ rest)
-  keep-ready [] rest s escapes d ds is r = subst (λ t. Is (within false escapes t d ds) rest) (append-nil s) r
-  keep-ready (x ∷ xs) rest s escapes d ds is r =
-      let both = and_parts (is_plain x) (list_all is_plain xs) is in
-      rw (plain-quote x both.0, plain-slash x both.0)
-      (tt, λ new e. subst (λ w. Is w (xs ++ rest)) (sym e) (keep-ready xs rest (s ++ x ∷ []) escapes d ds both.1 (subst (λ t. Is (within false escapes t d ds) rest) (sym (one-more s x xs)) r)))
+  plain-first : (x : ℕ) (xs s : List ℕ) (escaped escapes : Bool) (d : Drafted) (ds : List Drafted) → is_plain x ≡ true
+      → Takes xs (within false escapes (s ++ x ∷ []) d ds) (within false escapes ((s ++ x ∷ []) ++ xs) d ds) → Takes (x ∷ xs) (within escaped escapes s d ds) (within false escapes (s ++ x ∷ xs) d ds)
+  plain-first x xs s escaped escapes d ds plain takes =
+      subst (λ t. Takes (x ∷ xs) (within escaped escapes s d ds) (within false escapes t d ds)) (one-more s x xs)
+      (takes-byte Keep x xs (within escaped escapes s d ds) (within false escapes (s ++ x ∷ []) d ds) _ (keeps escaped x d.level plain) tt (λ new e. e) refl takes)
 
-  -- The string has come up to some piece; whole it is the spelling of a text, and its quote where no escape is in it.
-  record Goes (whole s : List ℕ) (t : List ℕ) (ps : List Piece) (escapes : Bool) : Type 0 where
-    good : AllByRecursion IsPiece ps
-    parts : whole ≡ s ++ (flat_map piece_spelling ps ++ 34 ∷ [])
-    is : Quoted whole t []
-    same : escapes ≡ false → AreBare ps → whole ≡ quote t
+  plains : (xs s : List ℕ) (escapes : Bool) (d : Drafted) (ds : List Drafted) → list_all is_plain xs ≡ true → Takes xs (within false escapes s d ds) (within false escapes (s ++ xs) d ds)
+  plains [] s escapes d ds is = subst (λ t. Takes [] (within false escapes s d ds) (within false escapes t d ds)) (sym (append-nil s)) (λ rest. (λ r. r, λ r. r))
+  plains (x ∷ xs) s escapes d ds is =
+      let both = and_parts (is_plain x) (list_all is_plain xs) is in plain-first x xs s false escapes d ds both.0 (plains xs (s ++ x ∷ []) escapes d ds both.1)
 
-  pieces-ready : (ps : List Piece) (rest whole s t : List ℕ) (escapes : Bool) (d : Drafted) (ds : List Drafted) → Goes whole s t ps escapes
-      → Is (between (grown d (quote t)) ds) rest → Is (within false escapes s d ds) (flat_map piece_spelling ps ++ 34 ∷ rest)
-  pieces-ready [] rest whole s t escapes d ds g r = (
-    record { text = t; quoted = subst (λ x. Quoted x t []) g.parts g.is; same = λ none. sym g.parts ∙ g.same none tt },
-    λ new done. subst (λ w. Is w rest) (sym (done t (subst (λ x. Quoted x t []) g.parts g.is))) r,
-  )
-  pieces-ready (bare c ∷ ps) rest whole s t escapes d ds g r =
+  pieces : (ps : List Piece) (s : List ℕ) (escapes : Bool) (d : Drafted) (ds : List Drafted) → AllByRecursion IsPiece ps
+      → Takes (flat_map piece_spelling ps) (within false escapes s d ds) (within false (escapes-after escapes ps) (s ++ flat_map piece_spelling ps) d ds)
+  pieces [] s escapes d ds good = plains [] s escapes d ds refl
+  pieces (bare c ∷ ps) s escapes d ds good =
       let bytes = piece_spelling (bare c) in
-      subst (λ x. Is (within false escapes s d ds) x) (sym (append_assoc bytes (flat_map piece_spelling ps) (34 ∷ rest)))
-      (keep-ready bytes (flat_map piece_spelling ps ++ 34 ∷ rest) s escapes d ds (plain-bare c g.good.0.2 g.good.0.3)
-      (pieces-ready ps rest whole (s ++ bytes) t escapes d ds (record {
-        good = g.good.1;
-        parts = g.parts ∙ ap (λ x. s ++ x) (append_assoc bytes (flat_map piece_spelling ps) (34 ∷ [])) ∙ sym (append_assoc s bytes (flat_map piece_spelling ps ++ 34 ∷ []));
-        is = g.is;
-        same = λ none are. g.same none are;
-      }) r))
-  pieces-ready (letter b ∷ ps) rest whole s t escapes d ds g r = (
-    tt,
-    λ new e. subst (λ w. Is w (b ∷ (flat_map piece_spelling ps ++ 34 ∷ rest))) (sym e) (
-      tt,
-      λ new e. subst (λ w. Is w (flat_map piece_spelling ps ++ 34 ∷ rest)) (sym e) (pieces-ready ps rest whole ((s ++ 92 ∷ []) ++ b ∷ []) t true d ds (record {
-        good = g.good.1;
-        parts = g.parts ∙ sym (one-more s 92 (b ∷ (flat_map piece_spelling ps ++ 34 ∷ []))) ∙ sym (one-more (s ++ 92 ∷ []) b (flat_map piece_spelling ps ++ 34 ∷ []));
-        is = g.is;
-        same = λ none. absurd (false≢true (sym none));
-      }) r),
-    ),
-  )
-  pieces-ready (unit a b c x ∷ ps) rest whole s t escapes d ds g r = (
-    tt,
-    λ new e. subst (λ w. Is w (117 ∷ a ∷ b ∷ c ∷ x ∷ (flat_map piece_spelling ps ++ 34 ∷ rest))) (sym e) (
-      tt,
-      λ new e. subst (λ w. Is w (a ∷ b ∷ c ∷ x ∷ (flat_map piece_spelling ps ++ 34 ∷ rest))) (sym e) (
-          keep-ready (a ∷ b ∷ c ∷ x ∷ []) (flat_map piece_spelling ps ++ 34 ∷ rest) ((s ++ 92 ∷ []) ++ 117 ∷ []) true d ds (list_all-each _ is_plain hex-plain (a ∷ b ∷ c ∷ x ∷ []) g.good.0)
-          (pieces-ready ps rest whole (((s ++ 92 ∷ []) ++ 117 ∷ []) ++ a ∷ b ∷ c ∷ x ∷ []) t true d ds (record {
-            good = g.good.1;
-            parts = g.parts ∙ sym (one-more s 92 (117 ∷ a ∷ b ∷ c ∷ x ∷ (flat_map piece_spelling ps ++ 34 ∷ []))) ∙ sym (one-more (s ++ 92 ∷ []) 117 (a ∷ b ∷ c ∷ x ∷ (flat_map piece_spelling ps ++ 34 ∷ [])))
-                ∙ sym (append_assoc ((s ++ 92 ∷ []) ++ 117 ∷ []) (a ∷ b ∷ c ∷ x ∷ []) (flat_map piece_spelling ps ++ 34 ∷ []));
-            is = g.is;
-            same = λ none. absurd (false≢true (sym none));
-          }) r)
-          ),
-    ),
-  )
+      subst (λ t. Takes (flat_map piece_spelling (bare c ∷ ps)) (within false escapes s d ds) (within false (escapes-after escapes ps) t d ds)) (append_assoc s bytes (flat_map piece_spelling ps))
+      (takes-append bytes (flat_map piece_spelling ps) (within false escapes s d ds) (within false escapes (s ++ bytes) d ds) _ (plains bytes s escapes d ds (plain-bare c good.0.2 good.0.3)) (pieces ps (s ++ bytes) escapes d ds good.1))
+  pieces (letter b ∷ ps) s escapes d ds good =
+      let mid : List ℕ = (s ++ 92 ∷ []) ++ b ∷ [] in
+      let more = flat_map piece_spelling ps in
+      subst (λ t. Takes (flat_map piece_spelling (letter b ∷ ps)) (within false escapes s d ds) (within false (escapes-after true ps) t d ds)) (simp append_assoc)
+      (takes-byte Slash 92 (b ∷ more) (within false escapes s d ds) (within true true (s ++ 92 ∷ []) d ds) _ refl tt (λ new e. e) refl
+      (takes-byte Keep b more (within true true (s ++ 92 ∷ []) d ds) (within false true mid d ds) _ refl tt (λ new e. e) refl (pieces ps mid true d ds good.1)))
+  pieces (unit a b c x ∷ ps) s escapes d ds good =
+      let mid : List ℕ = (s ++ 92 ∷ []) ++ 117 ∷ [] in
+      let digits : List ℕ = a ∷ b ∷ c ∷ x ∷ [] in
+      let more = flat_map piece_spelling ps in
+      subst (λ t. Takes (flat_map piece_spelling (unit a b c x ∷ ps)) (within false escapes s d ds) (within false (escapes-after true ps) t d ds)) (simp append_assoc)
+      (takes-byte Slash 92 (117 ∷ digits ++ more) (within false escapes s d ds) (within true true (s ++ 92 ∷ []) d ds) _ refl tt (λ new e. e) refl
+      (takes-byte Keep 117 (digits ++ more) (within true true (s ++ 92 ∷ []) d ds) (within false true mid d ds) _ refl tt (λ new e. e) refl
+      (takes-append digits more (within false true mid d ds) (within false true (mid ++ digits) d ds) _ (plains digits mid true d ds (list_all-each _ is_plain hex-plain digits good.0)) (pieces ps (mid ++ digits) true d ds good.1))))
 
   string-ready : (ps : List Piece) (rest : List ℕ) (d : Drafted) (ds : List Drafted) → AllByRecursion IsPiece ps
       → Is (between (grown d (quote (content ps))) ds) rest → Is (between d ds) (string_spelling ps ++ rest)
-  string-ready ps rest d ds good r = (
-    tt,
-    λ new e. subst (λ w. Is w ((flat_map piece_spelling ps ++ 34 ∷ []) ++ rest)) (sym e)
-        (subst (λ x. Is (within false false (34 ∷ []) d ds) x) (sym (append_assoc (flat_map piece_spelling ps) (34 ∷ []) rest))
-        (pieces-ready ps rest (string_spelling ps) (34 ∷ []) (content ps) false d ds (record {
-          good = good;
-          parts = refl;
-          is = record { pieces = ps; good = good; parts = sym (append-nil (string_spelling ps)); means = refl };
-          same = λ none are. bare-quote ps good are;
-        }) r)),
-  )
+  string-ready ps rest d ds good r =
+      let is : Quoted (string_spelling ps) (content ps) [] = record { pieces = ps; good = good; parts = sym (append-nil (string_spelling ps)); means = refl } in (
+        tt,
+        λ new e. rw (e, append_assoc (flat_map piece_spelling ps) (34 ∷ []) rest) ((pieces ps (34 ∷ []) false d ds good (34 ∷ rest)).0 (
+          record { text = content ps; quoted = is; same = bare-quote ps good },
+          λ other done. rw (done (content ps) is) r,
+        )),
+      )
 
   -- ---- the names of members
   name-ready : (l : Label) (rest : List ℕ) (ms : List Member) (ds : List Drafted) → IsLabel object l
@@ -201,39 +206,28 @@ module _ (written : List ℕ) where
   mutual
     pub tree-ready : (tree : Tree) (rest : List ℕ) (ms : List Member) (n : Option (List ℕ)) (c : List ℕ) (l : ℕ) (ds : List Drafted) → IsGood tree
         → Is (between (draft ms n (c ++ compact tree) l) ds) rest → Is (between (draft ms n c l) ds) (spelling tree ++ rest)
-    tree-ready (scalar literal) rest ms n c l ds good r = literal-ready literal rest ms n c l ds (literal-plain literal good) r
+    tree-ready (scalar literal) rest ms n c l ds good r = (literals literal (draft ms n c l) ds (literal-plain literal good) rest).0 r
     tree-ready (text pieces) rest ms n c l ds good r = string-ready pieces rest (draft ms n c l) ds good r
     tree-ready (empty array blank) rest ms n c l ds good r =
-        let back : l + 1 - 1 ≡ l = omega arith in (
-          tt,
-          λ new e. subst (λ w. Is w ((blank ++ 93 ∷ []) ++ rest)) (sym e)
-              (subst (Is (between (draft ms n (c ++ 91 ∷ []) (l + 1)) ds)) (sym (append_assoc blank (93 ∷ []) rest))
-              (blank-ready blank (93 ∷ rest) _ ds good
-              (tt, λ new e. subst (λ w. Is w rest) (sym e) (rw (back, one-more c 91 (93 ∷ [])) r)))),
-        )
+        let back : l + 1 - 1 ≡ l = omega arith in
+        (tt, λ new e. rw (e, append_assoc blank (93 ∷ []) rest) (blank-ready blank (93 ∷ rest) _ ds good (tt, λ other is. rw (is, back, one-more c 91 (93 ∷ [])) r)))
     tree-ready (empty object blank) rest ms n c l ds good r = (
       tt,
-      λ new e. subst (λ w. Is w ((blank ++ 125 ∷ []) ++ rest)) (sym e)
-          (subst (Is (between fresh (ds ++ draft ms n (c ++ 123 ∷ []) l ∷ []))) (sym (append_assoc blank (125 ∷ []) rest))
-          (blank-ready blank (125 ∷ rest) _ _ good (
-            record { outer = ds; next = draft ms n (c ++ 123 ∷ []) l; open_in = refl; none = λ none. (refl, refl) },
-            λ new done. subst (λ w. Is w rest) (sym (done ds (draft ms n (c ++ 123 ∷ []) l) refl)) (rw (append-nil (c ++ 123 ∷ []), one-more c 123 (125 ∷ [])) r),
-          ))),
+      λ new e. rw (e, append_assoc blank (125 ∷ []) rest) (blank-ready blank (125 ∷ rest) _ _ good (
+        record { outer = ds; next = draft ms n (c ++ 123 ∷ []) l; open_in = refl; none = λ none. (refl, refl) },
+        λ other done. rw (done ds (draft ms n (c ++ 123 ∷ []) l) refl, append-nil (c ++ 123 ∷ []), one-more c 123 (125 ∷ [])) r,
+      )),
     )
     tree-ready (filled array values) rest ms n c l ds good r = (
       tt,
-      λ new e. subst (λ w. Is w ((values_spelling values ++ 93 ∷ []) ++ rest)) (sym e)
-          (subst (Is (between (draft ms n (c ++ 91 ∷ []) (l + 1)) ds)) (sym (append_assoc (values_spelling values) (93 ∷ []) rest))
-          (items-ready values rest ms n (c ++ 91 ∷ []) l ds good
-          (subst (λ s. Is (between (draft ms n s l) ds) rest) (ap (λ s. c ++ s) (array-items values) ∙ sym (one-more c 91 (items_text values))) r))),
+      λ new e. rw (e, append_assoc (values_spelling values) (93 ∷ []) rest) (items-ready values rest ms n (c ++ 91 ∷ []) l ds good
+          (subst (λ s. Is (between (draft ms n s l) ds) rest) (ap (λ s. c ++ s) (array-items values) ∙ sym (one-more c 91 (items_text values))) r)),
     )
     tree-ready (filled object values) rest ms n c l ds good r =
         let o : Drafted = draft ms n (c ++ 123 ∷ []) l in (
           tt,
-          λ new e. subst (λ w. Is w ((values_spelling values ++ 125 ∷ []) ++ rest)) (sym e)
-              (subst (Is (between fresh (ds ++ o ∷ []))) (sym (append_assoc (values_spelling values) (125 ∷ []) rest))
-              (members-ready values rest [] o ds good
-              (subst (λ s. Is (between (draft ms n s l) ds) rest) (object-shut values good c) r))),
+          λ new e. rw (e, append_assoc (values_spelling values) (125 ∷ []) rest)
+              (members-ready values rest [] o ds good (subst (λ s. Is (between (draft ms n s l) ds) rest) (object-shut values good c) r)),
         )
 
     items-ready : (values : Values) (rest : List ℕ) (ms : List Member) (n : Option (List ℕ)) (c : List ℕ) (l : ℕ) (ds : List Drafted) → AreGood array values
@@ -267,66 +261,26 @@ module _ (written : List ℕ) where
         subst (Is (between (draft done None [] 0) (ds ++ o ∷ []))) (sym (regroup-next (label_spelling label) (spelling value) blank 44 (values_spelling values) (125 ∷ rest)))
         (name-ready label _ done _ good.0 (tree-ready value _ done (Some (quote (label_name label))) [] 0 _ good.1 (blank-ready blank _ _ _ good.2 (
           (quote (label_name label), refl),
-          λ new is. subst (λ w. Is w (values_spelling values ++ 125 ∷ rest)) (sym (is (quote (label_name label)) refl))
+          λ new is. subst (λ w. Is w (values_spelling values ++ 125 ∷ rest)) (sym is)
               (members-ready values rest (done ++ (quote (label_name label), compact value) ∷ []) o ds good.3
               (subst (λ ms. Is (between (grown (grown o (pairs_text (collapsed ms))) (125 ∷ [])) ds) rest)
               (sym (append_assoc done ((quote (label_name label), compact value) ∷ []) (map quoted (members values)))) r)),
         ))))
 
-  -- ---- stretches
-  keep-all : (xs more s : List ℕ) (escapes : Bool) (d : Drafted) (ds : List Drafted) → AllByRecursion (λ b. is_plain b ≡ true) xs
-      → Is (within false escapes s d ds) (xs ++ more) → Is (within false escapes (s ++ xs) d ds) more
-  keep-all [] more s escapes d ds plain r = subst (λ t. Is (within false escapes t d ds) more) (sym (append-nil s)) r
-  keep-all (x ∷ xs) more s escapes d ds plain r =
-      subst (λ t. Is (within false escapes t d ds) more) (one-more s x xs)
-      (keep-all xs more (s ++ x ∷ []) escapes d ds plain.1 ((rw (plain-quote x plain.0, plain-slash x plain.0) at r).1 (within false escapes (s ++ x ∷ []) d ds) refl))
+  -- ---- stretches, by their first bytes
+  module _ (xs more : List ℕ) (d : Drafted) (ds : List Drafted) (b : ℕ) (others : List ℕ) (first : xs ≡ b ∷ others) where
+    -- in a string
+    pub stretch-quoted : (s : List ℕ) (escaped escapes : Bool) → AreAlike ground.Quoted xs → Is (within escaped escapes s d ds) (xs ++ more) → Is (within false escapes (s ++ xs) d ds) more
+    stretch-quoted s escaped escapes plain =
+        let all = subst (AllByRecursion (λ x. is_plain x ≡ true)) first plain in
+        subst (λ ys. Is (within escaped escapes s d ds) (ys ++ more) → Is (within false escapes (s ++ ys) d ds) more) (sym first)
+        (plain-first b others s escaped escapes d ds all.0 (plains others (s ++ b ∷ []) escapes d ds (all-pass is_plain is_plain (λ x e. e) others all.1)) more).1
 
-  abbrev apart : Bool → List ℕ → Drafted → List Drafted → Writing
-  apart escapes string here around = record { place = outside; escapes = escapes; string = string; here = here; around = around }
+    -- outside strings white space is dropped, and digits are appended
+    pub stretch-appended : AreAlike ground.Between xs → is_space b ≡ false → Is (between d ds) (xs ++ more) → Is (between (grown d xs) ds) more
+    stretch-appended (inl blank) solid = absurd (false≢true (sym solid ∙ (subst (AllByRecursion (λ x. is_space x ≡ true)) first blank).0))
+    stretch-appended (inr digits) solid = (literals xs d ds (all-pass is_digit is_part_of_literal digit-part xs digits) more).1
 
-  drop-all : (xs more s : List ℕ) (escapes : Bool) (d : Drafted) (ds : List Drafted) → AllByRecursion (λ b. is_space b ≡ true) xs
-      → Is (apart escapes s d ds) (xs ++ more) → Is (apart escapes s d ds) more
-  drop-all [] more s escapes d ds blank r = r
-  drop-all (x ∷ xs) more s escapes d ds blank r = drop-all xs more s escapes d ds blank.1 ((rw blank.0 at r).1 (apart escapes s d ds) refl)
-
-  push-all : (xs more s : List ℕ) (escapes : Bool) (d : Drafted) (ds : List Drafted) → AllByRecursion (λ b. is_digit b ≡ true) xs
-      → Is (apart escapes s d ds) (xs ++ more) → Is (apart escapes s (grown d xs) ds) more
-  push-all [] more s escapes d ds digits r = subst (λ c. Is (apart escapes s (record d { current = c }) ds) more) (sym (append-nil d.current)) r
-  push-all (x ∷ xs) more s escapes d ds digits r =
-      let digit = digits.0 in
-      let space : is_space x ≡ false = grind (arith, nat_tests) in
-      let mark : eqb x 34 ≡ false = grind (arith, nat_tests) in
-      let comma : eqb x 44 ≡ false = grind (arith, nat_tests) in
-      let colon : eqb x 58 ≡ false = grind (arith, nat_tests) in
-      let deeper : eqb x 91 ≡ false = grind (arith, nat_tests) in
-      let shallower : eqb x 93 ≡ false = grind (arith, nat_tests) in
-      let opens : eqb x 123 ≡ false = grind (arith, nat_tests) in
-      let shuts : eqb x 125 ≡ false = grind (arith, nat_tests) in
-      subst (λ c. Is (apart escapes s (record d { current = c }) ds) more) (one-more d.current x xs)
-      (push-all xs more s escapes (grown d (x ∷ [])) ds digits.1
-      ((rw (space, mark, comma, colon, deeper, shallower, opens, shuts) at r).1 (apart escapes s (grown d (x ∷ [])) ds) refl))
-
-  -- a stretch in a string
-  pub stretch-quoted : (xs more s : List ℕ) (escaped escapes : Bool) (d : Drafted) (ds : List Drafted) → AreAlike ground.Quoted xs → (b : ℕ) (others : List ℕ) → xs ≡ b ∷ others
-      → Is (within escaped escapes s d ds) (xs ++ more) → Is (within false escapes (s ++ xs) d ds) more
-  stretch-quoted [] more s escaped escapes d ds plain b others first r = absurd (omega (arith, ap length first))
-  stretch-quoted (x ∷ xs) more s false escapes d ds plain b others first r = keep-all (x ∷ xs) more s escapes d ds plain r
-  stretch-quoted (x ∷ xs) more s true escapes d ds plain b others first r =
-      subst (λ t. Is (within false escapes t d ds) more) (one-more s x xs)
-      (keep-all xs more (s ++ x ∷ []) escapes d ds plain.1 (r.1 (within false escapes (s ++ x ∷ []) d ds) refl))
-
-  digit-solid : (b : ℕ) → is_digit b ≡ true → is_space b ≡ false
-  digit-solid b digit = grind (arith, nat_tests)
-
-  -- a stretch outside strings is white space and dropped, or is appended, by its first byte
-  pub stretch-between : (xs more s : List ℕ) (escapes : Bool) (d : Drafted) (ds : List Drafted) → AreAlike ground.Between xs → (b : ℕ) (others : List ℕ) → xs ≡ b ∷ others
-      → is_space b ≡ false → Is (apart escapes s d ds) (xs ++ more) → Is (apart escapes s (grown d xs) ds) more
-  stretch-between xs more s escapes d ds (inl blank) b others first solid r =
-      absurd (false≢true (sym solid ∙ (subst (AllByRecursion (λ x. is_space x ≡ true)) first blank).0))
-  stretch-between xs more s escapes d ds (inr digits) b others first solid r = push-all xs more s escapes d ds digits r
-
-  pub stretch-dropped : (xs more s : List ℕ) (escapes : Bool) (d : Drafted) (ds : List Drafted) → AreAlike ground.Between xs
-      → ((b : ℕ) (others : List ℕ) → xs ≡ b ∷ others → is_space b ≡ true) → Is (apart escapes s d ds) (xs ++ more) → Is (apart escapes s d ds) more
-  stretch-dropped xs more s escapes d ds (inl blank) first r = drop-all xs more s escapes d ds blank r
-  stretch-dropped [] more s escapes d ds (inr digits) first r = r
-  stretch-dropped (b ∷ xs) more s escapes d ds (inr digits) first r = absurd (false≢true (sym (digit-solid b digits.0) ∙ first b xs refl))
+    pub stretch-dropped : AreAlike ground.Between xs → is_space b ≡ true → Is (between d ds) (xs ++ more) → Is (between d ds) more
+    stretch-dropped (inl blank) space = (blanks xs d ds (all-pass is_space is_space (λ x e. e) xs blank) more).1
+    stretch-dropped (inr digits) space = absurd (false≢true (sym (digit-solid b (subst (AllByRecursion (λ x. is_digit x ≡ true)) first digits).0) ∙ space))

@@ -1,5 +1,5 @@
 -- What is written of an object under way. Only contracts of private functions cite this. This project's own.
-use Rattle.std.specs.Prelude.{◌≡◌, ℕ, ◌≤◌, List, [], ◌∷◌, ◌++◌, Option, None, Some, length, take, map, flat_map}
+use Rattle.std.specs.Prelude.{◌≡◌, ℕ, ◌≤◌, List, [], ◌∷◌, ◌++◌, Option, None, Some, length, drop, map, flat_map}
 use Rattle.std.specs.List.{join_with_byte}
 use Rattle.json_text.specs.Compact.{Member, collapsed}
 use Rattle.json_reader.specs.Places.{cut, entries, IsWithin, AreWithin}
@@ -52,9 +52,14 @@ abbrev pub IsNameWithin : ℕ → Option Span → Type 0
 IsNameWithin size None = Unit {0}
 IsNameWithin size (Some span) = IsWithin size span
 
--- The text before an offset is of these members and this name.
+-- the places with that of the member of this name and value, if there is a name
+abbrev pub placed : List Place → Option Span → Span → List Place
+placed places None value = places
+placed places (Some name) value = places ++ record { name = name; value = value } ∷ []
+
+-- The text is of these members, this name and what is current behind them.
 pub record IsDraft (text : List ℕ) (from : ℕ) (name : Option Span) (places : List Place) : Type 0 where
   pub within : from ≤ length text
-  pub named : IsNameWithin from name
-  pub placed : AreWithin from places
-  pub written : take from text ≡ front (entries text places) (named_there text name)
+  pub named : IsNameWithin (length text) name
+  pub placed : AreWithin (length text) places
+  pub written : text ≡ front (entries text places) (named_there text name) ++ drop from text

@@ -58,13 +58,10 @@ part_after Exponent b = if is_digit b then Some Exponent else None
 -- a number may end after this part
 abbrev pub is_complete : Part → Bool
 is_complete Minus = false
-is_complete Zero = true
-is_complete Whole = true
 is_complete Dot = false
-is_complete Fraction = true
 is_complete Letter = false
 is_complete Sign = false
-is_complete Exponent = true
+is_complete part = true
 
 -- ---- sequences of UTF-8: Unicode, table 3-7
 -- what must come after a byte that begins a sequence of more than one
@@ -81,33 +78,27 @@ tail_led b =
 
 -- this byte may be the next
 abbrev pub tail_fits : Tail → ℕ → Bool
-tail_fits One b = nat_le 0x80 b && nat_le b 0xBF
-tail_fits Two b = nat_le 0x80 b && nat_le b 0xBF
-tail_fits Three b = nat_le 0x80 b && nat_le b 0xBF
 tail_fits Long3 b = nat_le 0xA0 b && nat_le b 0xBF
 tail_fits Low3 b = nat_le 0x80 b && nat_le b 0x9F
 tail_fits Long4 b = nat_le 0x90 b && nat_le b 0xBF
 tail_fits Low4 b = nat_le 0x80 b && nat_le b 0x8F
+tail_fits tail b = nat_le 0x80 b && nat_le b 0xBF
 
 -- what must come after one byte more
 abbrev pub tail_after : Tail → Option Tail
 tail_after One = None
-tail_after Two = Some One
 tail_after Three = Some Two
-tail_after Long3 = Some One
-tail_after Low3 = Some One
 tail_after Long4 = Some Two
 tail_after Low4 = Some Two
+tail_after tail = Some One
 
 -- how many bytes must still come
 abbrev pub tail_length : Tail → ℕ
 tail_length One = 1
-tail_length Two = 2
 tail_length Three = 3
-tail_length Long3 = 2
-tail_length Low3 = 2
 tail_length Long4 = 3
 tail_length Low4 = 3
+tail_length tail = 2
 
 -- ---- words
 -- the letter that must come next
@@ -230,10 +221,6 @@ abbrev pub led_on : Role → Option Tail → Move
 led_on r (Some tail) = To (Quoted r (Sequence (tail_length tail + 1) tail))
 led_on r None = Refuse
 
--- a byte of 0x80 or more between two characters
-abbrev pub led_move : Role → ℕ → Move
-led_move r b = led_on r (tail_led b)
-
 -- an ASCII character that stands in a string as it is
 abbrev pub is_bare : ℕ → Bool
 is_bare b = nat_le 0x20 b && (nat_lt b 0x80 && (not (b == 34) && not (b == 92)))
@@ -245,26 +232,29 @@ plain_move r b =
     else (if b == 92 then To (Quoted r Escape)
     else (if nat_lt b 0x20 then Refuse
     else (if nat_lt b 0x80 then To (Quoted r Plain)
-    else led_move r b)))
+    else led_on r (tail_led b))))
 
 -- behind a `\`
 abbrev pub escape_move : Role → ℕ → Move
 escape_move r b =
     if b == 117 then To (Quoted r (Hex 3)) else (if letter_meaning b == 0 then Refuse else To (Quoted r Plain))
 
+-- behind a digit of base 16 that so many more must follow
+abbrev pub after_digit : ℕ → Place
+after_digit more = if more == 0 then Plain else Hex (more - 1)
+
 -- among the digits of base 16 of an escape
 abbrev pub hex_move : Role → ℕ → ℕ → Move
-hex_move r more b =
-    if is_hex b then (if more == 0 then To (Quoted r Plain) else To (Quoted r (Hex (more - 1)))) else Refuse
+hex_move r more b = if is_hex b then To (Quoted r (after_digit more)) else Refuse
 
--- what a byte does in a sequence, by what must come after it
-abbrev pub sequence_on : Role → ℕ → Option Tail → Move
-sequence_on r length (Some tail) = To (Quoted r (Sequence length tail))
-sequence_on r length None = To (Quoted r Plain)
+-- behind a byte of a sequence, by what must come after it
+abbrev pub in_sequence : ℕ → Option Tail → Place
+in_sequence length (Some tail) = Sequence length tail
+in_sequence length None = Plain
 
 -- in a sequence of UTF-8
 abbrev pub sequence_move : Role → ℕ → Tail → ℕ → Move
-sequence_move r length tail b = if tail_fits tail b then sequence_on r length (tail_after tail) else Refuse
+sequence_move r length tail b = if tail_fits tail b then To (Quoted r (in_sequence length (tail_after tail))) else Refuse
 
 -- in a string
 abbrev pub string_move : Role → Place → ℕ → Move
@@ -349,11 +339,8 @@ string_fault (Sequence length tail) byte n = Utf8 (n - (length - tail_length tai
 
 -- the move opens a bracket
 abbrev pub opens : Move → Bool
-opens (To m) = false
 opens (Open bracket) = true
-opens Close = false
-opens End = false
-opens Refuse = false
+opens move = false
 
 -- the fault outside strings: a bracket is refused only where one too many is open
 abbrev pub bracket_fault : Mode → Option Bracket → Option ℕ → ℕ → JsonFault

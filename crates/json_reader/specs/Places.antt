@@ -22,8 +22,11 @@ mark_of name = if nat_lt (length name) 3 then 0 else ((length name + slice_index
 abbrev pub IsWithin : ℕ → Span → Type 0
 IsWithin size span = (span.start ≤ span.end) × (span.end ≤ size)
 
+abbrev pub IsPlaced : ℕ → Place → Type 0
+IsPlaced size place = IsWithin size place.name × IsWithin size place.value
+
 abbrev pub AreWithin : ℕ → List Place → Type 0
-AreWithin size places = All (λ (place : Place). IsWithin size place.name × IsWithin size place.value) places
+AreWithin size places = All (IsPlaced size) places
 
 -- a member with its name quoted
 abbrev pub quoted : Member → Member

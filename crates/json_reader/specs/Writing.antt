@@ -1,16 +1,17 @@
 -- What each byte of a value makes of what was written of the value. Only contracts of private functions cite this.
 -- This project's own, over RFC 8259, sections 2 to 7.
-use Rattle.std.specs.Prelude.{◌≡◌, ℕ, ◌+◌, ◌-◌, ◌<◌, ◌≤◌, length, take, drop, slice_index, List, [], ◌∷◌, ◌++◌, None, Some, Bool, true, false, ◌==◌, ◌⊎◌, if◌then◌else◌}
+use Rattle.std.specs.Prelude.{◌≡◌, ℕ, ◌+◌, ◌-◌, ◌<◌, ◌≤◌, length, take, drop, slice_index, List, [], ◌∷◌, ◌++◌, Option, None, Some, Bool, true, false, ◌==◌, ◌&&◌, ◌⊎◌, if◌then◌else◌}
 use Rattle.std.specs.List.{AllByRecursion}
 use Rattle.json_text.specs.Characters.{is_space, is_blank, is_plain, is_digit, quote}
 use Rattle.json_text.specs.Compact.{compact}
 use Rattle.json_text.specs.Walk.{Place, outside, inside, place_of, Quoted}
 use Rattle.json_text.specs.Tree.{Tree, IsGood, spelling}
 use Rattle.json_text.specs.Value.{Stands}
-use Rattle.json_reader.specs.Drafts.{Drafted, fresh, grown, closed}
-use Rattle.json_reader.specs.Machine.{state, refused, step}
-use Rattle.json_reader.specs.Runs.{run, start, is_over, EndsBefore}
+use Rattle.json_reader.specs.Drafts.{Drafted, fresh, grown, closed, with_last}
+use Rattle.json_reader.specs.Machine.{state, refused, top, step, fault_of}
+use Rattle.json_reader.specs.Runs.{run, start, is_over, EndsBefore, IsKept}
 use Rattle.json_reader.specs.declared.brackets.Bracket.{Bracket}
+use Rattle.json_reader.specs.declared.fault.JsonFault.{JsonFault}
 use Rattle.json_reader.specs.declared.machine.Machine.{Machine}
 use Rattle.json_reader.specs.declared.machine.Mode.{Mode}
 use Rattle.json_reader.specs.declared.reader.Reader.{Reader}
@@ -47,7 +48,7 @@ kept_to next w = if w.quoted then w.start else next
 abbrev pub writing_at : List ℕ → ℕ → Writer → Writing
 writing_at bytes next w = record {
   place = place_of w.quoted w.escaped;
-  escapes = w.escapes;
+  escapes = w.quoted && w.escapes;
   string = if w.quoted then stretch bytes w.start next else [];
   here = grown w.here (stretch bytes w.from (kept_to next w));
   around = w.around.items;
@@ -105,8 +106,7 @@ Done Open w b new = new ≡ record w { here = fresh; around = w.around ++ grown 
 Done Shut w b new = (outer : List Drafted) (next : Drafted) → w.around ≡ outer ++ next ∷ []
     → new ≡ record w { here = grown (grown next (closed w.here)) (b ∷ []); around = outer }
 Done Name w b new = new ≡ record w { here = record w.here { name = Some w.here.current; current = [] } }
-Done Part w b new = (name : List ℕ) → w.here.name ≡ Some name
-    → new ≡ record w { here = record w.here { members = w.here.members ++ (name, w.here.current) ∷ []; name = None; current = [] } }
+Done Part w b new = new ≡ record w { here = record w.here { members = with_last w.here.members w.here.name w.here.current; name = None; current = [] } }
 Done Deepen w b new = new ≡ record w { here = record (grown w.here (b ∷ [])) { level = w.here.level + 1 } }
 Done Rise w b new = new ≡ record w { here = record (grown w.here (b ∷ [])) { level = w.here.level - 1 } }
 Done Push w b new = new ≡ record w { here = grown w.here (b ∷ []) }
@@ -141,9 +141,9 @@ Ready text w [] = w ≡ between (grown fresh text) []
 Ready text w (b ∷ bytes) = Can (deed_at w b) w b × ((new : Writing) → Done (deed_at w b) w b new → Ready text new bytes)
 
 -- Whatever value behind white space these bytes begin, the writer is ready for the rest of it.
-pub record HasWritten (bytes : List ℕ) (w : Writing) : Type 0 where
-  pub ready : (blank more : List ℕ) (tree : Tree) → is_blank blank ≡ true → IsGood tree → blank ++ spelling tree ≡ bytes ++ more
-      → Ready (compact tree) w more
+abbrev pub HasWritten : List ℕ → Writing → Type 0
+HasWritten bytes w =
+    (blank more : List ℕ) (tree : Tree) → is_blank blank ≡ true → IsGood tree → blank ++ spelling tree ≡ bytes ++ more → Ready (compact tree) w more
 
 -- The machine has run over the bytes from an offset to the next one, and what they make is written.
 pub record HasRead (bytes : List ℕ) (at next : ℕ) (machine : Machine) (writer : Writer) : Type 0 where
@@ -166,19 +166,38 @@ ReadsOn bytes next machine writer end after written =
 abbrev pub IsRead : List ℕ → ℕ → Reader → Type 0
 IsRead bytes at reader = HasRead bytes at reader.next reader.machine reader.writer
 
--- The value from an offset on has ended before a later one.
-pub record HasEnded (bytes : List ℕ) (at end : ℕ) : Type 0 where
+-- The value of these bytes has ended before what is left of them.
+pub record EndsIn (bytes left : List ℕ) : Type 0 where
   pub mode : Mode
   pub brackets : List Bracket
-  pub low : at ≤ end
-  pub high : end ≤ length bytes
-  pub ran : run 128 start (stretch bytes at end) ≡ state mode brackets
-  pub ends : EndsBefore mode brackets (drop end bytes)
+  pub front : List ℕ
+  pub parts : bytes ≡ front ++ left
+  pub ran : run 128 start front ≡ state mode brackets
+  pub ends : EndsBefore mode brackets left
 
 -- what came of reading on in these bytes, which were read from an offset on
 abbrev pub Came : List ℕ → ℕ → Taken → Type 0
 Came bytes at (taken.Through reader) = IsRead bytes at reader × (reader.next ≡ length bytes) × (is_over reader.machine.mode reader.machine.brackets ≡ false)
-Came bytes at (taken.Ended value end) = HasEnded bytes at end × Stands (drop at bytes) value (drop end bytes)
+Came bytes at (taken.Ended value end) = (at ≤ end) × (end ≤ length bytes) × EndsIn (drop at bytes) (drop end bytes) × Stands (drop at bytes) value (drop end bytes)
 Came bytes at (taken.Refused machine next) =
     (at ≤ next) × (next < length bytes) × (run 128 start (stretch bytes at next) ≡ state machine.mode machine.brackets)
     × (step 128 machine.mode machine.brackets (slice_index bytes next) ≡ refused)
+
+-- A byte of these is refused, and this fault is told of it, where so many bytes came with them in all.
+pub record IsRefusedIn (bytes : List ℕ) (total : ℕ) (fault : JsonFault) : Type 0 where
+  pub mode : Mode
+  pub brackets : List Bracket
+  pub front : List ℕ
+  pub byte : ℕ
+  pub left : List ℕ
+  pub place : ℕ
+  pub parts : bytes ≡ front ++ byte ∷ left
+  pub counted : place + length (byte ∷ left) ≡ total
+  pub ran : run 128 start front ≡ state mode brackets
+  pub stuck : step 128 mode brackets byte ≡ refused
+  pub told : fault ≡ fault_of mode (top brackets) (Some byte) place
+
+-- What is left of these bytes, whose last ones are a piece, of which so many were used: all, where the value is under way.
+abbrev pub HasFed : List ℕ → List ℕ → List ℕ → ℕ → Option (List ℕ) → Type 0
+HasFed bytes piece left used None = (used ≡ length piece) × (left ≡ bytes) × IsKept left
+HasFed bytes piece left used (Some text) = (left ≡ []) × (used ≤ length piece) × EndsIn bytes (drop used piece) × Stands bytes text (drop used piece)

@@ -1,8 +1,8 @@
 //! What is written of an object under way.
 
-ghost use Rattle.std.specs.Prelude.{◌≡◌, ℕ, [], ◌∷◌, ◌++◌, List, Some, None, ◌+◌, ◌-◌, IfOk, OnOk};
+ghost use Rattle.std.specs.Prelude.{◌≡◌, ℕ, [], ◌∷◌, ◌++◌, List, Some, None, ◌+◌, ◌-◌, IfOk, OnOk, OnErr};
 ghost use Rattle.json_text.specs.Characters.{quote};
-ghost use Rattle.json_reader.specs.Drafts.{fresh, grown, closed};
+ghost use Rattle.json_reader.specs.Drafts.{fresh, grown, closed, placed, with_last};
 
 use crate::collapsing::{FEW, Place, Span, collapse};
 use json_text::{Text, push_quote};
@@ -89,6 +89,7 @@ impl Draft {
     }
 
     /// Appends these bytes.
+    #[tactic(auto, using(crate::proofs::Drafting::grown_is))]
     pub(crate) fn extend(&mut self, bytes: &[u8]) -> Result<(), AllocError>
         ensures { OnOk result (self.new ≡ grown self.old bytes.now) }
     {
@@ -121,6 +122,7 @@ impl Draft {
     }
 
     /// A colon comes: what is current is a name.
+    #[tactic(auto, using(crate::proofs::Drafting::named_is))]
     pub(crate) fn end_name(&mut self) -> Result<(), AllocError>
         requires { self.old.name ≡ None }
         ensures { OnOk result (self.new ≡ record self.old { name = Some self.old.current; current = [] }) }
@@ -136,23 +138,18 @@ impl Draft {
     }
 
     /// A comma comes: the member is whole.
+    #[tactic(auto, using(crate::proofs::Drafting::grown_is))]
     pub(crate) fn end_member(&mut self) -> Result<(), AllocError>
         requires { (name : List ℕ) × (self.old.name ≡ Some name) }
-        ensures { OnOk result ((name : List ℕ) → self.old.name ≡ Some name
-            → self.new ≡ record self.old { members = self.old.members ++ (name, self.old.current) ∷ []; name = None; current = [] }) }
+        ensures { OnOk result (self.new ≡ record self.old { members = with_last self.old.members self.old.name self.old.current; name = None; current = [] }) }
     {
         let end = self.text.len();
         self.text.push(b',')?;
-        let Some(name) = self.name else {
-            unreachable!()
+        let value = Span {
+            start: self.from,
+            end,
         };
-        self.places.push(Place {
-            name,
-            value: Span {
-                start: self.from,
-                end,
-            },
-        })?;
+        place_member(&mut self.places, self.name, value)?;
         self.name = None;
         self.from = self.text.len();
         Ok(())
@@ -170,13 +167,8 @@ impl Draft {
             mut places,
             level: _level,
         } = self;
-        if let Some(name) = name {
-            let end = text.len();
-            places.push(Place {
-                name,
-                value: Span { start: from, end },
-            })?;
-        }
+        let end = text.len();
+        place_member(&mut places, name, Span { start: from, end })?;
         collapse(alloc, &mut text, places.as_slice())?;
         Ok(text)
     }
@@ -195,4 +187,15 @@ impl Draft {
         } = self;
         text
     }
+}
+
+/// Puts the member of this name and value behind the others, if there is a name.
+fn place_member(places: &mut Vec<Place>, name: Option<Span>, value: Span) -> Result<(), AllocError>
+    ensures ok { OnOk result (places.new.items ≡ placed places.old.items name value) }
+    ensures err { OnErr result (places.new.items ≡ places.old.items) }
+{
+    if let Some(name) = name {
+        places.push(Place { name, value })?;
+    }
+    Ok(())
 }

@@ -5,15 +5,15 @@ ghost use Rattle.json_text.specs.Characters.{is_blank};
 ghost use Rattle.json_text.specs.Value.{Stands};
 ghost use Rattle.json_reader.specs.Faults.{IsFirstFault};
 ghost use Rattle.json_reader.specs.Feeding.{behind_space, IsAt, IsUnderWay};
-ghost use Rattle.json_reader.specs.Runs.{HasFed, IsCutOff, IsKept, IsRefusedIn};
-ghost use Rattle.json_reader.specs.Writing.{IsRead};
+ghost use Rattle.json_reader.specs.Runs.{IsCutOff, IsKept};
+ghost use Rattle.json_reader.specs.Writing.{Came, HasFed, IsRead, IsRefusedIn};
 ghost use Rattle.json_reader.specs.declared.fault.JsonFault.{JsonFault};
 
 use crate::fault::JsonFault;
 use crate::reader::{Reader, Taken};
 use board_io::Stop;
 use json_text::{Raw, skip_space};
-use std::alloc::Global;
+use std::alloc::{AllocError, Global};
 use std::marker::Model;
 use std::mem::replace;
 
@@ -61,6 +61,7 @@ impl Model for Feed {
 
 impl Feed {
     /// A feed that has used nothing.
+    #[tactic(auto, using(crate::proofs::Pieces::kept_none))]
     pub fn new(alloc: Global) -> Feed
         ensures { result ≡ record { rest = []; used = 0; fault = None } }
     {
@@ -177,8 +178,8 @@ fn read_piece(
     requires room { used + length piece.now < 2 ^ 64 }
     requires read { IsRead rest.old.items 0 reader.old }
     requires kept { IsKept rest.old.items }
-    ensures fed { IfOk result (λ fed. HasFed rest.old.items piece.now rest.new.items fed.used fed.value) }
-    ensures fault { (fault : JsonFault) → result ≡ Err (Stop.Fault fault) → IsRefusedIn rest.old.items piece.now used fault }
+    ensures fed { IfOk result (λ fed. HasFed (behind_space (rest.old.items ++ piece.now)) piece.now rest.new.items fed.used fed.value) }
+    ensures fault { (fault : JsonFault) → result ≡ Err (Stop.Fault fault) → IsRefusedIn (behind_space (rest.old.items ++ piece.now)) (used + length piece.now) fault }
     ensures read { IsRead rest.new.items 0 reader.new }
     ensures unchanged { OnErr result (rest.new.items ≡ rest.old.items) }
 {
@@ -190,6 +191,7 @@ fn read_piece(
 }
 
 /// Reads the first piece of a value where it stands, behind white space, and keeps it only where the value goes on.
+#[tactic(auto, using(crate::proofs::Feeds::space_within))]
 fn read_first(
     reader: &mut Reader,
     rest: &mut Vec<u8>,
@@ -199,15 +201,15 @@ fn read_first(
     requires room { used + length piece.now < 2 ^ 64 }
     requires none { rest.old.items ≡ [] }
     requires read { IsRead rest.old.items 0 reader.old }
-    ensures fed { IfOk result (λ fed. HasFed rest.old.items piece.now rest.new.items fed.used fed.value) }
-    ensures fault { (fault : JsonFault) → result ≡ Err (Stop.Fault fault) → IsRefusedIn rest.old.items piece.now used fault }
+    ensures fed { IfOk result (λ fed. HasFed (behind_space (rest.old.items ++ piece.now)) piece.now rest.new.items fed.used fed.value) }
+    ensures fault { (fault : JsonFault) → result ≡ Err (Stop.Fault fault) → IsRefusedIn (behind_space (rest.old.items ++ piece.now)) (used + length piece.now) fault }
     ensures read { IsRead rest.new.items 0 reader.new }
     ensures unchanged { OnErr result (rest.new.items ≡ rest.old.items) }
 {
     let alloc = *rest.allocator();
     let start = skip_space(piece, 0);
     let bytes = &piece[start..];
-    match Reader::new(alloc, 0).read(alloc, bytes)? {
+    match read_on(alloc, reader, bytes)? {
         Taken::Through(read) => {
             rest.extend_from_slice(bytes)?;
             *reader = read;
@@ -236,8 +238,8 @@ fn read_more(
     requires some { rest.old.items ≡ [] → ⊥ }
     requires read { IsRead rest.old.items 0 reader.old }
     requires kept { IsKept rest.old.items }
-    ensures fed { IfOk result (λ fed. HasFed rest.old.items piece.now rest.new.items fed.used fed.value) }
-    ensures fault { (fault : JsonFault) → result ≡ Err (Stop.Fault fault) → IsRefusedIn rest.old.items piece.now used fault }
+    ensures fed { IfOk result (λ fed. HasFed (behind_space (rest.old.items ++ piece.now)) piece.now rest.new.items fed.used fed.value) }
+    ensures fault { (fault : JsonFault) → result ≡ Err (Stop.Fault fault) → IsRefusedIn (behind_space (rest.old.items ++ piece.now)) (used + length piece.now) fault }
     ensures read { IsRead rest.new.items 0 reader.new }
     ensures unchanged { OnErr result (rest.new.items ≡ rest.old.items) }
 {
@@ -245,7 +247,7 @@ fn read_more(
     let before = rest.len();
     rest.extend_from_slice(piece)?;
     let bytes = rest.as_slice();
-    match replace(reader, Reader::new(alloc, 0)).read(alloc, bytes) {
+    match read_on(alloc, reader, bytes) {
         Ok(Taken::Through(read)) => {
             *reader = read;
             let used = piece.len();
@@ -284,10 +286,19 @@ fn read_end(
     ensures fault { (fault : JsonFault) → result ≡ Err (Stop.Fault fault) → IsCutOff rest.now place fault }
     ensures read { (bytes : List ℕ) → IsRead bytes 0 reader.new }
 {
-    match replace(reader, Reader::new(alloc, 0)).read(alloc, rest)? {
+    match read_on(alloc, reader, rest)? {
         Taken::Through(read) => read.finish(rest, place),
-        // Before the end it would have come with the earlier pieces.
-        Taken::Ended(_, _) => unreachable!(),
+        Taken::Ended(value, _) => Ok(value),
+        // It would have come with the earlier pieces.
         Taken::Refused(_, _) => unreachable!(),
     }
+}
+
+/// Reads these bytes, the first ones of which were read before, and leaves a reader that begins anew.
+fn read_on(alloc: Global, reader: &mut Reader, bytes: &[u8]) -> Result<Taken, AllocError>
+    requires { IsRead bytes.now 0 reader.old }
+    ensures came { IfOk result (λ taken. Came bytes.now 0 taken) }
+    ensures anew { (any : List ℕ) → IsRead any 0 reader.new }
+{
+    replace(reader, Reader::new(alloc, 0)).read(alloc, bytes)
 }

@@ -5,7 +5,7 @@
 ghost use Rattle.std.specs.Prelude.{◌≡◌, ◌↔◌, ◌-◌, ◌≤◌, IsTrue, [], false, take, drop, length};
 ghost use Rattle.std.specs.List.{AllByRecursion};
 ghost use Rattle.json_text.specs.Characters.{is_space, is_hex};
-ghost use Rattle.json_reader.specs.Machine.{closes_bracket, after_comma, after_string, value_begun, value_move, fresh_move, name_begun, name_move, colon_move, after_move, plain_move, led_move, escape_move, hex_move, sequence_move, string_move, number_move, first_letter, letters_after, word_move, moved, string_fault, bracket_fault, fault_of, top, step, state, ended, Stepped};
+ghost use Rattle.json_reader.specs.Machine.{closes_bracket, after_comma, after_string, value_begun, value_move, fresh_move, name_begun, name_move, colon_move, after_move, plain_move, led_on, tail_led, escape_move, hex_move, sequence_move, string_move, number_move, first_letter, letters_after, word_move, moved, string_fault, bracket_fault, fault_of, top, step, state, ended, Stepped};
 ghost use Rattle.json_reader.specs.Runs.{is_over};
 ghost use Rattle.json_reader.specs.Writing.{AreAlike};
 ghost use Rattle.json_reader.specs.declared.machine.Move.TheVariants.{To};
@@ -357,7 +357,7 @@ fn after_string(role: Role) -> Mode
 }
 
 fn led_move(role: Role, byte: u8) -> Move
-    ensures { result ≡ led_move role byte }
+    ensures { result ≡ led_on role (tail_led byte) }
 {
     match Tail::led(byte) {
         Some(tail) => Move::To(Mode::Quoted(role, Place::Sequence(tail.size(), tail))),

@@ -37,6 +37,7 @@ pub(crate) struct Reader {
 
 impl Reader {
     /// It reads from an offset on.
+    #[tactic(auto, using(crate::proofs::Written::written_starts, crate::proofs::Copying::stretch_none))]
     pub(crate) fn new(alloc: Global, at: usize) -> Reader
         ensures { (bytes : List ℕ) → at ≤ length bytes → IsRead bytes at result }
     {

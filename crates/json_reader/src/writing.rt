@@ -123,6 +123,7 @@ impl Writer {
 
     /// Takes the stretch between two offsets: bytes of a string that are no `"` and no `\`, or bytes outside strings that are
     /// appended as they are or are all white space.
+    #[tactic(auto, using(crate::proofs::Copying::stretch_in, crate::proofs::Copying::stretch_on, crate::proofs::Copying::stretch_skipped))]
     pub(crate) fn put_all(&mut self, bytes: &[u8], at: usize, end: usize) -> Result<(), AllocError>
         requires within { (at ≤ end) × (end ≤ length bytes.now) }
         requires fits { Fits at self.old }
@@ -164,6 +165,7 @@ impl Writer {
     }
 
     /// Takes a byte in a string.
+    #[tactic(auto, using(crate::proofs::Copying::kept_behind, crate::proofs::Copying::kept_plain, crate::proofs::Copying::slashed))]
     #[inline(always)]
     fn put_quoted(&mut self, alloc: Global, bytes: &[u8], next: usize) -> Result<(), AllocError>
         requires quoted { self.old.quoted ≡ true }
@@ -339,6 +341,7 @@ impl Writer {
     }
 
     /// An array is opened.
+    #[tactic(auto, using(crate::proofs::Copying::deepened))]
     fn deepen(&mut self) -> Result<(), AllocError>
         requires { self.old.quoted ≡ false }
         ensures { OnOk result ((bytes : List ℕ) (next : ℕ) → next < length bytes → Fits next self.old → HasPut Deepen bytes next self.old self.new) }
@@ -348,6 +351,7 @@ impl Writer {
     }
 
     /// An array is closed.
+    #[tactic(auto, using(crate::proofs::Copying::risen))]
     fn rise(&mut self)
         requires { self.old.quoted ≡ false }
         ensures { (bytes : List ℕ) (next : ℕ) → next < length bytes → Fits next self.old → HasPut Rise bytes next self.old self.new }
@@ -356,6 +360,7 @@ impl Writer {
     }
 
     /// A byte is to be appended as it stands.
+    #[tactic(auto, using(crate::proofs::Copying::pushed))]
     fn push(&mut self)
         requires { self.old.quoted ≡ false }
         ensures { (bytes : List ℕ) (next : ℕ) → next < length bytes → Fits next self.old → HasPut Push bytes next self.old self.new }

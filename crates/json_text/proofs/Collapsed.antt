@@ -1,6 +1,6 @@
 -- Members of an object whose names are kept once.
-use Rattle.std.proofs.Common.{◌≡◌, ℕ, List, [], ◌∷◌, ◌++◌, Bool, true, false, if◌then◌else◌, refl, sym, ap, ◌∙◌, map, filter, bytes_eq, inl, inr}
-use Rattle.std.proofs.lemmas.Bool.{cases_Bool, false_from_ne_true, false≢true, or_parts}
+use Rattle.std.proofs.Common.{◌≡◌, ℕ, List, [], ◌∷◌, ◌++◌, Bool, true, false, if◌then◌else◌, refl, sym, ◌∙◌, map, filter, bytes_eq, arith}
+use Rattle.std.proofs.lemmas.Bool.{false_from_ne_true, false≢true}
 use Rattle.std.proofs.lemmas.Slice.Eq.{bytes_eq-Decides}
 use Rattle.std.specs.List.{AllByRecursion, IsDistinct, list_any}
 use Rattle.json_text.specs.Compact.{Member, has_other_name, last_value, collapsed}
@@ -31,22 +31,16 @@ IsAbsent name members = AllByRecursion (λ other. bytes_eq name other ≡ false)
 -- where no item passes a test, each fails it
 pub none_passes : {X : Type 0} (test : X → Bool) (xs : List X) → list_any test xs ≡ false → AllByRecursion (λ x. test x ≡ false) xs
 none_passes test [] h = tt
-none_passes test (x ∷ xs) h = let parts = or_parts (test x) (list_any test xs) h in (parts.0, none_passes test xs parts.1)
+none_passes test (x ∷ xs) h = grind (arith, none_passes test xs)
 
 -- what holds of each member holds of each that a filter keeps, and of each collapsed one
 filter-All : (P : Member → Type 0) (p : Member → Bool) (ms : List Member) → AllByRecursion P ms → AllByRecursion P (filter p ms)
 filter-All P p [] h = tt
-filter-All P p (m ∷ ms) h = elim (cases_Bool (p m)) [
-  | inl e ↦ rw e (h.0, filter-All P p ms h.1)
-  | inr e ↦ rw e (filter-All P p ms h.1)
-]
+filter-All P p (m ∷ ms) h = grind (arith, filter-All P p ms)
 
 last_value-All : (P : List ℕ → Type 0) (name value : List ℕ) (ms : List Member) → P value → AllByRecursion (λ m. P m.1) ms → P (last_value name value ms)
 last_value-All P name value [] here h = here
-last_value-All P name value (m ∷ ms) here h = elim (cases_Bool (bytes_eq name m.0)) [
-  | inl e ↦ rw e (last_value-All P name m.1 ms h.0 h.1)
-  | inr e ↦ rw e (last_value-All P name value ms here h.1)
-]
+last_value-All P name value (m ∷ ms) here h = grind (arith, last_value-All P name m.1 ms, last_value-All P name value ms)
 
 pub collapsed-names : (P : List ℕ → Type 0) (ms : List Member) → AllByRecursion (λ m. P m.0) ms → AllByRecursion (λ m. P m.0) (collapsed ms)
 collapsed-names P [] h = tt
@@ -60,25 +54,16 @@ collapsed-values P (m ∷ ms) h =
 -- collapsed names are distinct
 filter-IsAbsent-other : (name other : List ℕ) (ms : List Member) → IsAbsent name ms → IsAbsent name (filter (has_other_name other) ms)
 filter-IsAbsent-other name other [] h = tt
-filter-IsAbsent-other name other (m ∷ ms) h = elim (cases_Bool (bytes_eq other m.0)) [
-  | inl e ↦ rw e (filter-IsAbsent-other name other ms h.1)
-  | inr e ↦ rw e (h.0, filter-IsAbsent-other name other ms h.1)
-]
+filter-IsAbsent-other name other (m ∷ ms) h = grind (arith, filter-IsAbsent-other name other ms)
 
 filter-distinct : (name : List ℕ) (ms : List Member) → IsDistinct bytes_eq (names_of ms) → IsDistinct bytes_eq (names_of (filter (has_other_name name) ms))
 unfolding IsDistinct
 filter-distinct name [] h = tt
-filter-distinct name (m ∷ ms) h = elim (cases_Bool (bytes_eq name m.0)) [
-  | inl e ↦ rw e (filter-distinct name ms h.1)
-  | inr e ↦ rw e (filter-IsAbsent-other m.0 name ms h.0, filter-distinct name ms h.1)
-]
+filter-distinct name (m ∷ ms) h = grind (arith, filter-distinct name ms, filter-IsAbsent-other m.0 name ms)
 
 filter-IsAbsent : (name : List ℕ) (ms : List Member) → IsAbsent name (filter (has_other_name name) ms)
 filter-IsAbsent name [] = tt
-filter-IsAbsent name (m ∷ ms) = elim (cases_Bool (bytes_eq name m.0)) [
-  | inl e ↦ rw e (filter-IsAbsent name ms)
-  | inr e ↦ rw e (e, filter-IsAbsent name ms)
-]
+filter-IsAbsent name (m ∷ ms) = grind (arith, filter-IsAbsent name ms)
 
 pub collapsed-distinct : (ms : List Member) → IsDistinct bytes_eq (names_of (collapsed ms))
 unfolding IsDistinct
@@ -88,7 +73,7 @@ collapsed-distinct (m ∷ ms) = (filter-IsAbsent m.0 (collapsed ms), filter-dist
 -- distinct names are left as they are
 filter-same : (name : List ℕ) (ms : List Member) → IsAbsent name ms → filter (has_other_name name) ms ≡ ms
 filter-same name [] h = refl
-filter-same name (m ∷ ms) h = rw h.0 (ap (λ rest. m ∷ rest) (filter-same name ms h.1))
+filter-same name (m ∷ ms) h = grind (arith, filter-same name ms)
 
 last_value-same : (name value : List ℕ) (ms : List Member) → IsAbsent name ms → last_value name value ms ≡ value
 last_value-same name value [] h = refl
@@ -108,47 +93,27 @@ insert_entry (m ∷ ms) name value = if bytes_eq name m.0 then (m.0, value) ∷ 
 last_value-push : (name value : List ℕ) (ms : List Member) (new : Member) →
     last_value name value (ms ++ new ∷ []) ≡ (if bytes_eq name new.0 then new.1 else last_value name value ms)
 last_value-push name value [] new = refl
-last_value-push name value (m ∷ ms) new = elim (cases_Bool (bytes_eq name m.0)) [
-  | inl e ↦ rw e (last_value-push name m.1 ms new)
-  | inr e ↦ rw e (last_value-push name value ms new)
-]
+last_value-push name value (m ∷ ms) new = grind (arith, last_value-push name m.1 ms new, last_value-push name value ms new)
 
 filter-insert_entry-same : (name value : List ℕ) (ms : List Member) → filter (has_other_name name) (insert_entry ms name value) ≡ filter (has_other_name name) ms
 filter-insert_entry-same name value [] = rw (bytes_eq-same name) refl
-filter-insert_entry-same name value (m ∷ ms) = elim (cases_Bool (bytes_eq name m.0)) [
-  | inl e ↦ rw (e, e) refl
-  | inr e ↦ rw (e, e) (ap (λ rest. m ∷ rest) (filter-insert_entry-same name value ms))
-]
+filter-insert_entry-same name value (m ∷ ms) = grind (arith, filter-insert_entry-same name value ms)
 
 filter-insert_entry-other : (name value other : List ℕ) (ms : List Member) → bytes_eq other name ≡ false →
     filter (has_other_name other) (insert_entry ms name value) ≡ insert_entry (filter (has_other_name other) ms) name value
 filter-insert_entry-other name value other [] apart = rw apart refl
-filter-insert_entry-other name value other (m ∷ ms) apart = elim (cases_Bool (bytes_eq name m.0)) [
-  | inl e ↦
-      let new : bytes_eq other m.0 ≡ false = rw (← bytes_eq-true name m.0 e) apart in
-      rw (e, new, e) refl
-  | inr e ↦ elim (cases_Bool (bytes_eq other m.0)) [
-    | inl same ↦ rw (e, same) (filter-insert_entry-other name value other ms apart)
-    | inr new ↦ rw (e, new, e) (ap (λ rest. m ∷ rest) (filter-insert_entry-other name value other ms apart))
-  ]
-]
+filter-insert_entry-other name value other (m ∷ ms) apart = grind (arith, filter-insert_entry-other name value other ms, bytes_eq-true name m.0)
 
 -- one more member at the end
 pub collapsed-push : (ms : List Member) (name value : List ℕ) → collapsed (ms ++ (name, value) ∷ []) ≡ insert_entry (collapsed ms) name value
 collapsed-push [] name value = refl
-collapsed-push (m ∷ ms) name value = elim (cases_Bool (bytes_eq m.0 name)) [
-  | inl e ↦
-      let same : m.0 ≡ name = bytes_eq-true m.0 name e in
-      let flipped : bytes_eq name m.0 ≡ true = rw same (bytes_eq-same name) in
-      let kept : filter (has_other_name m.0) (insert_entry (collapsed ms) name value) ≡ filter (has_other_name m.0) (collapsed ms) =
-      rw same (filter-insert_entry-same name value (collapsed ms)) in
-      rw (last_value-push m.0 m.1 ms (name, value), e, flipped, collapsed-push ms name value, kept) refl
-  | inr e ↦
-      rw (
-        last_value-push m.0 m.1 ms (name, value),
-        e,
-        bytes_eq-flip m.0 name e,
-        collapsed-push ms name value,
-        filter-insert_entry-other name value m.0 (collapsed ms) e,
-      ) refl
-]
+collapsed-push (m ∷ ms) name value = grind (
+  arith,
+  last_value-push m.0 m.1 ms (name, value),
+  collapsed-push ms name value,
+  bytes_eq-true m.0 name,
+  bytes_eq-same name,
+  bytes_eq-flip m.0 name,
+  filter-insert_entry-same name value (collapsed ms),
+  filter-insert_entry-other name value m.0 (collapsed ms),
+)

@@ -108,10 +108,9 @@ object-compact limit (m ∷ ms) h = let all = fields limit m ms h.named h.valued
 
 -- the names of an object are texts
 pub members-utf8 : (vs : Values) → AreGood object vs → AllByRecursion (λ (m : Member). IsUtf8 m.0) (members vs)
-members-utf8 (last (unnamed before) value blank) good = absurd good.0
 members-utf8 (last (named before name between after) value blank) good = (content-utf8 name good.0.1, tt)
-members-utf8 (next (unnamed before) value blank values) good = absurd good.0
 members-utf8 (next (named before name between after) value blank values) good = (content-utf8 name good.0.1, members-utf8 values good.3)
+members-utf8 values good = absurd good.0
 
 values-of : (P : List ℕ → Type 0) (ms : List Member) → AllByRecursion (λ (m : Member). P m.1) ms → AllByRecursion P (map (λ (m : Member). m.1) ms)
 values-of P [] h = tt
@@ -124,26 +123,6 @@ collapsed-AreMembers limit vs good h = record {
   distinct = collapsed-distinct (members vs);
 }
 
--- the compact text of a tree is compact
-mutual
-  pub compact-compact : (t : Tree) (limit : ℕ) → IsGood t → depth t ≤ limit → IsCompact limit (compact t)
-  compact-compact (scalar literal) limit good shallow = literal-compact limit literal good
-  compact-compact (text pieces) limit good shallow = quote-compact limit (content pieces) (content-utf8 pieces good)
-  compact-compact (empty c blank) limit good shallow = tree-Value limit (empty c []) refl shallow
-  compact-compact (filled array values) limit good shallow =
-      Value-deeper (omega (arith, shallow)) (array-compact (limit - 1) _ (values-of (IsCompact (limit - 1)) (members values) (members-compact array values (limit - 1) good (omega (arith, shallow)))))
-  compact-compact (filled object values) limit good shallow =
-      Value-deeper (omega (arith, shallow)) (object-compact (limit - 1) _ (collapsed-AreMembers (limit - 1) values good (members-compact object values (limit - 1) good (omega (arith, shallow)))))
-
-  pub members-compact : (c : Container) (vs : Values) (limit : ℕ) → AreGood c vs → values_depth vs ≤ limit → AllByRecursion (λ (m : Member). IsCompact limit m.1) (members vs)
-  members-compact c (last label value blank) limit good shallow = (compact-compact value limit good.1 shallow, tt)
-  members-compact c (next label value blank values) limit good shallow =
-      (compact-compact value limit good.1 (omega (arith, shallow)), members-compact c values limit good.3 (omega (arith, shallow)))
-
--- a compact text is its own compact text
-pub Value-compact : {limit : ℕ} {bytes s : List ℕ} → Value limit bytes s → IsCompact limit s
-Value-compact {limit} {bytes} {s} v = subst (IsCompact limit) v.means (compact-compact v.tree limit v.good v.shallow)
-
 -- What a compact text is made of: it is a number or a word, the quote of a text, an array or an object.
 pub data Form (limit : ℕ) (s : List ℕ) : Type 0 where
   literal : IsNumber s ⊎ IsWord s → Form limit s
@@ -151,17 +130,39 @@ pub data Form (limit : ℕ) (s : List ℕ) : Type 0 where
   listed : (ts : List (List ℕ)) → AllByRecursion (IsCompact (limit - 1)) ts → 1 ≤ limit → s ≡ array_text ts → Form limit s
   membered : (ms : List Member) → AreMembers (limit - 1) ms → 1 ≤ limit → s ≡ object_text ms → Form limit s
 
-compact-Form : (t : Tree) (limit : ℕ) → IsGood t → depth t ≤ limit → Form limit (compact t)
-unfolding array_text object_text IsDistinct
-compact-Form (scalar s) limit good shallow = literal good
-compact-Form (text pieces) limit good shallow = quoted (content pieces) (content-utf8 pieces good) refl
-compact-Form (empty array blank) limit good shallow = listed [] tt shallow refl
-compact-Form (empty object blank) limit good shallow =
-    membered [] (record { named = tt; valued = tt; distinct = tt }) shallow refl
-compact-Form (filled array values) limit good shallow =
-    listed _ (values-of (IsCompact (limit - 1)) (members values) (members-compact array values (limit - 1) good (omega (arith, shallow)))) (omega (arith, shallow)) refl
-compact-Form (filled object values) limit good shallow =
-    membered _ (collapsed-AreMembers (limit - 1) values good (members-compact object values (limit - 1) good (omega (arith, shallow)))) (omega (arith, shallow)) refl
+-- whatever has a form is compact
+Form-compact : (limit : ℕ) (s : List ℕ) → Form limit s → IsCompact limit s
+Form-compact limit s (literal h) = literal-compact limit s h
+Form-compact limit s (quoted t u e) = rw e (quote-compact limit t u)
+Form-compact limit s (listed ts all some e) = rw e (Value-deeper (omega arith) (array-compact (limit - 1) ts all))
+Form-compact limit s (membered ms are some e) = rw e (Value-deeper (omega arith) (object-compact (limit - 1) ms are))
+
+-- the compact text of a tree has a form
+mutual
+  unfolding array_text object_text IsDistinct
+
+  compact-Form : (t : Tree) (limit : ℕ) → IsGood t → depth t ≤ limit → Form limit (compact t)
+  compact-Form (scalar s) limit good shallow = literal good
+  compact-Form (text pieces) limit good shallow = quoted (content pieces) (content-utf8 pieces good) refl
+  compact-Form (empty array blank) limit good shallow = listed [] tt shallow refl
+  compact-Form (empty object blank) limit good shallow =
+      membered [] (record { named = tt; valued = tt; distinct = tt }) shallow refl
+  compact-Form (filled array values) limit good shallow =
+      listed _ (values-of (IsCompact (limit - 1)) (members values) (members-compact array values (limit - 1) good (omega (arith, shallow)))) (omega (arith, shallow)) refl
+  compact-Form (filled object values) limit good shallow =
+      membered _ (collapsed-AreMembers (limit - 1) values good (members-compact object values (limit - 1) good (omega (arith, shallow)))) (omega (arith, shallow)) refl
+
+  members-compact : (c : Container) (vs : Values) (limit : ℕ) → AreGood c vs → values_depth vs ≤ limit → AllByRecursion (λ (m : Member). IsCompact limit m.1) (members vs)
+  members-compact c (last label value blank) limit good shallow = (Form-compact limit _ (compact-Form value limit good.1 shallow), tt)
+  members-compact c (next label value blank values) limit good shallow =
+      (Form-compact limit _ (compact-Form value limit good.1 (omega (arith, shallow))), members-compact c values limit good.3 (omega (arith, shallow)))
 
 pub Value-Form : {limit : ℕ} {bytes s : List ℕ} → Value limit bytes s → Form limit s
 Value-Form {limit} {bytes} {s} v = subst (Form limit) v.means (compact-Form v.tree limit v.good v.shallow)
+
+-- a compact text is its own compact text
+pub Value-compact : {limit : ℕ} {bytes s : List ℕ} → Value limit bytes s → IsCompact limit s
+Value-compact {limit} {bytes} {s} v = Form-compact limit s (Value-Form v)
+
+-- texts that are compact as they stand
+pub ruleset compact_texts = (literal-compact, quote-compact, decimal_nests)

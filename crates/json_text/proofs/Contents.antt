@@ -1,14 +1,14 @@
 -- The loop that reads a string: what is read and what is left of it make its text.
-use Rattle.std.proofs.Common.{◌≡◌, ◌≢◌, ◌<◌, ◌≤◌, ℕ, suc, ◌+◌, ◌-◌, List, [], ◌∷◌, ◌++◌, false, refl, sym, ap, ◌∙◌, subst, arith, length, get_or, take, drop, append_assoc, append-nil, flat_map, IsUtf8, get_or-drop, drop-drop, length-drop, lit<, lt_of_lt_of_le, add-zero}
-use Rattle.std.proofs.lemmas.Bool.{eqb-false}
+use Rattle.std.proofs.Common.{◌≡◌, ◌≢◌, ◌<◌, ◌≤◌, ℕ, suc, ◌+◌, ◌-◌, List, [], ◌∷◌, ◌++◌, false, refl, sym, ap, ◌∙◌, subst, arith, length, get_or, take, drop, append_assoc, append-nil, flat_map, IsUtf8, get_or-drop, drop-drop, length-drop, lt_of_lt_of_le, add-zero}
 use Rattle.std.proofs.lemmas.Bool.Decides.{nat_tests}
+use Rattle.std.specs.Char.{encode_utf8}
 use Rattle.std.specs.List.{AllByRecursion, prefix_len}
 use Rattle.json_text.specs.Characters.{is_plain}
-use Rattle.json_text.specs.Tree.{Piece, bare, letter, unit, IsPiece, piece_spelling}
+use Rattle.json_text.specs.Tree.{Piece, IsPiece, piece_spelling}
 use Rattle.json_text.specs.Compact.{content}
 use Rattle.json_text.specs.Walk.{Quoted, Unread, Takes}
 use Rattle.json_text.proofs.Strings.{content-utf8}
-use Rattle.json_text.proofs.Escapes.{unread-Run, bare-first}
+use Rattle.json_text.proofs.Escapes.{unread-Run}
 
 -- what follows the first byte of what follows an offset
 pub drop-after : (xs : List ℕ) (at : ℕ) {b : ℕ} {rest : List ℕ} → drop at xs ≡ b ∷ rest → drop (at + 1) xs ≡ rest
@@ -21,17 +21,12 @@ inside-after xs at {b} {rest} e = let size : length xs - at ≡ suc (length rest
 pub front : (bytes : List ℕ) (at : ℕ) {b : ℕ} → get_or bytes at 0 ≡ b → get_or (drop at bytes) 0 0 ≡ b
 front bytes at e = get_or-drop at bytes 0 0 ∙ ap (λ k. get_or bytes k 0) (add-zero at) ∙ e
 
-pub behind : (bytes : List ℕ) (at : ℕ) {b : ℕ} → get_or (drop at bytes) 0 0 ≡ b → get_or bytes at 0 ≡ b
-behind bytes at e = sym (front bytes at refl) ∙ e
-
 -- where a string closes, nothing of its text is left
 close : (xs after : List ℕ) (ps : List Piece) → AllByRecursion IsPiece ps → xs ≡ flat_map piece_spelling ps ++ 34 ∷ after → get_or xs 0 0 ≡ 34 →
     (content ps ≡ []) × (drop 1 xs ≡ after)
-unfolding content
+unfolding content encode_utf8
 close xs after [] good e first = (refl, ap (drop 1) e)
-close xs after (bare c ∷ ps) good e first = absurd (good.0.2 (bare-first xs c 34 _ (e ∙ append_assoc (piece_spelling (bare c)) (flat_map piece_spelling ps) (34 ∷ after)) first (lit< tt) (lit< tt)))
-close xs after (letter b ∷ ps) good e first = absurd (eqb-false 92 34 refl (sym (ap (λ s. get_or s 0 0) e) ∙ first))
-close xs after (unit a b c d ∷ ps) good e first = absurd (eqb-false 92 34 refl (sym (ap (λ s. get_or s 0 0) e) ∙ first))
+close xs after ps good e first = let byte = rw e at first in absurd (grind (arith, nat_tests))
 
 unread-close : {xs text after : List ℕ} → Unread xs text after → get_or xs 0 0 ≡ 34 → (text ≡ []) × (drop 1 xs ≡ after)
 unread-close {xs} {text} {after} u first = let both = close xs after u.pieces u.good u.parts first in (sym u.means ∙ both.0, both.1)
@@ -49,9 +44,22 @@ reading-starts bytes at {text} {after} q = record {
   split = λ t a other. (t, record { pieces = other.pieces; good = other.good; parts = drop-after bytes at other.parts ∙ append_assoc (flat_map piece_spelling other.pieces) (34 ∷ []) a; means = other.means }, refl);
 }
 
+pub reading-takes : {bytes out : List ℕ} {at end : ℕ} (count : ℕ) (new : List ℕ) → Reading bytes at end out → Takes Unread (drop end bytes) count out new → end + count ≤ length bytes →
+    Reading bytes at (end + count) new
+reading-takes {bytes} {out} {at} {end} count new r takes fits = record {
+  begun = lt_of_lt_of_le r.begun (omega arith);
+  within = fits;
+  split = λ t a q.
+      let mine = r.split t a q in
+      let turn = takes mine.0 a mine.1 in
+      (turn.0, subst (λ s. Unread s turn.0 a) (drop-drop count end bytes) turn.1, turn.2 ∙ mine.2);
+}
+
+run-takes : (xs old : List ℕ) → Takes Unread xs (prefix_len is_plain xs) old (old ++ take (prefix_len is_plain xs) xs)
+run-takes xs old text after u = let run = unread-Run u in (run.left, run.unread, append_assoc old _ run.left ∙ ap (λ s. old ++ s) run.same)
+
 -- one run of plain bytes
 pub record Ran (bytes : List ℕ) (at next end : ℕ) (out : List ℕ) : Type 0 where
-  pub forward : next ≤ end
   pub within : end < length bytes
   pub stops : is_plain (get_or bytes end 0) ≡ false
   pub reading : Reading bytes at end (out ++ take (end - next) (drop next bytes))
@@ -60,27 +68,13 @@ pub reading-runs : {bytes out : List ℕ} {at next : ℕ} (end : ℕ) {text afte
     end ≡ next + prefix_len is_plain (drop next bytes) → Ran bytes at next end out
 reading-runs {bytes} {out} {at} {next} end {text} {after} q r e =
     let n = prefix_len is_plain (drop next bytes) in
-    let here = r.split text after q in
-    let run = unread-Run here.1 in
+    let run = unread-Run (r.split text after q).1 in
     let size : n < length bytes - next = rw (← length-drop next bytes) run.within in
     let span : end - next ≡ n = omega (arith, e) in
-    let place : drop end bytes ≡ drop n (drop next bytes) = rw e (sym (drop-drop n next bytes)) in
-    let forth : next ≤ end = omega (arith, e) in
     record {
-      forward = forth;
       within = omega (arith, e);
       stops = rw e (rw (← get_or-drop) run.stops);
-      reading = record {
-        begun = lt_of_lt_of_le r.begun forth;
-        within = omega (arith, e);
-        split = λ t a other.
-            let mine = r.split t a other in
-            let turn = unread-Run mine.1 in (
-              turn.left,
-              subst (λ s. Unread s turn.left a) (sym place) turn.unread,
-              rw span (append_assoc out (take n (drop next bytes)) turn.left) ∙ ap (λ s. out ++ s) turn.same ∙ mine.2,
-            );
-      };
+      reading = rw (span, e) (reading-takes n _ r (run-takes (drop next bytes) out) (omega arith));
     }
 
 pub reading-closes : {bytes out : List ℕ} {at end : ℕ} → Reading bytes at end out → get_or bytes end 0 ≡ 34 → (text after : List ℕ) → Quoted (drop at bytes) text after →
@@ -92,17 +86,6 @@ reading-closes {bytes} {out} {at} {end} r first text after q =
 
 pub quoted-utf8 : {bytes text rest : List ℕ} → Quoted bytes text rest → IsUtf8 text
 quoted-utf8 q = subst IsUtf8 q.means (content-utf8 q.pieces q.good)
-
-pub reading-takes : {bytes out : List ℕ} {at end : ℕ} (count : ℕ) (new : List ℕ) → Reading bytes at end out → Takes Unread (drop end bytes) count out new → end + count ≤ length bytes →
-    Reading bytes at (end + count) new
-reading-takes {bytes} {out} {at} {end} count new r takes fits = record {
-  begun = lt_of_lt_of_le r.begun (omega arith);
-  within = fits;
-  split = λ t a q.
-      let mine = r.split t a q in
-      let turn = takes mine.0 a mine.1 in
-      (turn.0, subst (λ s. Unread s turn.0 a) (drop-drop count end bytes) turn.1, turn.2 ∙ mine.2);
-}
 
 pub not-plain : (b : ℕ) → is_plain b ≡ false → b ≢ 34 → b ≡ 92
 not-plain b h other = grind (arith, nat_tests)

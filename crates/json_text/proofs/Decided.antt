@@ -20,28 +20,24 @@ starts-or-not b (x ∷ more) = elim (cases_Bool (eqb x b)) [
   | inr e ↦ inr (λ s. heads-differ x b more s.0 e s.1)
 ]
 
-begun : (b : ℕ) {bytes text : List ℕ} → StartsWith b text → bytes ≡ text → StartsWith b bytes
-begun b s e = (s.0, e ∙ s.1)
+-- what is known of texts with this first byte decides each text
+decided : {A : Type 0} (b : ℕ) (text : List ℕ) (P : A → Type 0) (make : A → List ℕ) → ((a : A) → StartsWith b (make a)) → (StartsWith b text → (a : A) × P a × (text ≡ make a))
+    → ((a : A) × P a × (text ≡ make a)) ⊎ ((a : A) → text ≢ make a)
+decided b text P make starts known = elim (starts-or-not b text) [
+  | inl s ↦ inl (known s)
+  | inr none ↦ inr (λ a e. none ((starts a).0, e ∙ (starts a).1))
+]
 
 pub string-or-not : (text : List ℕ) → IsCompact 128 text → ((string : List ℕ) × IsUtf8 string × (text ≡ quote string)) ⊎ ((string : List ℕ) → text ≢ quote string)
-string-or-not text is = elim (starts-or-not 34 text) [
-  | inl s ↦ inl (form-quoted 128 text (Value-Form is) s)
-  | inr none ↦ inr (λ string e. none (begun 34 (quote-starts string) e))
-]
+string-or-not text is = decided 34 text IsUtf8 quote quote-starts (form-quoted 128 text (Value-Form is))
 
 pub array-or-not : (text : List ℕ) → IsCompact 128 text
     → ((items : List (List ℕ)) × AllByRecursion (IsCompact 127) items × (text ≡ array_text items)) ⊎ ((items : List (List ℕ)) → text ≢ array_text items)
-array-or-not text is = elim (starts-or-not 91 text) [
-  | inl s ↦ inl (form-listed 128 text (Value-Form is) s)
-  | inr none ↦ inr (λ items e. none (begun 91 (array-starts items) e))
-]
+array-or-not text is = decided 91 text (AllByRecursion (IsCompact 127)) array_text array-starts (form-listed 128 text (Value-Form is))
 
 pub object-or-not : (text : List ℕ) → IsCompact 128 text
     → ((members : List Member) × AreMembers 127 members × (text ≡ object_text members)) ⊎ ((members : List Member) → text ≢ object_text members)
-object-or-not text is = elim (starts-or-not 123 text) [
-  | inl s ↦ inl (form-membered 128 text (Value-Form is) s)
-  | inr none ↦ inr (λ members e. none (begun 123 (object-starts members) e))
-]
+object-or-not text is = decided 123 text (AreMembers 127) object_text object-starts (form-membered 128 text (Value-Form is))
 
 -- ---- how deep it nests
 pub nests-or-not : (text : List ℕ) (limit : ℕ) → IsCompact 128 text → IsCompact limit text ⊎ (IsCompact limit text → ⊥)

@@ -42,8 +42,7 @@ more_digits n ds h d = record {
   more = d.more ++ (48 + n % 10) ∷ [];
   parts = rw d.parts refl;
   positive = λ p. d.positive (omega arith);
-  digits = list_all-append is_digit ds ((48 + n % 10) ∷ [])
-      ∙ and_from (list_all is_digit ds) (list_all is_digit ((48 + n % 10) ∷ [])) d.digits (one_digit (n % 10) (omega arith)).digits;
+  digits = let last = (one_digit (n % 10) (omega arith)).digits in list_all-append is_digit ds ((48 + n % 10) ∷ []) ∙ and_from _ _ d.digits last;
 }
 
 -- a printed number is a number

@@ -1,6 +1,6 @@
 -- Copying the bytes that stand for themselves in a quote, and joining texts by commas.
-use Rattle.std.proofs.Common.{◌≡◌, ◌<◌, ◌≤◌, ℕ, ◌+◌, List, [], ◌∷◌, ◌++◌, false, refl, sym, ap, ap₂, ◌∙◌, inl, inr, ◌⊎◌, one-add, add-one, take_all, drop_of_length-le, subst, arith, flat_map, position, Some, None, get_or, take, drop, length, map, All, append_assoc, append-nil, drop-cons}
-use Rattle.std.proofs.lemmas.Bool.{cases_Bool, cases_lt, le-ltb, lt-ltb, cond-true, cond-false}
+use Rattle.std.proofs.Common.{◌≡◌, ◌<◌, ◌≤◌, ℕ, ◌+◌, List, [], ◌∷◌, ◌++◌, false, refl, sym, ap, ◌∙◌, inl, inr, ◌⊎◌, one-add, add-one, take_all, drop_of_length-le, subst, arith, flat_map, position, Some, None, get_or, take, drop, length, map, All, append_assoc, append-nil, drop-cons}
+use Rattle.std.proofs.lemmas.Bool.{cases_Bool}
 use Rattle.std.proofs.lemmas.Bool.Decides.{nat_tests}
 use Rattle.std.proofs.lemmas.List.{take_more, length-take-le, length-map, get_or-map}
 use Rattle.std.proofs.lemmas.List.Elements.{All-more}
@@ -8,12 +8,6 @@ use Rattle.std.specs.Str.{IsUtf8}
 use Rattle.std.specs.List.{position_or_len, join_with_byte}
 use Rattle.json_text.specs.Characters.{quoted_byte, needs_escape}
 use Rattle.json_text.specs.Compact.{Member, member_text, array_text, object_text}
-
-none_some : {k : ℕ} → None ≡ Some k → ⊥
-none_some h = cc
-
-some_same : {j k : ℕ} → Some j ≡ Some k → j ≡ k
-some_same h = cc
 
 plain_byte : (b : ℕ) → needs_escape b ≡ false → quoted_byte b ≡ b ∷ []
 plain_byte b h = grind (arith, nat_tests)
@@ -29,20 +23,13 @@ plain_front (x ∷ xs) = elim (cases_Bool (needs_escape x)) [
 
 -- where `position` finds none, and where it finds one
 pub quoted-None : (xs : List ℕ) → None ≡ position needs_escape xs → flat_map quoted_byte xs ≡ xs
-quoted-None xs h = elim (cases_lt (position_or_len needs_escape xs) (length xs)) [
-  | inl l ↦ absurd (none_some (h ∙ cond-true _ _ _ (lt-ltb _ _ l)))
-  | inr l ↦ plain_front xs ∙ ap₂ (λ front rest. front ++ flat_map quoted_byte rest) (take_all (position_or_len needs_escape xs) xs l) (drop_of_length-le xs l)
-      ∙ append-nil xs
-]
+quoted-None xs h = grind (arith, nat_tests, plain_front xs, take_all (position_or_len needs_escape xs) xs, drop_of_length-le xs, append-nil xs)
 
 pub quoted-Some : (xs : List ℕ) (k : ℕ) → Some k ≡ position needs_escape xs →
     (k < length xs) × (flat_map quoted_byte xs ≡ take k xs ++ (quoted_byte (get_or xs k 0) ++ flat_map quoted_byte (drop (k + 1) xs)))
-quoted-Some xs k h = elim (cases_lt (position_or_len needs_escape xs) (length xs)) [
-  | inl l ↦
-      let same : k ≡ position_or_len needs_escape xs = some_same (h ∙ cond-true _ _ _ (lt-ltb _ _ l)) in
-      (rw same l, plain_front xs ∙ rw (← same) (let here : k < length xs = rw same l in rw (drop-cons xs k 0 here, add-one) refl))
-  | inr l ↦ absurd (none_some (sym (h ∙ cond-false _ _ _ (le-ltb _ _ l))))
-]
+quoted-Some xs k h =
+    let first : (k < length xs) × (k ≡ position_or_len needs_escape xs) = grind (arith, nat_tests) in
+    (first.0, plain_front xs ∙ rw (← first.1) (rw (drop-cons xs k 0 first.0, add-one) refl))
 
 -- one turn of the loop that quotes
 pub quoted-step : (out plain done rest left total : List ℕ) (k : ℕ) → Some k ≡ position needs_escape rest →
@@ -50,9 +37,7 @@ pub quoted-step : (out plain done rest left total : List ℕ) (k : ℕ) → Some
     out ++ flat_map quoted_byte rest ≡ total → done ++ flat_map quoted_byte left ≡ total
 quoted-step out plain done rest left total k found first second third before =
     let all = (quoted-Some rest k found).1 in
-    rw (second, first, third) (append_assoc (out ++ take k rest) (quoted_byte (get_or rest k 0)) (flat_map quoted_byte (drop (k + 1) rest))
-    ∙ append_assoc out (take k rest) (quoted_byte (get_or rest k 0) ++ flat_map quoted_byte (drop (k + 1) rest))
-    ∙ ap (λ s. out ++ s) (sym all) ∙ before)
+    rw (second, first, third) (simp append_assoc (ap (λ s. out ++ s) (sym all) ∙ before))
 
 -- one more text between commas
 pub join-push : (c : ℕ) (ts : List (List ℕ)) (t : List ℕ) → 0 < length ts →
@@ -95,3 +80,5 @@ unfolding object_text
 object-written ms i out done all before last =
     let enough : length (map member_text ms) ≤ i = rw length-map all in
     rw (last, before, take_all i (map member_text ms) enough) refl
+
+pub ruleset quote_steps = (quoted-step, quoted-None, quoted-Some)

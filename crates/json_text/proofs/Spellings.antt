@@ -1,5 +1,5 @@
 -- How a value is spelled, and the earlier values of its repeated names, play no part in its compact text.
-use Rattle.std.proofs.Common.{◌≡◌, ℕ, List, [], ◌∷◌, true, false, not, bytes_eq, filter, map, refl, sym, ap, ap₂, ◌∙◌, inl, inr, append-nil}
+use Rattle.std.proofs.Common.{◌≡◌, ℕ, List, [], ◌∷◌, true, false, not, bytes_eq, filter, map, refl, sym, ap, ap₂, ◌∙◌, inl, inr, append-nil, arith}
 use Rattle.std.specs.List.{list_any}
 use Rattle.std.proofs.lemmas.Bool.{cases_Bool}
 use Rattle.std.proofs.lemmas.Map.Views.{any-filter_same}
@@ -19,10 +19,7 @@ member_at ms name = (name, last_value name [] ms)
 others_at : (name value : List ℕ) (ms : List Member) (names : List (List ℕ)) →
     filter (has_other_name name) (map (member_at ms) names) ≡ map (member_at ((name, value) ∷ ms)) (filter (λ (other : List ℕ). not (bytes_eq name other)) names)
 others_at name value ms [] = refl
-others_at name value ms (n ∷ ns) = elim (cases_Bool (bytes_eq name n)) [
-  | inl e ↦ rw e (others_at name value ms ns)
-  | inr e ↦ rw (e, bytes_eq-flip name n e) (ap (λ (rest : List Member). (n, last_value n [] ms) ∷ rest) (others_at name value ms ns))
-]
+others_at name value ms (n ∷ ns) = grind (arith, others_at name value ms ns, bytes_eq-flip name n)
 
 collapsed-at : (ms : List Member) → collapsed ms ≡ map (member_at ms) (first_names (names_of ms))
 collapsed-at [] = refl
@@ -34,32 +31,20 @@ collapsed-at (m ∷ ms) =
 -- where the name doesn't come, the value so far is the last
 last_value-none : (name value : List ℕ) (ms : List Member) → list_any (bytes_eq name) (names_of ms) ≡ false → last_value name value ms ≡ value
 last_value-none name value [] none = refl
-last_value-none name value (m ∷ ms) none = elim (cases_Bool (bytes_eq name m.0)) [
-  | inl e ↦ let found : true ≡ false = rw e at none in cc
-  | inr e ↦ rw e (last_value-none name value ms (rw e at none))
-]
+last_value-none name value (m ∷ ms) none = grind (arith, last_value-none name value ms)
 
 -- where it comes, the value so far plays no part
 last_value-some : (name value other : List ℕ) (ms : List Member) → list_any (bytes_eq name) (names_of ms) ≡ true → last_value name value ms ≡ last_value name other ms
 last_value-some name value other [] some = cc
-last_value-some name value other (m ∷ ms) some = elim (cases_Bool (bytes_eq name m.0)) [
-  | inl e ↦ rw e refl
-  | inr e ↦ rw e (last_value-some name value other ms (rw e at some))
-]
+last_value-some name value other (m ∷ ms) some = grind (arith, last_value-some name value other ms)
 
 names_of-members : (vs : Values) → names_of (members vs) ≡ value_names vs
 names_of-members (last label value blank) = refl
 names_of-members (next label value blank values) = ap (λ (ns : List (List ℕ)). label_name label ∷ ns) (names_of-members values)
 
 compact-last_named : (name : List ℕ) (tree : Tree) (vs : Values) → compact (last_named name tree vs) ≡ last_value name (compact tree) (members vs)
-compact-last_named name tree (last label value blank) = elim (cases_Bool (bytes_eq name (label_name label))) [
-  | inl e ↦ rw e refl
-  | inr e ↦ rw e refl
-]
-compact-last_named name tree (next label value blank values) = elim (cases_Bool (bytes_eq name (label_name label))) [
-  | inl e ↦ rw e (compact-last_named name value values)
-  | inr e ↦ rw e (compact-last_named name tree values)
-]
+compact-last_named name tree (last label value blank) = grind arith
+compact-last_named name tree (next label value blank values) = grind (arith, compact-last_named name value values, compact-last_named name tree values)
 
 -- a name comes among the first places where it comes at all
 any-first_names : (name : List ℕ) (names : List (List ℕ)) → list_any (bytes_eq name) (first_names names) ≡ list_any (bytes_eq name) names
@@ -70,7 +55,7 @@ any-first_names name (n ∷ ns) = elim (cases_Bool (bytes_eq name n)) [
 ]
   where
     kept : bytes_eq name n ≡ false → (k : List ℕ) → bytes_eq name k ≡ true → not (bytes_eq n k) ≡ true
-    kept e k same = rw (← bytes_eq-true name k same, bytes_eq-flip name n e) refl
+    kept e k same = grind (arith, bytes_eq-true name k, bytes_eq-flip name n)
 
 -- the value of the name's only member, seen from the other object
 seen : (name : List ℕ) (tree : Tree) (ws : Values) (n e : List ℕ) → bytes_eq n name ≡ true → list_any (bytes_eq n) (names_of (members ws)) ≡ true
@@ -122,23 +107,19 @@ mutual
 
   lasts : (vs ws : Values) → AreLastAlike vs ws → (n d e : List ℕ) → list_any (bytes_eq n) (names_of (members vs)) ≡ true
       → list_any (bytes_eq n) (names_of (members ws)) ≡ true → last_value n d (members vs) ≡ last_value n e (members ws)
-  lasts (last label value blank) ws same n d e here there = elim (cases_Bool (bytes_eq n (label_name label))) [
-    | inl t ↦ rw t (seen (label_name label) value ws n e t there (alike-compact value (last_named (label_name label) value ws) same))
-    | inr f ↦ let no : false ≡ true = rw f at here in cc
-  ]
-  lasts (next label value blank values) ws same n d e here there = elim (cases_Bool (list_any (bytes_eq n) (names_of (members values)))) [
-    | inl more ↦ elim (cases_Bool (bytes_eq n (label_name label))) [
-      | inl t ↦ rw t (lasts values ws same.1 n (compact value) e more there)
-      | inr f ↦ rw f (lasts values ws same.1 n d e more there)
-    ]
-    | inr none ↦ elim (cases_Bool (bytes_eq n (label_name label))) [
-      | inl t ↦
-          let only : list_any (bytes_eq (label_name label)) (value_names values) ≡ false =
-          rw (← names_of-members values, ← bytes_eq-true n (label_name label) t) none in
-          rw t (last_value-none n (compact value) (members values) none ∙ seen (label_name label) value ws n e t there (alike-compact value (last_named (label_name label) value ws) (same.0 only)))
-      | inr f ↦ let no : false ≡ true = rw (f, none) at here in cc
-    ]
-  ]
+  lasts (last label value blank) ws same n d e here there =
+      let found = λ (t : bytes_eq n (label_name label) ≡ true). seen (label_name label) value ws n e t there (alike-compact value (last_named (label_name label) value ws) same) in
+      grind (arith, found)
+  lasts (next label value blank values) ws same n d e here there =
+      let found = λ (t : bytes_eq n (label_name label) ≡ true) (only : list_any (bytes_eq (label_name label)) (value_names values) ≡ false).
+      seen (label_name label) value ws n e t there (alike-compact value (last_named (label_name label) value ws) (same.0 only)) in
+      elim (cases_Bool (list_any (bytes_eq n) (names_of (members values)))) [
+        | inl more ↦
+            let first = lasts values ws same.1 n (compact value) e more there in
+            let later = lasts values ws same.1 n d e more there in
+            grind arith
+        | inr none ↦ grind (arith, found, last_value-none n (compact value) (members values), names_of-members values, bytes_eq-true n (label_name label))
+      ]
 
 -- ---- a value stands for itself
 pub stands-alone : (bytes means : List ℕ) → Value 128 bytes means → Stands bytes means []

@@ -1,44 +1,34 @@
 -- Strings: what their pieces stand for is UTF-8, and each text of UTF-8 has a quote made of pieces.
-use Rattle.std.proofs.Common.{◌≡◌, ◌≢◌, ◌<◌, ◌≤◌, ℕ, ◌/◌, ◌%◌, List, [], ◌∷◌, ◌++◌, Bool, true, false, not, ◌&&◌, ◌==◌, nat_le, if◌then◌else◌, refl, sym, ap, ap₂, ◌∙◌, eqb, ltb, arith, map, flat_map, IsUtf8, encode_utf8_all, bytes_eq, append-nil, append_assoc, eqb-true, le-ltb, lit<, length, get_or, inl, inr}
-use Rattle.std.proofs.lemmas.Bool.{cases_Bool, cases_lt, and_parts, and_from, cond_both, eqb-false, not-true, agree_below_at}
+use Rattle.std.proofs.Common.{◌≡◌, ◌≢◌, ◌<◌, ◌≤◌, ℕ, ◌/◌, ◌%◌, List, [], ◌∷◌, ◌++◌, Bool, true, false, not, ◌&&◌, ◌==◌, nat_le, if◌then◌else◌, refl, sym, ap, ◌∙◌, eqb, arith, map, flat_map, IsUtf8, encode_utf8_all, bytes_eq, append-nil, append_assoc, eqb-true, inl, inr}
+use Rattle.std.proofs.lemmas.Bool.{cases_lt, and_parts, eqb-false, agree_below_at}
 use Rattle.std.proofs.lemmas.Bool.Decides.{nat_tests}
-use Rattle.std.proofs.lemmas.Str.{encode_ascii, encode_same, char_from_byte}
+use Rattle.std.proofs.lemmas.Str.{encode_ascii, encode_same}
 use Rattle.std.proofs.lemmas.List.Concat.{flat_map-append}
 use Rattle.std.proofs.lemmas.Slice.Eq.{bytes_eq-Decides}
 use Rattle.std.specs.Char.{IsScalar, encode_utf8}
 use Rattle.std.specs.List.{AllByRecursion, list_all}
-use lib.Utf8.{scalar, scalars, scalar_cases}
+use lib.Utf8.{scalar, scalars}
 use Rattle.json_text.specs.Characters.{hex_digit, hex_value, is_hex, is_plain, quote, quoted_byte}
 use Rattle.json_text.specs.Tree.{Piece, bare, letter, unit, IsPiece, letter_meaning, piece_spelling, string_spelling}
 use Rattle.json_text.specs.Compact.{piece_value, is_high, is_low, paired, lone, characters, content}
 
--- a lone code and a pair of surrogates are characters
-lone-scalar : (u : ℕ) → u < 0x11_0000 → scalar (lone u) ≡ true
-lone-scalar u h = grind (arith, nat_tests)
-
+-- a pair of surrogates is a character
 pub paired-scalar : (u v : ℕ) → (is_high u && is_low v) ≡ true → scalar (paired u v) ≡ true
 paired-scalar u v h = grind (arith, nat_tests)
 
 characters-scalars : (us : List ℕ) → AllByRecursion (λ u. u < 0x11_0000) us → scalars (characters us) ≡ true
 characters-scalars [] h = refl
-characters-scalars (u ∷ []) h = rw (lone-scalar u h.0) refl
-characters-scalars (u ∷ v ∷ us) h = elim (cases_Bool (is_high u && is_low v)) [
-  | inl e ↦ rw (e, paired-scalar u v e) (characters-scalars us h.1.1)
-  | inr e ↦ rw (e, lone-scalar u h.0) (characters-scalars (v ∷ us) h.1)
-]
+characters-scalars (u ∷ []) h = grind (arith, nat_tests)
+characters-scalars (u ∷ v ∷ us) h = grind (arith, nat_tests, characters-scalars us, characters-scalars (v ∷ us), paired-scalar u v)
 
 hex_value-lt : (b : ℕ) → is_hex b ≡ true → hex_value b < 16
 hex_value-lt b h = grind (arith, nat_tests)
 
 pub four-hex : (a b c d : ℕ) → list_all is_hex (a ∷ b ∷ c ∷ d ∷ []) ≡ true → (is_hex a ≡ true) × (is_hex b ≡ true) × (is_hex c ≡ true) × (is_hex d ≡ true)
-four-hex a b c d h =
-    let first = and_parts (is_hex a) (list_all is_hex (b ∷ c ∷ d ∷ [])) h in
-    let second = and_parts (is_hex b) (list_all is_hex (c ∷ d ∷ [])) first.1 in
-    let third = and_parts (is_hex c) (list_all is_hex (d ∷ [])) second.1 in
-    (first.0, second.0, third.0, (and_parts (is_hex d) true third.1).0)
+four-hex a b c d h = grind arith
 
 piece_value-lt : (p : Piece) → IsPiece p → piece_value p < 0x11_0000
-piece_value-lt (bare c) h = elim (scalar_cases c h.0) [ inl l ↦ omega arith | inr l ↦ omega arith ]
+piece_value-lt (bare c) h = grind (arith, nat_tests)
 piece_value-lt (letter b) h = grind (arith, nat_tests)
 piece_value-lt (unit a b c d) h =
     let hex = four-hex a b c d h in
@@ -58,14 +48,10 @@ content-utf8 ps h = (characters (map piece_value ps), (characters-scalars _ (pie
 pub lone-same : (u : ℕ) → scalar u ≡ true → lone u ≡ u
 lone-same u h = grind (arith, nat_tests)
 
-high-not : (u v : ℕ) → scalar u ≡ true → (is_high u && is_low v) ≡ false
-high-not u v h = grind (arith, nat_tests)
-
 pub characters-same : (us : List ℕ) → scalars us ≡ true → characters us ≡ us
 characters-same [] h = refl
-characters-same (u ∷ []) h = rw (lone-same u (and_parts (scalar u) true h).0) refl
-characters-same (u ∷ v ∷ us) h = let both = and_parts (scalar u) (scalars (v ∷ us)) h in
-    rw (high-not u v both.0, lone-same u both.0, characters-same (v ∷ us) both.1) refl
+characters-same (u ∷ []) h = grind (arith, nat_tests)
+characters-same (u ∷ v ∷ us) h = grind (arith, nat_tests, characters-same (v ∷ us))
 
 -- the piece by which a character stands in a quote
 abbrev pub piece_of : ℕ → Piece
@@ -83,9 +69,6 @@ piece_of c =
 piece_of-high : (c : ℕ) → 128 ≤ c → piece_of c ≡ bare c
 piece_of-high c h = grind (arith, nat_tests)
 
-quoted_byte-high : (b : ℕ) → 128 ≤ b → quoted_byte b ≡ b ∷ []
-quoted_byte-high b h = grind (arith, nat_tests)
-
 -- each test at the characters below 128, one after another
 good_piece : Piece → Bool
 good_piece (bare c) = scalar c && (nat_le 32 c && (not (c == 34) && not (c == 92)))
@@ -94,11 +77,8 @@ good_piece (unit a b c d) = list_all is_hex (a ∷ b ∷ c ∷ d ∷ [])
 
 good_piece-IsPiece : (p : Piece) → good_piece p ≡ true → IsPiece p
 unfolding good_piece
-good_piece-IsPiece (bare c) h =
-    let first = and_parts (scalar c) (nat_le 32 c && (not (c == 34) && not (c == 92))) h in
-    let second = and_parts (nat_le 32 c) (not (c == 34) && not (c == 92)) first.1 in
-    (first.0, grind (arith, nat_tests), grind (arith, nat_tests), grind (arith, nat_tests))
-good_piece-IsPiece (letter b) h = eqb-false (letter_meaning b) 0 (not-true (letter_meaning b == 0) h)
+good_piece-IsPiece (bare c) h = grind (arith, nat_tests)
+good_piece-IsPiece (letter b) h = grind (arith, nat_tests)
 good_piece-IsPiece (unit a b c d) h = h
 
 stands_quoted : ℕ → Bool
@@ -117,8 +97,8 @@ pub record IsQuoted (c : ℕ) : Type 0 where
 low-IsQuoted : (c : ℕ) → c < 128 → IsQuoted c
 unfolding stands_quoted
 low-IsQuoted c h =
-    let first = and_parts (good_piece (piece_of c)) ((piece_value (piece_of c) == c) && bytes_eq (piece_spelling (piece_of c)) (quoted_byte c)) (stands_quoted-low c h) in
-    let second = and_parts (piece_value (piece_of c) == c) (bytes_eq (piece_spelling (piece_of c)) (quoted_byte c)) first.1 in
+    let first = and_parts (good_piece (piece_of c)) _ (stands_quoted-low c h) in
+    let second = and_parts (piece_value (piece_of c) == c) _ first.1 in
     record {
       good = good_piece-IsPiece (piece_of c) first.0;
       value = eqb-true _ _ second.0;
@@ -127,33 +107,23 @@ low-IsQuoted c h =
 
 high_bytes : (c : ℕ) → 128 ≤ c → AllByRecursion (λ b. 128 ≤ b) (encode_utf8 c)
 unfolding encode_utf8
-high_bytes c h = rw (le-ltb c 128 h) (cond_both (ltb c 2048) _ _ (AllByRecursion (λ b. 128 ≤ b))
-    (λ _. (omega arith, (omega arith, tt)))
-    (λ _. cond_both (ltb c 65536) _ _ (AllByRecursion (λ b. 128 ≤ b))
-    (λ _. (omega arith, (omega arith, (omega arith, tt))))
-    (λ _. (omega arith, (omega arith, (omega arith, (omega arith, tt)))))))
+high_bytes c h = grind (arith, nat_tests)
 
 quoted-same : (bs : List ℕ) → AllByRecursion (λ b. 128 ≤ b) bs → flat_map quoted_byte bs ≡ bs
 quoted-same [] h = refl
-quoted-same (b ∷ bs) h = rw (quoted_byte-high b h.0, quoted-same bs h.1) refl
+quoted-same (b ∷ bs) h = grind (arith, nat_tests, quoted-same bs)
 
 -- the bytes of a character other than `"` and `\` are others too
 plain-high : (bs : List ℕ) → AllByRecursion (λ b. 128 ≤ b) bs → list_all is_plain bs ≡ true
 plain-high [] h = refl
-plain-high (b ∷ bs) h = and_from (is_plain b) (list_all is_plain bs) (grind (arith, nat_tests)) (plain-high bs h.1)
+plain-high (b ∷ bs) h = grind (arith, nat_tests, plain-high bs)
 
 pub plain-bare : (c : ℕ) → c ≢ 34 → c ≢ 92 → list_all is_plain (encode_utf8 c) ≡ true
-plain-bare c a b = elim (cases_lt c 128) [
-  | inl l ↦ rw (encode_ascii c l) (and_from (is_plain c) true (grind (arith, nat_tests)) refl)
-  | inr l ↦ plain-high (encode_utf8 c) (high_bytes c l)
-]
+plain-bare c a b = grind (arith, nat_tests, encode_ascii c, plain-high (encode_utf8 c), high_bytes c)
 
 -- a character that stands in a string as it is stands so in a quote too
 pub quoted-bare : (c : ℕ) → IsPiece (bare c) → flat_map quoted_byte (encode_utf8 c) ≡ encode_utf8 c
-quoted-bare c h = elim (cases_lt c 128) [
-  | inl l ↦ let same : quoted_byte c ≡ c ∷ [] = grind (arith, nat_tests) in rw (encode_ascii c l, same) refl
-  | inr l ↦ quoted-same (encode_utf8 c) (high_bytes c l)
-]
+quoted-bare c h = grind (arith, nat_tests, encode_ascii c, quoted-same (encode_utf8 c), high_bytes c)
 
 high-IsQuoted : (c : ℕ) → IsScalar c → 128 ≤ c → IsQuoted c
 high-IsQuoted c s h = record {
@@ -207,39 +177,32 @@ heads-differ a b s t differ e = eqb-false a b differ cc
 
 -- a character that begins with an ASCII byte is that byte
 pub first_code : (c b : ℕ) (r t : List ℕ) → b < 128 → encode_utf8 c ++ r ≡ b ∷ t → c ≡ b
-first_code c b r t low e =
-    let at : get_or (encode_utf8 c ++ r) 0 0 ≡ b = ap (λ s. get_or s 0 0) e in
-    let long : 0 < length (encode_utf8 c ++ r) = rw e (omega arith) in
-    char_from_byte (encode_utf8 c ++ r) r c refl (rw at low) long ∙ at
+unfolding encode_utf8
+first_code c b r t low e = grind (arith, nat_tests)
 
 -- the first byte of a piece isn't a quotation mark
 piece-apart : (p : Piece) (r t : List ℕ) → IsPiece p → piece_spelling p ++ r ≡ 34 ∷ t → ⊥
-piece-apart (bare c) r t good e = good.2 (first_code c 34 r t (lit< tt) e)
-piece-apart (letter b) r t good e = heads-differ 92 34 (b ∷ r) t refl e
-piece-apart (unit a b c d) r t good e = heads-differ 92 34 (117 ∷ a ∷ b ∷ c ∷ d ∷ r) t refl e
+piece-apart p r t good e = grind (arith, first_code)
 
 -- a good piece is read in one way alone
 piece-once : (p q : Piece) (r t : List ℕ) → IsPiece p → IsPiece q → piece_spelling p ++ r ≡ piece_spelling q ++ t → (p ≡ q) × (r ≡ t)
-piece-once (bare c) (bare d) r t good other e = let same = encode_same c d r t e in (ap bare same.0, same.1)
-piece-once (bare c) (letter b) r t good other e = absurd (good.3 (first_code c 92 r (b ∷ t) (lit< tt) e))
-piece-once (bare c) (unit b0 b1 b2 b3) r t good other e = absurd (good.3 (first_code c 92 r (117 ∷ b0 ∷ b1 ∷ b2 ∷ b3 ∷ t) (lit< tt) e))
-piece-once (letter b) (bare c) r t good other e = absurd (other.3 (first_code c 92 t (b ∷ r) (lit< tt) (sym e)))
+piece-once (bare c) (bare d) r t good other e = let same = encode_same c d r t e in (cc, same.1)
 piece-once (letter b) (letter d) r t good other e = (cc, cc)
-piece-once (letter b) (unit b0 b1 b2 b3) r t good other e = let same : b ≡ 117 = cc in absurd (good (rw same refl))
-piece-once (unit a b c d) (bare e0) r t good other e = absurd (other.3 (first_code e0 92 t (117 ∷ a ∷ b ∷ c ∷ d ∷ r) (lit< tt) (sym e)))
-piece-once (unit a b c d) (letter e0) r t good other e = let same : e0 ≡ 117 = cc in absurd (other (rw same refl))
-piece-once (unit a b c d) (unit b0 b1 b2 b3) r t good other e = (cc, cc)
+piece-once (unit a b c d) (unit e0 e1 e2 e3) r t good other e = (cc, cc)
+piece-once (letter b) (unit e0 e1 e2 e3) r t good other e = grind (arith, nat_tests)
+piece-once (unit a b c d) (letter e0) r t good other e = grind (arith, nat_tests)
+piece-once (bare c) q r t good other e = grind (arith, first_code c 92 r)
+piece-once p (bare c) r t good other e = grind (arith, first_code c 92 t)
 
 -- a string is read in one way alone
 pub pieces-once : (ps qs : List Piece) (r t : List ℕ) → AllByRecursion IsPiece ps → AllByRecursion IsPiece qs → flat_map piece_spelling ps ++ 34 ∷ r ≡ flat_map piece_spelling qs ++ 34 ∷ t → (ps ≡ qs) × (r ≡ t)
 pieces-once [] [] r t good other e = (refl, cc)
-pieces-once [] (q ∷ qs) r t good other e = absurd (piece-apart q (flat_map piece_spelling qs ++ 34 ∷ t) r other.0 (sym (e ∙ append_assoc (piece_spelling q) (flat_map piece_spelling qs) (34 ∷ t))))
-pieces-once (p ∷ ps) [] r t good other e = absurd (piece-apart p (flat_map piece_spelling ps ++ 34 ∷ r) t good.0 (sym (append_assoc (piece_spelling p) (flat_map piece_spelling ps) (34 ∷ r)) ∙ e))
+pieces-once [] (q ∷ qs) r t good other e = absurd (piece-apart q _ r other.0 (sym (simp append_assoc at e)))
+pieces-once (p ∷ ps) [] r t good other e = absurd (piece-apart p _ t good.0 (simp append_assoc at e))
 pieces-once (p ∷ ps) (q ∷ qs) r t good other e =
-    let first = piece-once p q (flat_map piece_spelling ps ++ 34 ∷ r) (flat_map piece_spelling qs ++ 34 ∷ t) good.0 other.0
-    (sym (append_assoc (piece_spelling p) (flat_map piece_spelling ps) (34 ∷ r)) ∙ e ∙ append_assoc (piece_spelling q) (flat_map piece_spelling qs) (34 ∷ t)) in
+    let first = piece-once p q _ _ good.0 other.0 (simp append_assoc at e) in
     let others = pieces-once ps qs r t good.1 other.1 first.1 in
-    (ap₂ (λ x xs. x ∷ xs) first.0 others.0, others.1)
+    (cc, others.1)
 
 -- a plain byte is neither mark
 pub plain-quote : (b : ℕ) → is_plain b ≡ true → eqb b 34 ≡ false
@@ -250,3 +213,5 @@ plain-slash b h = grind (arith, nat_tests)
 
 pub hex-plain : (b : ℕ) → is_hex b ≡ true → is_plain b ≡ true
 hex-plain b h = grind (arith, nat_tests)
+
+pub ruleset digit_steps = (four-hex)

@@ -1,5 +1,5 @@
 -- What stands at the front of a text that is walked over: a string, what is left of a string; and where a walk is.
-use Rattle.std.specs.Prelude.{◌≡◌, ℕ, List, ◌∷◌, ◌++◌, drop, flat_map, Bool, if◌then◌else◌}
+use Rattle.std.specs.Prelude.{◌≡◌, ℕ, ◌≤◌, List, ◌∷◌, ◌++◌, drop, length, slice_index, flat_map, Bool, if◌then◌else◌}
 use Rattle.std.specs.List.{AllByRecursion}
 use Rattle.json_text.specs.Tree.{Piece, unit, IsPiece, piece_spelling, string_spelling}
 use Rattle.json_text.specs.Compact.{content, piece_value}
@@ -23,15 +23,14 @@ abbrev pub Takes : (List ℕ → List ℕ → List ℕ → Type 0) → List ℕ 
 Takes Stand bytes count old new = (text after : List ℕ) → Stand bytes text after →
     (left : List ℕ) × Stand (drop count bytes) left after × (new ++ left ≡ old ++ text)
 
+-- the piece of a `\u` that stands at the front
+abbrev pub unit_at : List ℕ → Piece
+unit_at bytes = unit (slice_index bytes 2) (slice_index bytes 3) (slice_index bytes 4) (slice_index bytes 5)
+
 -- A `\u` and the four digits of this number stand at the front. RFC 8259, section 7.
-pub record StartsWithUnit (bytes : List ℕ) (value : ℕ) : Type 0 where
-  pub a : ℕ
-  pub b : ℕ
-  pub c : ℕ
-  pub d : ℕ
-  pub tail : List ℕ
-  pub parts : bytes ≡ 92 ∷ 117 ∷ a ∷ b ∷ c ∷ d ∷ tail
-  pub spells : piece_value (unit a b c d) ≡ value
+abbrev pub StartsWithUnit : List ℕ → ℕ → Type 0
+StartsWithUnit bytes value =
+    (6 ≤ length bytes) × (slice_index bytes 0 ≡ 92) × (slice_index bytes 1 ≡ 117) × (piece_value (unit_at bytes) ≡ value)
 
 -- outside strings, or in one and perhaps behind a backslash
 pub data Place : Type 0 where

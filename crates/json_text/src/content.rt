@@ -77,6 +77,7 @@ fn is_plain(byte: u8) -> bool
 }
 
 /// Appends the character of the escape at the front, or of a pair of surrogates, and tells how many bytes that takes.
+#[tactic(auto, using(crate::proofs::Escapes::escape_steps))]
 fn push_escape(out: &mut Vec<u8>, rest: &[u8]) -> Result<usize, AllocError>
     requires unread { (text after : List ℕ) × Unread rest.now text after }
     requires escape { slice_index rest.now 0 ≡ 92 }
@@ -119,6 +120,7 @@ fn second_unit(first: u32, tail: &[u8]) -> Option<u32>
 }
 
 /// The number of four digits of base 16.
+#[tactic(auto, using(crate::proofs::Strings::digit_steps))]
 fn unit_of(a: u8, b: u8, c: u8, d: u8) -> u32
     requires { list_all is_hex (a ∷ b ∷ c ∷ d ∷ []) ≡ true }
     ensures value { result ≡ piece_value (unit a b c d) }

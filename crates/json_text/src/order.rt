@@ -9,6 +9,7 @@ ghost use Rattle.std.proofs.Common.{refl, ap};
 ghost use Rattle.std.proofs.lemmas.Slice.Eq.{bytes_eq-Decides};
 
 use crate::text::{Raw, Text};
+use board_io::bytes_order;
 use std::cmp::Ordering;
 use std::hash::{Hash, Hasher};
 
@@ -46,7 +47,7 @@ impl Ord for Text {
     ghost matches_eq = { texts_ties };
 
     fn cmp(&self, other: &Text) -> Ordering {
-        self.as_bytes().cmp(other.as_bytes())
+        bytes_order(self.as_bytes(), other.as_bytes())
     }
 }
 

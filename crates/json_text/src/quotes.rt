@@ -11,6 +11,7 @@ use crate::text::Text;
 use std::alloc::AllocError;
 
 /// Appends the quote of a text. For want of memory nothing is appended.
+#[tactic(auto, using(crate::proofs::CompactLaws::compact_texts))]
 pub fn push_quote(out: &mut Vec<u8>, text: &Text) -> Result<(), AllocError>
     ensures ok { OnOk result (out.new.items ≡ out.old.items ++ quote text.now) }
     ensures err { OnErr result (out.new.items ≡ out.old.items) }
@@ -21,6 +22,7 @@ pub fn push_quote(out: &mut Vec<u8>, text: &Text) -> Result<(), AllocError>
 }
 
 /// Appends the quote of these characters. For want of memory nothing is appended.
+#[tactic(auto, using(crate::proofs::CompactLaws::compact_texts))]
 pub fn push_quoted(out: &mut Vec<u8>, characters: &str) -> Result<(), AllocError>
     ensures ok { OnOk result (out.new.items ≡ out.old.items ++ quote characters.now) }
     ensures err { OnErr result (out.new.items ≡ out.old.items) }
@@ -67,6 +69,7 @@ fn push_quote_parts(out: &mut Vec<u8>, text: &[u8]) -> Result<(), AllocError>
 }
 
 /// Appends what stands between the quotation marks. Bytes that stand for themselves are copied together.
+#[tactic(auto, using(crate::proofs::Appending::extends_same, crate::proofs::Appending::extends_by, crate::proofs::Appending::extends_then, crate::proofs::Quoting::quote_steps))]
 fn push_escaped(out: &mut Vec<u8>, text: &[u8]) -> Result<(), AllocError>
     ensures ok { OnOk result (out.new.items ≡ out.old.items ++ flat_map quoted_byte text.now) }
     ensures kept { OnErr result (Extends out.old.items out.new.items) }

@@ -85,6 +85,16 @@ impl Stretch {
         }
     }
 
+    /// How many bytes there are, without a look at them.
+    pub(crate) fn len(&self) -> usize
+        ensures { result ≡ length self.now }
+    {
+        match &self.held {
+            Held::Shared(part) => part.len(),
+            Held::Fixed(bytes) => bytes.len(),
+        }
+    }
+
     /// The bytes.
     pub(crate) fn as_slice(&self) -> &[u8]
         ensures { result.now ≡ self.now }
@@ -121,6 +131,13 @@ impl Stretch {
 }
 
 impl Part {
+    /// How many bytes there are.
+    fn len(&self) -> usize
+        ensures { result ≡ length self.now }
+    {
+        (self.end - self.start) as usize
+    }
+
     /// The bytes.
     fn as_slice(&self) -> &[u8]
         ensures { result.now ≡ self.now }

@@ -76,6 +76,13 @@ impl Text {
         }
     }
 
+    /// How many bytes it has, without a look at them.
+    pub fn len(&self) -> usize
+        ensures { result ≡ length self.now }
+    {
+        self.bytes.len()
+    }
+
     /// The bytes, which are UTF-8.
     pub fn as_bytes(&self) -> &[u8]
         ensures value { result.now ≡ self.now }

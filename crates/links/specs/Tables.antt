@@ -14,7 +14,7 @@ use Rattle.links.specs.declared.arrows.Links.{Links}
 use Rattle.links.specs.declared.table.Row.{Row}
 use Rattle.links.specs.Arrows.{names_target, listing}
 use Rattle.links.specs.Entries.{lists, arrow_entry, text_entry}
-use Rattle.links.specs.Names.{target_of, names_container, has_end_at}
+use Rattle.links.specs.Names.{target_of, names_container}
 
 abbrev pub is_under : List ℕ → Row → Bool
 is_under key row = bytes_eq key row.key.now
@@ -38,11 +38,10 @@ pub record IsTable (names : List ℕ → ElementValue → Bool) (list : List Ele
   pub ordered : IsSortedBy row_less rows
   pub found : (key : List ℕ) → elements_under key rows ≡ filter (names key) list
 
--- the tables of a list: its elements by their ids, its texts by their containers, its arrows by what their ends name
-pub record AreTables (list : List ElementValue) (by_id by_container by_end : List Row) : Type 0 where
+-- the tables of a list: its elements by their ids, and its texts by their containers
+pub record AreTables (list : List ElementValue) (by_id by_container : List Row) : Type 0 where
   pub ids : IsTable has_id list by_id
   pub texts : IsTable names_container list by_container
-  pub arrows : IsTable has_end_at list by_end
 
 -- whether an id is among those that were seen
 abbrev pub has_seen : BTreeSet (List ℕ) → List ℕ → Bool

@@ -4,13 +4,15 @@ ghost use Rattle.std.specs.Prelude.{◌≡◌, [], filter, map, IfOk, OnOk};
 ghost use Rattle.std.specs.Option.{option_copied};
 ghost use Rattle.links.specs.Arrows as words;
 ghost use Rattle.links.specs.Entries.{first_entries};
-ghost use Rattle.links.specs.Tables.{links_of, with_entries, AreSeen};
+ghost use Rattle.links.specs.Names.{has_end_at};
+ghost use Rattle.links.specs.Tables.{links_of, with_entries, AreSeen, IsTable};
 ghost use Rattle.links.specs.Texts.{text_of};
 ghost use Rattle.elem.specs.declared.kind.Role.TheVariants as roles;
 
 use crate::listing::Listing;
 use crate::names::{Names, ends_of};
 use crate::parts::{bound_of, has_end_at, id_of, is_target};
+use crate::table::{Row, rows_under};
 use board_io::List;
 use elem::{BoundRef, Element, Role};
 use json_text::Text;
@@ -29,22 +31,29 @@ impl<'a> Names<'a> {
     pub(crate) fn links(&self, alloc: Global) -> Result<Vec<Links>, AllocError>
         ensures { IfOk result (λ links. links.items ≡ map (links_of self.now) self.now) }
     {
+        let ends = self.ends(alloc)?;
         let mut links = Vec::with_capacity(alloc, self.list().len())?;
         for e in self.list() {
-            links.push(self.links_of(alloc, e)?)?;
+            links.push(self.links_of(alloc, &ends, e)?)?;
         }
         Ok(links)
     }
 
     /// The links of an element.
-    fn links_of(&self, alloc: Global, e: &'a Element) -> Result<Links, AllocError>
+    fn links_of(
+        &self,
+        alloc: Global,
+        ends: &Vec<Row<'a>>,
+        e: &'a Element,
+    ) -> Result<Links, AllocError>
+        requires { IsTable has_end_at self.now ends.now.items }
         ensures { IfOk result (λ links. links ≡ links_of self.now e.now) }
     {
         let (start, end) = ends_of(e);
         Ok(Links {
             keeps_start: self.names_target(start),
             keeps_end: self.names_target(end),
-            bound: self.listing(alloc, e)?,
+            bound: self.listing(alloc, ends, e)?,
         })
     }
 
@@ -59,13 +68,19 @@ impl<'a> Names<'a> {
     }
 
     /// The listing of an element.
-    fn listing(&self, alloc: Global, e: &'a Element) -> Result<List<BoundRef>, AllocError>
+    fn listing(
+        &self,
+        alloc: Global,
+        ends: &Vec<Row<'a>>,
+        e: &'a Element,
+    ) -> Result<List<BoundRef>, AllocError>
+        requires { IsTable has_end_at self.now ends.now.items }
         ensures { IfOk result (λ entries. entries ≡ words.listing self.now e.now) }
     {
         let text = self.text_of(e);
         let mut listing = Listing::new(alloc);
         self.add_own(&mut listing, e, text)?;
-        self.add_arrows(&mut listing, e)?;
+        self.add_arrows(&mut listing, ends, e)?;
         if let Some(id) = text {
             listing.add(id, Role::Text)?;
         }
@@ -94,13 +109,19 @@ impl<'a> Names<'a> {
     }
 
     /// Adds the entries of the arrows that are bound to an element.
-    fn add_arrows(&self, listing: &mut Listing, e: &Element) -> Result<(), AllocError>
-        requires { AreSeen listing.old.entries.items listing.old.arrows listing.old.texts }
+    fn add_arrows(
+        &self,
+        listing: &mut Listing,
+        ends: &Vec<Row<'a>>,
+        e: &Element,
+    ) -> Result<(), AllocError>
+        requires ends { IsTable has_end_at self.now ends.now.items }
+        requires seen { AreSeen listing.old.entries.items listing.old.arrows listing.old.texts }
         ensures entries { OnOk result (listing.new.entries.items ≡ with_entries listing.old.entries.items (words.arrow_entries self.now e.now)) }
         ensures seen { OnOk result (AreSeen listing.new.entries.items listing.new.arrows listing.new.texts) }
     {
         if is_target(e) {
-            for row in self.with_end_at(id_of(e)) {
+            for row in rows_under(ends, id_of(e)) {
                 listing.add(id_of(row.element), Role::Arrow)?;
             }
         }

@@ -4,7 +4,7 @@ ghost use Rattle.std.specs.Prelude.{◌≡◌, filter, map, OnOk, IfOk};
 ghost use Rattle.std.specs.Option.{option_copied};
 ghost use Rattle.elem.specs.Order.{has_id};
 ghost use Rattle.links.specs.Names as words;
-ghost use Rattle.links.specs.Tables.{row_element, Adds};
+ghost use Rattle.links.specs.Tables.{row_element, Adds, IsTable};
 
 use crate::parts::{container_of, id_of, is_arrow, is_text};
 use crate::table::{Row, rows_under, sorted};
@@ -13,13 +13,12 @@ use json_text::Text;
 use std::alloc::{AllocError, Global};
 use std::marker::Model;
 
-/// A list of elements: by their ids, its texts by their containers, and its arrows by what their ends name.
+/// A list of elements: by their ids, and its texts by their containers.
 #[derive(Drop)]
 pub(crate) struct Names<'a> {
     list: &'a Vec<Element>,
     by_id: Vec<Row<'a>>,
     by_container: Vec<Row<'a>>,
-    by_end: Vec<Row<'a>>,
 }
 
 impl<'a> Model for Names<'a> {
@@ -31,7 +30,7 @@ impl<'a> Model for Names<'a> {
 
     ghost view = { λ n. n.list.now.items };
 
-    ghost invariant = { λ n. AreTables n.list.now.items n.by_id.items n.by_container.items n.by_end.items };
+    ghost invariant = { λ n. AreTables n.list.now.items n.by_id.items n.by_container.items };
 }
 
 impl<'a> Names<'a> {
@@ -41,17 +40,14 @@ impl<'a> Names<'a> {
     {
         let mut by_id = Vec::new(alloc);
         let mut by_container = Vec::new(alloc);
-        let mut by_end = Vec::new(alloc);
         for e in list {
             add_id(&mut by_id, e)?;
             add_container(&mut by_container, e)?;
-            add_ends(&mut by_end, e)?;
         }
         Ok(Names {
             list,
             by_id: sorted(by_id)?,
             by_container: sorted(by_container)?,
-            by_end: sorted(by_end)?,
         })
     }
 
@@ -76,11 +72,15 @@ impl<'a> Names<'a> {
         rows_under(&self.by_container, id)
     }
 
-    /// The arrows that have an end at an element of this id.
-    pub(crate) fn with_end_at(&self, id: &Text) -> &[Row<'a>]
-        ensures { map row_element result.now ≡ filter (words.has_end_at id.now) self.now }
+    /// The arrows of the list, by what their ends name.
+    pub(crate) fn ends(&self, alloc: Global) -> Result<Vec<Row<'a>>, AllocError>
+        ensures { IfOk result (λ rows. IsTable words.has_end_at self.now rows.items) }
     {
-        rows_under(&self.by_end, id)
+        let mut rows = Vec::new(alloc);
+        for e in self.list {
+            add_ends(&mut rows, e)?;
+        }
+        sorted(rows)
     }
 }
 

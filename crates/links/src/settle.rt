@@ -1,7 +1,6 @@
 //! Settling the links of a list of elements.
 
 ghost use Rattle.std.specs.Prelude.{◌≡◌, map, IfOk};
-ghost use Rattle.std.specs.List.{zip};
 ghost use Rattle.links.specs.Arrows.{settled_arrows};
 ghost use Rattle.elem.specs.Order.{HaveDistinctIds};
 ghost use Rattle.links.specs.Settled.{unlinked, ArrowsAgree, TextsAgree, HaveOneText, NameTargets};
@@ -11,7 +10,7 @@ ghost use Rattle.links.specs.Texts.{settled_texts};
 
 use crate::arrows::Links;
 use crate::names::Names;
-use board_io::List;
+use board_io::{List, change_each};
 use elem::Element;
 use std::alloc::{AllocError, Global};
 
@@ -26,9 +25,10 @@ pub fn settle_texts(alloc: Global, list: List<Element>) -> Result<List<Element>,
     ensures others { IfOk result (λ new. map unlinked new ≡ map unlinked list) }
     ensures distinct { IfOk result HaveDistinctIds }
 {
-    let list = list.into_vec();
+    let mut list = list.into_vec();
     let kept = kept_containers(alloc, &list)?;
-    Ok(List::from_vec(with_containers(alloc, list, kept)?))
+    change_each(&mut list, kept, set_container);
+    Ok(List::from_vec(list))
 }
 
 /// For each element, whether it keeps its container as a text.
@@ -38,29 +38,13 @@ fn kept_containers(alloc: Global, list: &Vec<Element>) -> Result<Vec<bool>, Allo
     Names::of(alloc, list)?.kept_containers(alloc)
 }
 
-/// Each element, without its container if it doesn't keep it.
-fn with_containers(
-    alloc: Global,
-    elements: Vec<Element>,
-    kept: Vec<bool>,
-) -> Result<Vec<Element>, AllocError>
-    ensures { IfOk result (λ new. new.items ≡ map (λ p. tables.with_container p.0 p.1) (zip elements.items kept.items)) }
-{
-    elements
-        .into_iter()
-        .zip(kept)
-        .map(|(e, keeps)| with_container(e, keeps))
-        .collect(alloc)
-}
-
-/// The element, without its container if it doesn't keep it.
-fn with_container(mut e: Element, keeps: bool) -> Element
-    ensures { result ≡ tables.with_container e keeps }
+/// Takes from an element its container, if it doesn't keep it.
+fn set_container(e: &mut Element, keeps: bool)
+    ensures { e.new ≡ tables.with_container e.old keeps }
 {
     if !keeps {
         e.container = None;
     }
-    e
 }
 
 /// The list with the ends of its arrows and the listings of its elements settled. The list's order is that of the scene.
@@ -83,9 +67,10 @@ pub fn settle_arrows(alloc: Global, list: List<Element>) -> Result<List<Element>
     ensures others { IfOk result (λ new. map unlinked new ≡ map unlinked list) }
     ensures distinct { IfOk result HaveDistinctIds }
 {
-    let list = list.into_vec();
+    let mut list = list.into_vec();
     let links = links(alloc, &list)?;
-    Ok(List::from_vec(with_all_links(alloc, list, links)?))
+    change_each(&mut list, links, set_links);
+    Ok(List::from_vec(list))
 }
 
 /// The links of each element.
@@ -95,24 +80,9 @@ fn links(alloc: Global, list: &Vec<Element>) -> Result<Vec<Links>, AllocError>
     Names::of(alloc, list)?.links(alloc)
 }
 
-/// Each element with its links.
-fn with_all_links(
-    alloc: Global,
-    elements: Vec<Element>,
-    links: Vec<Links>,
-) -> Result<Vec<Element>, AllocError>
-    ensures { IfOk result (λ new. new.items ≡ map (λ p. tables.with_links p.0 p.1) (zip elements.items links.items)) }
-{
-    elements
-        .into_iter()
-        .zip(links)
-        .map(|(e, links)| with_links(e, links))
-        .collect(alloc)
-}
-
-/// The element with these links.
-fn with_links(mut e: Element, links: Links) -> Element
-    ensures { result ≡ tables.with_links e links }
+/// Gives an element these links.
+fn set_links(e: &mut Element, links: Links)
+    ensures { e.new ≡ tables.with_links e.old links }
 {
     if !links.keeps_start {
         e.start_binding = None;
@@ -121,5 +91,4 @@ fn with_links(mut e: Element, links: Links) -> Element
         e.end_binding = None;
     }
     e.bound = links.bound;
-    e
 }

@@ -5,6 +5,7 @@ ghost use Rattle.std.specs.List.Sorted.{IsSortedBy};
 ghost use Rattle.std.specs.Ordering.{is_lt};
 ghost use Rattle.links.specs.Tables.{is_under, row_less};
 
+use board_io::bytes_order;
 use elem::Element;
 use json_text::Text;
 use std::alloc::AllocError;
@@ -30,7 +31,7 @@ pub(crate) fn sorted<'a>(mut rows: Vec<Row<'a>>) -> Result<Vec<Row<'a>>, AllocEr
 fn by_key(row: &Row<'_>, other: &Row<'_>) -> Ordering
     ensures { is_lt result ≡ row_less row.now other.now }
 {
-    row.key.cmp(other.key)
+    bytes_order(row.key, other.key)
 }
 
 /// The rows under an id. It takes no memory.
@@ -49,7 +50,7 @@ fn ends_under(rows: &Vec<Row<'_>>, key: &[u8]) -> (usize, usize)
     ensures within { result.1 ≤ length rows.now.items }
     ensures among { slice_range rows.now.items result.0 result.1 ≡ filter (is_under key.now) rows.now.items }
 {
-    let start = rows.partition_point(|row| row.key.cmp(key).is_lt());
-    let end = rows.partition_point(|row| row.key.cmp(key).is_le());
+    let start = rows.partition_point(|row| bytes_order(row.key, key).is_lt());
+    let end = rows.partition_point(|row| bytes_order(row.key, key).is_le());
     (start, end)
 }

@@ -11,7 +11,7 @@ ghost use Rattle.restore_table.specs.Table.{defaults};
 
 use crate::legacy::updated;
 use crate::table::{Row, rows};
-use board_io::List;
+use board_io::{List, bytes_order};
 use json_text::{Member, Raw, Text};
 use scene_json::is_null;
 use std::alloc::{AllocError, Global};
@@ -67,7 +67,7 @@ fn place(
 {
     let mut left = rows;
     while let Some((row, others)) = left.split_first() {
-        match row.name.as_bytes().cmp(member.name.as_bytes()) {
+        match bytes_order(row.name.as_bytes(), member.name.as_bytes()) {
             Ordering::Less => all.push(default_member(row))?,
             Ordering::Equal => {
                 all.push(filled(row, member))?;

@@ -12,6 +12,6 @@ mod scene;
 pub use fault::SceneFault;
 pub use head::{Head, join};
 pub use layout::Layout;
-pub use printing::{scene_text, state_text};
+pub use printing::{elements_text, scene_text, state_text};
 pub use reading::{read_scene, scene_of};
 pub use scene::Scene;

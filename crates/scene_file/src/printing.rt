@@ -37,7 +37,18 @@ pub fn scene_text(
     ensures text { IfOk result (IsSceneText layout head.now (shown view.now)) }
     ensures rise { IfOk result (λ _. HaveRisingKeys (shown view.now)) }
 {
-    let elements = view.elements();
+    elements_text(alloc, head, view.elements(), layout)
+}
+
+/// The text of the scene of elements that are shown, as `scene_text` gives it.
+pub fn elements_text(
+    alloc: Global,
+    head: &Head,
+    elements: &[Element],
+    layout: Layout,
+) -> Result<Bytes, AllocError>
+    ensures { IfOk result (IsSceneText layout head.now elements.now) }
+{
     let mut out = Vec::new(alloc);
     match layout {
         Layout::Compact => {

@@ -1,16 +1,15 @@
 -- Where a string ends.
-use Rattle.std.proofs.Common.{◌≡◌, ℕ, suc, ◌+◌, ◌<◌, ◌≤◌, min, get_or, drop, drop-drop, drop-cons, drop_of_length-le, length-drop, subst, List, [], ◌∷◌, ◌++◌, Bool, true, false, not, ◌&&◌, ◌==◌, if◌then◌else◌, eqb, length, flat_map, refl, sym, ap, ◌∙◌, append_assoc, arith, inl, inr}
+use Rattle.std.proofs.Common.{◌≡◌, ℕ, suc, ◌+◌, ◌<◌, ◌≤◌, min, get_or, drop, drop-drop, drop-cons, drop_of_length-le, length-drop, List, [], ◌∷◌, ◌++◌, Bool, true, false, not, ◌&&◌, ◌==◌, if◌then◌else◌, length, flat_map, refl, sym, ap, ◌∙◌, append_assoc, arith}
 use Rattle.std.specs.List.{list_all, AllByRecursion, prefix_len}
 use Rattle.std.specs.Char.{encode_utf8}
 use Rattle.std.proofs.lemmas.List.{append_cancel_right}
 use Rattle.std.proofs.lemmas.List.Sums.{prefix_len-le-length}
-use Rattle.std.proofs.lemmas.Bool.{cases_Bool, cases_lt, and_parts, cond_both}
 use Rattle.std.proofs.lemmas.Bool.Decides.{nat_tests}
 use Rattle.json_text.specs.Characters.{is_hex, is_plain}
 use Rattle.json_text.specs.Tree.{Piece, bare, letter, unit, IsPiece, piece_spelling}
 use Rattle.scene_json.specs.Passes.{behind_string}
 use Rattle.json_text.proofs.Literals.{list_all-each}
-use Rattle.json_text.proofs.Strings.{plain-bare, plain-quote, plain-slash, hex-plain}
+use Rattle.json_text.proofs.Strings.{plain-bare, hex-plain}
 
 -- a string up to its end, of which these bytes are the rest
 abbrev pub string_front : Bool → List ℕ → List ℕ
@@ -20,31 +19,20 @@ string_front escaped (b ∷ bs) =
 
 pub front-behind : (escaped : Bool) (bs : List ℕ) → string_front escaped bs ++ behind_string escaped bs ≡ bs
 front-behind escaped [] = refl
-front-behind escaped (b ∷ bs) = elim (cases_Bool (b == 34 && not escaped)) [
-  | inl e ↦ rw e refl
-  | inr e ↦ rw e (ap (λ x. b ∷ x) (front-behind (b == 92 && not escaped) bs))
-]
+front-behind escaped (b ∷ bs) = grind (arith, front-behind (b == 92 && not escaped) bs)
 
 pub length-behind_string : (escaped : Bool) (bs : List ℕ) → length (behind_string escaped bs) ≤ length bs
 length-behind_string escaped [] = omega arith
-length-behind_string escaped (b ∷ bs) =
-    cond_both (b == 34 && not escaped) _ _ (λ (x : List ℕ). length x ≤ suc (length bs)) (λ _. omega arith)
-    (λ _. omega (arith, length-behind_string (b == 92 && not escaped) bs))
+length-behind_string escaped (b ∷ bs) = grind (arith, length-behind_string (b == 92 && not escaped) bs)
 
 -- a pass inside a string goes over plain bytes
 plain-behind : (xs bs : List ℕ) → list_all is_plain xs ≡ true → behind_string false (xs ++ bs) ≡ behind_string false bs
 plain-behind [] bs h = refl
-plain-behind (x ∷ xs) bs h =
-    let both = and_parts (is_plain x) (list_all is_plain xs) h in
-    rw (plain-quote x both.0, plain-slash x both.0) (plain-behind xs bs both.1)
-
-and-false : (b : Bool) → (b && false) ≡ false
-and-false true = refl
-and-false false = refl
+plain-behind (x ∷ xs) bs h = grind (arith, nat_tests, plain-behind xs bs)
 
 piece-behind : (p : Piece) (bs : List ℕ) → IsPiece p → behind_string false (piece_spelling p ++ bs) ≡ behind_string false bs
 piece-behind (bare c) bs h = plain-behind (encode_utf8 c) bs (plain-bare c h.2 h.3)
-piece-behind (letter b) bs h = rw (and-false (eqb b 34), and-false (eqb b 92)) refl
+piece-behind (letter b) bs h = grind (arith, nat_tests)
 piece-behind (unit a b c d) bs h = plain-behind (a ∷ b ∷ c ∷ d ∷ []) bs (list_all-each is_hex is_plain hex-plain (a ∷ b ∷ c ∷ d ∷ []) h)
 
 -- behind a string of good pieces stands what follows it
@@ -63,21 +51,11 @@ pieces-front ps bs h =
 -- a run of plain bytes at the front, which ends at the string's end or at an escape
 pub behind-run : (bs : List ℕ) → behind_string false (drop (prefix_len is_plain bs) bs) ≡ behind_string false bs
 behind-run [] = refl
-behind-run (b ∷ bs) = elim (cases_Bool (is_plain b)) [
-  | inl e ↦ let one : 1 + prefix_len is_plain bs ≡ suc (prefix_len is_plain bs) = omega arith in rw (e, one, plain-quote b e, plain-slash b e) (behind-run bs)
-  | inr e ↦ rw e refl
-]
+behind-run (b ∷ bs) = grind (arith, nat_tests, drop-drop (prefix_len is_plain bs) 1 (b ∷ bs), behind-run bs)
 
 pub run-stops : (bs : List ℕ) (b : ℕ) (others : List ℕ) → drop (prefix_len is_plain bs) bs ≡ b ∷ others → is_plain b ≡ false
 run-stops [] b others e = absurd (cc)
-run-stops (x ∷ bs) b others e = elim (cases_Bool (is_plain x)) [
-  | inl p ↦ let one : 1 + prefix_len is_plain bs ≡ suc (prefix_len is_plain bs) = omega arith in run-stops bs b others (rw (p, one) at e)
-  | inr p ↦ let front : x ∷ bs ≡ b ∷ others = rw p at e in let same : x ≡ b = cc in subst (λ y. is_plain y ≡ false) same p
-]
-
--- the byte behind a `\` plays no part
-pub behind-escape : (b : ℕ) (bs : List ℕ) → behind_string true (b ∷ bs) ≡ behind_string false bs
-behind-escape b bs = rw (and-false (eqb b 34), and-false (eqb b 92)) refl
+run-stops (x ∷ bs) b others e = grind (arith, drop-drop (prefix_len is_plain bs) 1 (x ∷ bs), run-stops bs b others)
 
 -- Behind a run of plain bytes, what stands behind the string is still to come.
 pub record IsMarked (bytes : List ℕ) (next : ℕ) : Type 0 where
@@ -95,34 +73,22 @@ marked-run bytes at end low same is =
       stops = λ b others e. run-stops (drop at bytes) b others (sym there ∙ e);
     }
 
-module _ (bytes : List ℕ) (next : ℕ) (marked : IsMarked bytes next) where
-  pub marked-past : length bytes ≤ next → [] ≡ behind_string false bytes
-  marked-past past = ap (behind_string false) (sym (drop_of_length-le bytes past)) ∙ marked.same
+pub marked-past : (bytes : List ℕ) (next : ℕ) → IsMarked bytes next → length bytes ≤ next → [] ≡ behind_string false bytes
+marked-past bytes next marked past = ap (behind_string false) (sym (drop_of_length-le bytes past)) ∙ marked.same
 
-  module _ (high : next < length bytes) where
-    split : drop next bytes ≡ get_or bytes next 0 ∷ drop (suc next) bytes
-    split = drop-cons bytes next 0 high
+-- the byte behind a `\` plays no part
+passed : (bs : List ℕ) → behind_string false (drop 1 bs) ≡ behind_string false (92 ∷ bs)
+passed [] = refl
+passed (b ∷ bs) = grind (arith, nat_tests)
 
-    slash : (get_or bytes next 0 ≡ 34 → ⊥) → get_or bytes next 0 ≡ 92
-    slash other = let solid = marked.stops (get_or bytes next 0) (drop (suc next) bytes) split in grind (arith, nat_tests)
-
-    passed : (bs : List ℕ) → behind_string false (drop 1 bs) ≡ behind_string false (92 ∷ bs)
-    passed [] = refl
-    passed (b ∷ bs) = sym (behind-escape b bs)
-
-    -- behind the escape, of which the bytes may break off
-    pub marked-escape : (get_or bytes next 0 ≡ 34 → ⊥) → (k : ℕ) → k ≡ min (length bytes) (next + 2) → (k ≤ length bytes) × (behind_string false (drop k bytes) ≡ behind_string false bytes)
-    marked-escape other k is =
-        let front : drop next bytes ≡ 92 ∷ drop (suc next) bytes = split ∙ ap (λ b. b ∷ drop (suc next) bytes) (slash other) in
-        let all : behind_string false (drop (next + 2) bytes) ≡ behind_string false bytes =
-        (let two : suc next + 1 ≡ next + 2 = omega arith in
-        ap (λ j. behind_string false (drop j bytes)) (sym two) ∙ ap (behind_string false) (sym (drop-drop 1 (suc next) bytes)) ∙ passed (drop (suc next) bytes) ∙ ap (behind_string false) (sym front) ∙ marked.same) in (
-          omega (arith, is),
-          elim (cases_lt (length bytes) (next + 2)) [
-            | inl short ↦
-                let at : k ≡ length bytes = omega (arith, is, short) in
-                ap (λ j. behind_string false (drop j bytes)) at
-                ∙ ap (behind_string false) (drop_of_length-le bytes (omega arith) ∙ sym (drop_of_length-le bytes (omega (arith, short)))) ∙ all
-            | inr long ↦ let at : k ≡ next + 2 = omega (arith, is, long) in ap (λ j. behind_string false (drop j bytes)) at ∙ all
-          ],
-        )
+-- behind the escape, of which the bytes may break off
+pub marked-escape : (bytes : List ℕ) (next : ℕ) → IsMarked bytes next → next < length bytes → (get_or bytes next 0 ≡ 34 → ⊥) →
+    (k : ℕ) → k ≡ min (length bytes) (next + 2) → (k ≤ length bytes) × (behind_string false (drop k bytes) ≡ behind_string false bytes)
+marked-escape bytes next marked high other k is =
+    let split = drop-cons bytes next 0 high in
+    let solid = marked.stops _ _ split in
+    let slash : get_or bytes next 0 ≡ 92 = grind (arith, nat_tests) in
+    let two : next + 2 ≡ suc next + 1 = omega arith in
+    let all : behind_string false (drop (next + 2) bytes) ≡ behind_string false bytes =
+    rw (two, ← drop-drop 1 (suc next) bytes) (passed (drop (suc next) bytes) ∙ ap (behind_string false) (sym (rw slash at split)) ∙ marked.same) in
+    (omega (arith, is), grind (arith, all, drop_of_length-le))

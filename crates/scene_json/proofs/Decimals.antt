@@ -50,3 +50,6 @@ pub first_of_decimal : (ds : List ℕ) (n : ℕ) → n < 2 ^ 64 → ds ≡ decim
 first_of_decimal ds zero small is several first = omega (arith, ap length (is ∙ decimal_digit 0 (omega arith)))
 first_of_decimal ds (suc n) small is several first =
     omega (arith, first_decimal (suc n) (omega arith) small, ap (λ (bs : List ℕ). get_or bs 0 0) is)
+
+-- what is known of digits that are read one by one
+pub ruleset decimal_steps = (decimal_of_digits, value_more, digits_step, digits_of_decimal, digit_of_decimal, value_of_decimal, front_of_decimal, first_of_decimal)

@@ -5,12 +5,10 @@ use Rattle.std.specs.List.{AllByRecursion, IsDistinct}
 use Rattle.std.specs.List.Sorted.{IsPermutation, IsSortedBy, IsStrictlySortedBy}
 use Rattle.std.specs.Ordering.{is_eq, is_lt, ordering_reverse}
 use Rattle.std.specs.declared.cmp.Ordering.TheVariants.{Less, Equal, Greater}
-use Rattle.std.proofs.lemmas.Bool.{false≢true}
 use Rattle.std.proofs.lemmas.List.Sorted.{Contains-permutation, IsPermutation-sym, IsPermutation-map}
-use Rattle.std.proofs.lemmas.Map.Entries.{lookup_head, lookup_tail}
+use Rattle.std.proofs.lemmas.Map.Entries.{lookup_tail}
 use Rattle.std.proofs.lemmas.Map.Keys.{IsDistinct-IsPermutation}
 use Rattle.std.proofs.lemmas.Map.Views.{Contains-from_lookup, lookup-from_Contains}
-use Rattle.std.proofs.lemmas.Option.{none-some}
 use Rattle.json_text.specs.Compact.{Member as Pair}
 use Rattle.json_text.specs.Members.{pairs}
 use Rattle.json_text.specs.Parts.{names_of}
@@ -22,8 +20,7 @@ use Rattle.json_text.proofs.Collapsed.{bytes_eq-true, bytes_eq-same}
 pub value_at-here : (name : List ℕ) (ms : List Member) (i : ℕ) (m : Member) → i < length ms → m ≡ get_or ms i m →
     value_at name (pairs (drop i ms)) ≡ cond (bytes_eq name m.name) (Some m.value) (value_at name (pairs (drop (suc i) ms)))
 value_at-here name [] i m h e = absurd (omega arith)
-value_at-here name (x ∷ xs) zero m h e =
-    subst (λ (y : Member). value_at name (pairs (x ∷ xs)) ≡ cond (bytes_eq name y.name) (Some y.value) (value_at name (pairs xs))) (sym e) refl
+value_at-here name (x ∷ xs) zero m h e = rw e refl
 value_at-here name (x ∷ xs) (suc i) m h e = value_at-here name xs i m (omega arith) e
 
 pub value_at-found : (name : List ℕ) (ms : List Member) (i : ℕ) (m : Member) → i < length ms → m ≡ get_or ms i m → bytes_eq name m.name ≡ true →
@@ -107,9 +104,7 @@ IsSortedBy-tail lt x y xs up k d low high =
     rw next at met
 
 turned : (o p : Ordering) → o ≡ ordering_reverse p → is_eq o ≡ false → is_lt p ≡ false → o ≡ Less
-turned o Less e differ above = cc
-turned o Equal e differ above = absurd (false≢true (sym differ ∙ ap is_eq e))
-turned o Greater e differ above = e
+turned o p e differ above = grind arith
 
 pub rising_from_sort : (vs : List Member) → IsSortedBy (λ (a : Member) (b : Member). is_lt (slice_cmp nat_cmp a.name b.name)) vs →
     IsDistinct bytes_eq (map (λ (v : Member). v.name) vs) → HaveRisingNames (pairs vs)
@@ -125,29 +120,21 @@ rising_from_sort (v ∷ w ∷ vs) up apart =
 
 -- members whose names rise are told by their look-ups
 heads : (m n : Pair) (ms ns : List Pair) → bytes_eq m.0 n.0 ≡ true → AreSameMembers (m ∷ ms) (n ∷ ns) → m ≡ n
-heads m n ms ns e same =
-    let value : Some m.1 ≡ Some n.1 = sym (lookup_head (bytes_eq m.0) m ms (bytes_eq-same m.0)) ∙ (same m.0 ∙ lookup_head (bytes_eq m.0) n ns e) in
-    let name = bytes_eq-true m.0 n.0 e in
-    let values : m.1 ≡ n.1 = cc in
-    λ i. (name i, values i)
+heads m n ms ns e same = grind (arith, same m.0, bytes_eq-same m.0, bytes_eq-true m.0 n.0)
 
-tail_at : (m : Pair) (ms ns : List Pair) (name : List ℕ) (b : Bool) → bytes_eq name m.0 ≡ b → IsBelow m.0 ms → IsBelow m.0 ns →
+tail_at : (m : Pair) (ms ns : List Pair) (name : List ℕ) → IsBelow m.0 ms → IsBelow m.0 ns →
     value_at name (m ∷ ms) ≡ value_at name (m ∷ ns) → value_at name ms ≡ value_at name ns
-tail_at m ms ns name true e below other same =
-    let own = bytes_eq-true name m.0 e in
-    ap (λ x. value_at x ms) own ∙ (value_at-below m.0 ms below ∙ (sym (value_at-below m.0 ns other) ∙ sym (ap (λ x. value_at x ns) own)))
-tail_at m ms ns name false e below other same =
-    sym (lookup_tail (bytes_eq name) m ms e) ∙ (same ∙ lookup_tail (bytes_eq name) m ns e)
+tail_at m ms ns name below other same = grind (arith, bytes_eq-true name m.0, value_at-below m.0 ms, value_at-below m.0 ns)
 
 absent : (m n : Pair) (ms ns : List Pair) → slice_cmp nat_cmp m.0 n.0 ≡ Less → HaveRisingNames (n ∷ ns) → value_at m.0 (m ∷ ms) ≡ value_at m.0 (n ∷ ns) → ⊥
 absent m n ms ns less rise same =
-    none-some m.1 (sym (value_at-below m.0 (n ∷ ns) (less, IsBelow-less m.0 n.0 ns less (rising_parts n ns rise).0))
-    ∙ (sym same ∙ lookup_head (bytes_eq m.0) m ms (bytes_eq-same m.0)))
+    let below = value_at-below m.0 (n ∷ ns) (less, IsBelow-less m.0 n.0 ns less (rising_parts n ns rise).0) in
+    grind (arith, bytes_eq-same m.0)
 
 pub rising_same : (ms ns : List Pair) → HaveRisingNames ms → HaveRisingNames ns → AreSameMembers ms ns → ms ≡ ns
 rising_same [] [] rise other same = refl
-rising_same [] (n ∷ ns) rise other same = absurd (none-some n.1 (same n.0 ∙ lookup_head (bytes_eq n.0) n ns (bytes_eq-same n.0)))
-rising_same (m ∷ ms) [] rise other same = absurd (none-some m.1 (sym (same m.0) ∙ lookup_head (bytes_eq m.0) m ms (bytes_eq-same m.0)))
+rising_same [] (n ∷ ns) rise other same = absurd (grind (arith, same n.0, bytes_eq-same n.0))
+rising_same (m ∷ ms) [] rise other same = absurd (grind (arith, same m.0, bytes_eq-same m.0))
 rising_same (m ∷ ms) (n ∷ ns) rise other same =
     elim (slice_cmp nat_cmp m.0 n.0) as (λ o. slice_cmp nat_cmp m.0 n.0 ≡ o → (m ∷ ms) ≡ (n ∷ ns)) [
       | Less ↦ λ less. absurd (absent m n ms ns less other (same m.0))
@@ -156,7 +143,9 @@ rising_same (m ∷ ms) (n ∷ ns) rise other same =
           let above : IsBelow m.0 ns = subst (λ (o : Pair). IsBelow o.0 ns) (sym first) (rising_parts n ns other).0 in
           let again : AreSameMembers (m ∷ ms) (m ∷ ns) = subst (λ (o : Pair). AreSameMembers (m ∷ ms) (o ∷ ns)) (sym first) same in
           let others = rising_same ms ns (rising_parts m ms rise).1 (rising_parts n ns other).1
-          (λ name. tail_at m ms ns name (bytes_eq name m.0) refl (rising_parts m ms rise).0 above (again name)) in
+          (λ name. tail_at m ms ns name (rising_parts m ms rise).0 above (again name)) in
           ap (λ rest. m ∷ rest) others ∙ ap (λ o. o ∷ ns) first
       | Greater ↦ λ more. absurd (absent n m ns ms (less_turned m.0 n.0 more) rise (sym (same n.0)))
     ] refl
+
+pub ruleset lookup_steps = (value_at-found)

@@ -1,13 +1,11 @@
 -- What a pass that counts brackets makes of the text of a value.
 use Rattle.std.proofs.Common.{◌≡◌, ℕ, ◌+◌, ◌≤◌, max, List, [], ◌∷◌, ◌++◌, Bool, true, false, not, ◌&&◌, ◌==◌, flat_map, refl, sym, ap, ◌∙◌, append_assoc, arith}
 use Rattle.std.specs.List.{list_all, AllByRecursion}
-use Rattle.std.proofs.lemmas.Bool.{and_parts}
 use Rattle.std.proofs.lemmas.Bool.Decides.{nat_tests}
 use Rattle.json_text.specs.Characters.{is_space, is_opening, ends_value}
 use Rattle.json_text.specs.Tree.{Piece, IsPiece, piece_spelling, string_spelling, Container, array, object, opening, closing, Label, unnamed, named, IsLabel, label_spelling, Tree, scalar, text, empty, filled, Values, last, next, spelling, values_spelling, IsGood, AreGood, depth, values_depth}
 use Rattle.scene_json.specs.Passes.{behind_string}
 use Rattle.json_text.proofs.Literals.{is_part_of_literal, list_all-each, literal-plain}
-use Rattle.json_text.proofs.Reading.{regroup-last, regroup-next}
 use Rattle.scene_json.proofs.Behind.{pieces-behind}
 
 -- a byte that is no quotation mark, no bracket and no comma
@@ -31,9 +29,7 @@ space-inert b h = grind (arith, nat_tests)
 module _ {X : Type 0} {f : ℕ → ℕ → List ℕ → X} (p : IsPass X f) where
   inert-steps : (xs : List ℕ) (level most : ℕ) (bs : List ℕ) → list_all is_inert xs ≡ true → level ≤ most → f level most (xs ++ bs) ≡ f level most bs
   inert-steps [] level most bs inert h = refl
-  inert-steps (x ∷ xs) level most bs inert h =
-      let both = and_parts (is_inert x) (list_all is_inert xs) inert in
-      p.others x level most (xs ++ bs) both.0 h ∙ inert-steps xs level most bs both.1 h
+  inert-steps (x ∷ xs) level most bs inert h = grind (arith, p.others x level most (xs ++ bs), inert-steps xs level most bs)
 
   blank-steps : (xs : List ℕ) (level most : ℕ) (bs : List ℕ) → list_all is_space xs ≡ true → level ≤ most → f level most (xs ++ bs) ≡ f level most bs
   blank-steps xs level most bs blank h = inert-steps xs level most bs (list_all-each is_space is_inert space-inert xs blank) h
@@ -46,15 +42,9 @@ module _ {X : Type 0} {f : ℕ → ℕ → List ℕ → X} (p : IsPass X f) wher
 
   label-steps : (c : Container) (l : Label) (level most : ℕ) (bs : List ℕ) → IsLabel c l → level ≤ most → f level most (label_spelling l ++ bs) ≡ f level most bs
   label-steps array (unnamed before) level most bs good h = blank-steps before level most bs good h
-  label-steps array (named before name between after) level most bs good h = absurd good
-  label-steps object (unnamed before) level most bs good h = absurd good
   label-steps object (named before name between after) level most bs good h =
-      ap (f level most) (regroup-next before (string_spelling name) between 58 after bs)
-      ∙ blank-steps before level most _ good.0 h
-      ∙ string-steps name level most _ good.1 h
-      ∙ blank-steps between level most _ good.2 h
-      ∙ p.others 58 level most (after ++ bs) refl h
-      ∙ blank-steps after level most bs good.3 h
+      simp append_assoc (grind (arith, blank-steps, p.quotes, p.others 58, pieces-behind))
+  label-steps c l level most bs good h = absurd good
 
   -- over a value the pass sees the value's depth, and is as deep behind it as before
   mutual
@@ -67,28 +57,13 @@ module _ {X : Type 0} {f : ℕ → ℕ → List ℕ → X} (p : IsPass X f) wher
         string-steps pieces level most bs good h ∙ ap (λ m. f level m bs) (sym same)
     tree-steps (empty c blank) level most more bs good h e =
         let same : more ≡ max most (level + 1) = omega arith in
-        p.opens c level most ((blank ++ closing c ∷ []) ++ bs)
-        ∙ ap (f (level + 1) (max most (level + 1))) (append_assoc blank (closing c ∷ []) bs)
-        ∙ blank-steps blank (level + 1) (max most (level + 1)) (closing c ∷ bs) good (omega arith)
-        ∙ p.closes c level (max most (level + 1)) bs (omega arith)
-        ∙ ap (λ m. f level m bs) (sym same)
+        simp append_assoc (grind (arith, p.opens c, p.closes c, blank-steps))
     tree-steps (filled c values) level most more bs good h e =
-        p.opens c level most ((values_spelling values ++ closing c ∷ []) ++ bs)
-        ∙ ap (f (level + 1) (max most (level + 1))) (append_assoc (values_spelling values) (closing c ∷ []) bs)
-        ∙ values-steps c values level (max most (level + 1)) more (closing c ∷ bs) good (omega arith) (omega arith)
-        ∙ p.closes c level more bs (omega arith)
+        simp append_assoc (grind (arith, p.opens c, p.closes c, values-steps c values level (max most (level + 1)) more (closing c ∷ bs)))
 
     values-steps : (c : Container) (vs : Values) (level most more : ℕ) (bs : List ℕ) → AreGood c vs → level + 1 ≤ most → more ≡ max most (level + 1 + values_depth vs) → f (level + 1) most (values_spelling vs ++ bs) ≡ f (level + 1) more bs
     values-steps c (last label value blank) level most more bs good h e =
-        ap (f (level + 1) most) (regroup-last (label_spelling label) (spelling value) blank bs)
-        ∙ label-steps c label (level + 1) most _ good.0 h
-        ∙ tree-steps value (level + 1) most more _ good.1 h e
-        ∙ blank-steps blank (level + 1) more bs good.2 (omega arith)
+        simp append_assoc (grind (arith, label-steps c label, tree-steps value (level + 1) most more, blank-steps))
     values-steps c (next label value blank values) level most more bs good h e =
         let here = max most (level + 1 + depth value) in
-        ap (f (level + 1) most) (regroup-next (label_spelling label) (spelling value) blank 44 (values_spelling values) bs)
-        ∙ label-steps c label (level + 1) most _ good.0 h
-        ∙ tree-steps value (level + 1) most here _ good.1 h refl
-        ∙ blank-steps blank (level + 1) here _ good.2 (omega arith)
-        ∙ p.parts level here (values_spelling values ++ bs) (omega arith)
-        ∙ values-steps c values level here more bs good.3 (omega arith) (omega arith)
+        simp append_assoc (grind (arith, label-steps c label, tree-steps value (level + 1) most here, blank-steps, p.parts, values-steps c values level here more bs))

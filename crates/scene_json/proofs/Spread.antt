@@ -1,8 +1,7 @@
 -- How a pass over a text lays it out.
-use Rattle.std.proofs.Common.{◌≡◌, ℕ, zero, suc, ◌+◌, ◌-◌, ◌<◌, List, [], ◌∷◌, ◌++◌, Bool, true, false, not, ◌&&◌, ◌==◌, eqb, take, drop, flat_map, refl, sym, ap, subst, ◌∙◌, append-nil, append_assoc, arith, inl, inr}
+use Rattle.std.proofs.Common.{◌≡◌, ℕ, zero, suc, ◌+◌, ◌<◌, List, [], ◌∷◌, ◌++◌, Bool, true, false, not, ◌&&◌, ◌==◌, eqb, take, drop, flat_map, refl, sym, ap, subst, ◌∙◌, append-nil, append_assoc, arith}
 use Rattle.std.specs.List.{list_all, AllByRecursion}
 use Rattle.std.proofs.lemmas.List.{take-append-drop}
-use Rattle.std.proofs.lemmas.Bool.{and_parts, cases_Bool}
 use Rattle.std.proofs.lemmas.Bool.Decides.{nat_tests}
 use Rattle.json_text.specs.Characters.{is_space, is_plain, is_opening, is_closing}
 use Rattle.json_text.specs.Tree.{Piece, IsPiece, piece_spelling, string_spelling, Container, array, object, opening, closing, Label, unnamed, named, IsLabel, label_spelling, Tree, scalar, text, empty, filled, Values, last, next, spelling, values_spelling, IsGood, AreGood}
@@ -10,24 +9,18 @@ use Rattle.json_text.specs.Walk.{Place, outside, inside}
 use Rattle.scene_json.specs.Layout.{line, label_laid_out, laid_out, values_laid_out}
 use Rattle.scene_json.specs.Lines.{Standing, layout, layout_from}
 use Rattle.scene_json.specs.Passes.{behind_string, spaces_from, put_before, put_behind}
-use Rattle.json_text.proofs.Strings.{plain-quote, plain-slash}
 use Rattle.json_text.proofs.Literals.{is_part_of_literal, literal-plain}
-use Rattle.json_text.proofs.Reading.{begins_value, begins-no-space, values-Front, regroup-last, regroup-next}
+use Rattle.json_text.proofs.Reading.{begins_value, begins-no-space, values-Front, regroup-last}
 use Rattle.scene_json.proofs.Behind.{string_front, pieces-front, pieces-behind}
 
 -- a string is kept
 inside-string : (escaped first : Bool) (spaces : ℕ) (bs : List ℕ) → layout (inside escaped) first spaces bs ≡ string_front escaped bs ++ layout outside first spaces (behind_string escaped bs)
 inside-string escaped first spaces [] = refl
-inside-string escaped first spaces (b ∷ bs) = elim (cases_Bool (b == 34 && not escaped)) [
-  | inl e ↦ rw e refl
-  | inr e ↦ rw e (ap (λ x. b ∷ x) (inside-string (b == 92 && not escaped) first spaces bs))
-]
+inside-string escaped first spaces (b ∷ bs) = grind (arith, inside-string (b == 92 && not escaped) first spaces bs)
 
 -- white space is left out
 pub space-step : (first : Bool) (spaces b : ℕ) (bs : List ℕ) → is_space b ≡ true → layout outside first spaces (b ∷ bs) ≡ layout outside first spaces bs
-space-step first spaces b bs space =
-    let quote : eqb b 34 ≡ false = grind (arith, nat_tests) in
-    rw (space, quote) refl
+space-step first spaces b bs space = grind (arith, nat_tests)
 
 -- a byte that is no white space and begins no string
 pub byte-step : (first : Bool) (spaces b : ℕ) (bs : List ℕ) → is_space b ≡ false → eqb b 34 ≡ false → layout outside first spaces (b ∷ bs) ≡ put_before first spaces b ++ (b ∷ (put_behind (spaces_from first spaces b) b ++ layout outside (is_opening b) (spaces_from first spaces b) bs))
@@ -42,8 +35,7 @@ quote-step first spaces bs =
 -- plain characters of a string are copied
 pub run-steps : (xs : List ℕ) (first : Bool) (spaces : ℕ) (bs : List ℕ) → AllByRecursion (λ b. is_plain b ≡ true) xs → layout (inside false) first spaces (xs ++ bs) ≡ xs ++ layout (inside false) first spaces bs
 run-steps [] first spaces bs h = refl
-run-steps (x ∷ xs) first spaces bs h =
-    rw (plain-quote x h.0, plain-slash x h.0) (ap (λ y. x ∷ y) (run-steps xs first spaces bs h.1))
+run-steps (x ∷ xs) first spaces bs h = grind (arith, nat_tests, run-steps xs first spaces bs)
 
 -- a part of a text of plain characters is copied, and the layout goes on behind it
 pub run-from : (s : Standing) (n : ℕ) (bytes behind more was copied : List ℕ) → AllByRecursion (λ b. is_plain b ≡ true) (take n bytes) → (0 < n → s.place ≡ inside false)
@@ -58,32 +50,19 @@ run-from s (suc n) bytes behind more was copied plain quoted left copies =
     ap (λ x. x ++ layout_from s (behind ++ more)) copies ∙ append_assoc was run (layout_from s (behind ++ more)) ∙ ap (λ x. was ++ x) (here ∙ ap (layout_from s) whole)
 
 plain-step : (spaces b : ℕ) (bs : List ℕ) → is_part_of_literal b ≡ true → layout outside false spaces (b ∷ bs) ≡ b ∷ layout outside false spaces bs
-plain-step spaces b bs plain =
-    let space : is_space b ≡ false = grind (arith, nat_tests) in
-    let quote : eqb b 34 ≡ false = grind (arith, nat_tests) in
-    let comma : eqb b 44 ≡ false = grind (arith, nat_tests) in
-    let colon : eqb b 58 ≡ false = grind (arith, nat_tests) in
-    let opens : is_opening b ≡ false = grind (arith, nat_tests) in
-    let closes : is_closing b ≡ false = grind (arith, nat_tests) in
-    rw (space, quote, closes, comma, colon, opens) refl
+plain-step spaces b bs plain = grind (arith, nat_tests)
 
 plain-steps : (xs : List ℕ) (spaces : ℕ) (bs : List ℕ) → list_all is_part_of_literal xs ≡ true → layout outside false spaces (xs ++ bs) ≡ xs ++ layout outside false spaces bs
 plain-steps [] spaces bs h = refl
-plain-steps (x ∷ xs) spaces bs h =
-    let both = and_parts (is_part_of_literal x) (list_all is_part_of_literal xs) h in
-    plain-step spaces x (xs ++ bs) both.0 ∙ ap (λ y. x ∷ y) (plain-steps xs spaces bs both.1)
+plain-steps (x ∷ xs) spaces bs h = grind (arith, plain-step spaces x (xs ++ bs), plain-steps xs spaces bs)
 
 blank-steps : (xs : List ℕ) (first : Bool) (spaces : ℕ) (bs : List ℕ) → list_all is_space xs ≡ true → layout outside first spaces (xs ++ bs) ≡ layout outside first spaces bs
 blank-steps [] first spaces bs h = refl
-blank-steps (x ∷ xs) first spaces bs h =
-    let both = and_parts (is_space x) (list_all is_space xs) h in
-    space-step first spaces x (xs ++ bs) both.0 ∙ blank-steps xs first spaces bs both.1
+blank-steps (x ∷ xs) first spaces bs h = grind (arith, space-step first spaces x (xs ++ bs), blank-steps xs first spaces bs)
 
-string-steps : (ps : List Piece) (spaces : ℕ) (bs : List ℕ) → AllByRecursion IsPiece ps → layout outside false spaces (string_spelling ps ++ bs) ≡ string_spelling ps ++ layout outside false spaces bs
-string-steps ps spaces bs good =
-    ap (λ x. layout outside false spaces (34 ∷ x)) (append_assoc (flat_map piece_spelling ps) (34 ∷ []) bs)
-    ∙ quote-step false spaces (flat_map piece_spelling ps ++ 34 ∷ bs)
-    ∙ rw (pieces-front ps bs good, pieces-behind ps bs good) refl
+string-steps : (ps : List Piece) (spaces : ℕ) (bs : List ℕ) → AllByRecursion IsPiece ps →
+    layout outside false spaces (34 ∷ (flat_map piece_spelling ps ++ 34 ∷ bs)) ≡ 34 ∷ (flat_map piece_spelling ps ++ 34 ∷ layout outside false spaces bs)
+string-steps ps spaces bs good = quote-step false spaces (flat_map piece_spelling ps ++ 34 ∷ bs) ∙ rw (pieces-front ps bs good, pieces-behind ps bs good) (simp append_assoc)
 
 opening-step : (c : Container) (spaces : ℕ) (bs : List ℕ) → layout outside false spaces (opening c ∷ bs) ≡ opening c ∷ layout outside true spaces bs
 opening-step array spaces bs = refl
@@ -94,12 +73,7 @@ empty-step array spaces bs = refl
 empty-step object spaces bs = refl
 
 closing-step : (c : Container) (spaces : ℕ) (bs : List ℕ) → layout outside false (spaces + 2) (closing c ∷ bs) ≡ line spaces ++ (closing c ∷ layout outside false spaces bs)
-closing-step array spaces bs =
-    let back : spaces + 2 - 2 ≡ spaces = omega arith in
-    byte-step false (spaces + 2) 93 bs refl refl ∙ rw back refl
-closing-step object spaces bs =
-    let back : spaces + 2 - 2 ≡ spaces = omega arith in
-    byte-step false (spaces + 2) 125 bs refl refl ∙ rw back refl
+closing-step c spaces bs = grind (arith, byte-step false (spaces + 2) 93 bs, byte-step false (spaces + 2) 125 bs)
 
 comma-step : (spaces : ℕ) (bs : List ℕ) → layout outside false spaces (44 ∷ bs) ≡ 44 ∷ (line spaces ++ layout outside false spaces bs)
 comma-step spaces bs = byte-step false spaces 44 bs refl refl
@@ -110,17 +84,11 @@ colon-step spaces bs = byte-step false spaces 58 bs refl refl
 -- a label on its line
 label-steps : (c : Container) (l : Label) (spaces : ℕ) (bs : List ℕ) → IsLabel c l → line spaces ++ layout outside false spaces (label_spelling l ++ bs) ≡ label_spelling (label_laid_out spaces l) ++ layout outside false spaces bs
 label-steps array (unnamed before) spaces bs good = ap (λ x. line spaces ++ x) (blank-steps before false spaces bs good)
-label-steps array (named before name between after) spaces bs good = absurd good
-label-steps object (unnamed before) spaces bs good = absurd good
 label-steps object (named before name between after) spaces bs good =
-    let e = regroup-next before (string_spelling name) between 58 after bs in
-    let passed : layout outside false spaces ((before ++ (string_spelling name ++ (between ++ 58 ∷ after))) ++ bs) ≡ string_spelling name ++ (58 ∷ 32 ∷ layout outside false spaces bs) =
-    ap (layout outside false spaces) e
-    ∙ blank-steps before false spaces (string_spelling name ++ (between ++ 58 ∷ (after ++ bs))) good.0
-    ∙ string-steps name spaces (between ++ 58 ∷ (after ++ bs)) good.1
-    ∙ ap (λ x. string_spelling name ++ x) (blank-steps between false spaces (58 ∷ (after ++ bs)) good.2 ∙ colon-step spaces (after ++ bs) ∙ ap (λ x. 58 ∷ 32 ∷ x) (blank-steps after false spaces bs good.3)) in
-    ap (λ x. line spaces ++ x) passed
-    ∙ sym (regroup-last (line spaces) (string_spelling name) (58 ∷ 32 ∷ []) (layout outside false spaces bs))
+    let passed : layout outside false spaces (label_spelling (named before name between after) ++ bs) ≡ string_spelling name ++ (58 ∷ 32 ∷ layout outside false spaces bs) =
+    simp append_assoc (grind (arith, blank-steps, string-steps, colon-step)) in
+    ap (λ x. line spaces ++ x) passed ∙ sym (regroup-last (line spaces) (string_spelling name) (58 ∷ 32 ∷ []) (layout outside false spaces bs))
+label-steps c l spaces bs good = absurd good
 
 no-closing : (b : ℕ) → begins_value b ≡ true → is_closing b ≡ false
 no-closing b h = grind (arith, nat_tests)
@@ -143,29 +111,17 @@ values-line c vs spaces bs good =
 mutual
   tree-steps : (t : Tree) (spaces : ℕ) (bs : List ℕ) → IsGood t → layout outside false spaces (spelling t ++ bs) ≡ spelling (laid_out spaces t) ++ layout outside false spaces bs
   tree-steps (scalar literal) spaces bs good = plain-steps literal spaces bs (literal-plain literal good)
-  tree-steps (text pieces) spaces bs good = string-steps pieces spaces bs good
+  tree-steps (text pieces) spaces bs good = simp append_assoc (string-steps pieces spaces bs good)
   tree-steps (empty c blank) spaces bs good =
-      opening-step c spaces ((blank ++ closing c ∷ []) ++ bs)
-      ∙ ap (λ x. opening c ∷ x) (ap (layout outside true spaces) (append_assoc blank (closing c ∷ []) bs) ∙ blank-steps blank true spaces (closing c ∷ bs) good ∙ empty-step c spaces bs)
+      opening-step c spaces _ ∙ ap (λ x. opening c ∷ x) (simp append_assoc (blank-steps blank true spaces (closing c ∷ bs) good ∙ empty-step c spaces bs))
   tree-steps (filled c values) spaces bs good =
-      opening-step c spaces ((values_spelling values ++ closing c ∷ []) ++ bs)
-      ∙ ap (λ x. opening c ∷ x) (ap (layout outside true spaces) (append_assoc (values_spelling values) (closing c ∷ []) bs) ∙ values-line c values spaces (closing c ∷ bs) good ∙ values-steps c values spaces bs good
-      ∙ sym (append_assoc (values_spelling (values_laid_out spaces values)) (closing c ∷ []) (layout outside false spaces bs)))
+      opening-step c spaces _ ∙ ap (λ x. opening c ∷ x) (simp append_assoc (values-line c values spaces (closing c ∷ bs) good ∙ values-steps c values spaces bs good))
 
   values-steps : (c : Container) (vs : Values) (spaces : ℕ) (bs : List ℕ) → AreGood c vs → line (spaces + 2) ++ layout outside false (spaces + 2) (values_spelling vs ++ closing c ∷ bs) ≡ values_spelling (values_laid_out spaces vs) ++ closing c ∷ layout outside false spaces bs
   values-steps c (last label value blank) spaces bs good =
-      ap (λ x. line (spaces + 2) ++ layout outside false (spaces + 2) x) (regroup-last (label_spelling label) (spelling value) blank (closing c ∷ bs))
-      ∙ label-steps c label (spaces + 2) (spelling value ++ (blank ++ closing c ∷ bs)) good.0
-      ∙ ap (λ x. label_spelling (label_laid_out (spaces + 2) label) ++ x) (tree-steps value (spaces + 2) (blank ++ closing c ∷ bs) good.1
-      ∙ ap (λ x. spelling (laid_out (spaces + 2) value) ++ x) (blank-steps blank false (spaces + 2) (closing c ∷ bs) good.2 ∙ closing-step c spaces bs))
-      ∙ sym (regroup-last (label_spelling (label_laid_out (spaces + 2) label)) (spelling (laid_out (spaces + 2) value)) (line spaces) (closing c ∷ layout outside false spaces bs))
+      simp append_assoc (grind (arith, label-steps c label (spaces + 2), tree-steps value (spaces + 2), blank-steps, closing-step c))
   values-steps c (next label value blank values) spaces bs good =
-      ap (λ x. line (spaces + 2) ++ layout outside false (spaces + 2) x) (regroup-last (label_spelling label) (spelling value) (blank ++ 44 ∷ values_spelling values) (closing c ∷ bs))
-      ∙ label-steps c label (spaces + 2) (spelling value ++ ((blank ++ 44 ∷ values_spelling values) ++ closing c ∷ bs)) good.0
-      ∙ ap (λ x. label_spelling (label_laid_out (spaces + 2) label) ++ x) (tree-steps value (spaces + 2) ((blank ++ 44 ∷ values_spelling values) ++ closing c ∷ bs) good.1
-      ∙ ap (λ x. spelling (laid_out (spaces + 2) value) ++ x) (ap (layout outside false (spaces + 2)) (append_assoc blank (44 ∷ values_spelling values) (closing c ∷ bs)) ∙ blank-steps blank false (spaces + 2) (44 ∷ (values_spelling values ++ closing c ∷ bs)) good.2
-      ∙ comma-step (spaces + 2) (values_spelling values ++ closing c ∷ bs) ∙ ap (λ x. 44 ∷ x) (values-steps c values spaces bs good.3)))
-      ∙ sym (regroup-last (label_spelling (label_laid_out (spaces + 2) label)) (spelling (laid_out (spaces + 2) value)) (44 ∷ values_spelling (values_laid_out spaces values)) (closing c ∷ layout outside false spaces bs))
+      simp append_assoc (grind (arith, label-steps c label (spaces + 2), tree-steps value (spaces + 2), blank-steps, comma-step, values-steps c values))
 
 pub layout-tree : (spaces : ℕ) (t : Tree) → IsGood t → layout outside false spaces (spelling t) ≡ spelling (laid_out spaces t)
 layout-tree spaces t good =

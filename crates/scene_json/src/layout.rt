@@ -196,6 +196,7 @@ fn part(out: &mut Vec<u8>, level: u64, byte: u8) -> Result<(), AllocError>
 }
 
 /// Begins a line with two spaces for each level.
+#[tactic(auto, using(json_text::proofs::Appending::extends_same, json_text::proofs::Appending::extends_by, json_text::proofs::Appending::extends_then))]
 fn push_line(out: &mut Vec<u8>, level: u64) -> Result<(), AllocError>
     ensures written { OnOk result (out.new.items ≡ out.old.items ++ line (2 * level)) }
     ensures kept { OnErr result (Extends out.old.items out.new.items) }

@@ -16,11 +16,12 @@ use json_text::{Member, Raw, Text};
 use std::alloc::{AllocError, Global};
 
 /// The value of the first member with this name, if there is one. It takes no memory.
+#[tactic(auto, using(crate::proofs::Lookups::lookup_steps))]
 pub fn value_named<'a>(members: &'a List<Member>, name: &str) -> Option<&'a Raw>
     ensures { option_copied result ≡ value_at name.now (pairs members.now) }
 {
     for member in members.as_slice() {
-        if name.as_bytes() == member.name.as_bytes() {
+        if is(&member.name, name) {
             return Some(&member.value);
         }
     }
@@ -82,8 +83,16 @@ pub fn shaped<T>(found: Result<T, Stop<Shape>>) -> Result<Option<T>, AllocError>
 }
 
 /// Whether the name is one of these. It takes no memory.
-pub fn is_one_of(name: &[u8], names: &[&str]) -> bool
+pub fn is_one_of(name: &Text, names: &[&str]) -> bool
     ensures { result ≡ list_any (λ known. bytes_eq name.now known.now) names.now }
 {
-    names.iter().any(|known| name == known.as_bytes())
+    names.iter().any(|known| is(name, known))
+}
+
+/// Whether the name is this one. Most are of another length, and so not compared.
+fn is(name: &Text, known: &str) -> bool
+    ensures told { result ≡ bytes_eq name.now known.now }
+    ensures turned { result ≡ bytes_eq known.now name.now }
+{
+    name.len() == known.as_bytes().len() && name.as_bytes() == known.as_bytes()
 }

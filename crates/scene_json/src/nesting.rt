@@ -9,6 +9,7 @@ ghost use Rattle.scene_json.specs.Passes.{behind_string};
 use json_text::{Raw, run_end};
 
 /// How many brackets are open at once where most are: 0 for a number, a word or a string. It takes no memory.
+#[tactic(auto, using(crate::proofs::Depths::depth_steps))]
 pub fn depth_of(value: &Raw) -> u64
     ensures holds { IsCompact result value.now }
     ensures least { (limit : ℕ) → IsCompact limit value.now → result ≤ limit }
@@ -32,6 +33,7 @@ pub fn depth_of(value: &Raw) -> u64
 }
 
 /// Whether at most so many brackets are open at once. It takes no memory.
+#[tactic(auto, using(crate::proofs::Depths::nesting_steps))]
 pub fn nests_at_most(value: &Raw, limit: u64) -> bool
     ensures { IsTrue result ↔ IsCompact limit value.now }
 {

@@ -132,6 +132,7 @@ fn next_end(bytes: &[u8], at: usize) -> usize
 
 /// What stands behind the compact text at the front: the first comma or closing bracket outside strings and brackets, and
 /// all that follows it.
+#[tactic(auto, using(crate::proofs::Skipped::skip_steps))]
 fn after_value(bytes: &[u8]) -> &[u8]
     ensures within { length result.now ≤ length bytes.now }
     ensures found { (text rest : Items ℕ) → Compacted bytes.now text rest → result.now ≡ rest }

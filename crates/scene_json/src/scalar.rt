@@ -17,6 +17,7 @@ pub fn whole_of(value: &Raw) -> Option<u64>
 }
 
 /// The whole number that these bytes are in plain decimal, where it is at most 9,007,199,254,740,991. It takes no memory.
+#[tactic(auto, using(crate::proofs::Decimals::decimal_steps))]
 pub fn whole_in(digits: &[u8]) -> Option<u64>
     ensures found { IfSome result (λ n. (n ≤ GREATEST_WHOLE) × (digits.now ≡ decimal n)) }
     ensures only { (n : ℕ) → n ≤ GREATEST_WHOLE → digits.now ≡ decimal n → result ≡ Some n }
@@ -28,6 +29,7 @@ pub fn whole_in(digits: &[u8]) -> Option<u64>
 }
 
 /// The number that these bytes are the digits of, where it is at most the greatest; the first of several isn't 0.
+#[tactic(auto, using(crate::proofs::Decimals::decimal_steps))]
 fn number_of(digits: &[u8]) -> Option<u64>
     requires some { 0 < length digits.now }
     requires plain { slice_index digits.now 0 ≡ 48 → length digits.now ≡ 1 }

@@ -1,11 +1,10 @@
 //! Repaired keys for elements that stand in some order.
 
 ghost use Rattle.std.specs.Prelude.{◌≡◌, map, IfOk};
-ghost use Rattle.std.specs.List.{zip};
 ghost use Rattle.index_repair.specs.Repair.{repaired};
 ghost use Rattle.view.specs.Shown.{index_of, keyed, with_index, HaveKeysOrNone};
 
-use board_io::List;
+use board_io::{List, change_each};
 use elem::Element;
 use frac_keys::Key;
 use index_repair::repair;
@@ -17,7 +16,9 @@ pub fn with_repaired_keys(alloc: Global, elements: Vec<Element>) -> Result<Vec<E
     ensures old_keys { IfOk result (λ _. HaveKeysOrNone elements.items) }
 {
     let keys = repair(alloc, &indices_of(alloc, &elements)?)?;
-    with_keys(alloc, elements, keys.into_vec())
+    let mut keyed = elements;
+    change_each(&mut keyed, keys.into_vec(), set_index);
+    Ok(keyed)
 }
 
 /// The indices of the elements, copied.
@@ -38,25 +39,9 @@ fn index_of(e: &Element) -> Result<Option<Key>, AllocError>
     e.index.as_ref().map(Key::try_clone).transpose()
 }
 
-/// Each element with its key.
-fn with_keys(
-    alloc: Global,
-    elements: Vec<Element>,
-    keys: Vec<Key>,
-) -> Result<Vec<Element>, AllocError>
-    ensures { IfOk result (λ new. new.items ≡ map (λ p. with_index p.0 p.1) (zip elements.items keys.items)) }
-{
-    elements
-        .into_iter()
-        .zip(keys)
-        .map(|(e, key)| with_index(e, key))
-        .collect(alloc)
-}
-
-/// The element with this index.
-fn with_index(mut e: Element, key: Key) -> Element
-    ensures { result ≡ with_index e key }
+/// Gives an element this key.
+fn set_index(e: &mut Element, key: Key)
+    ensures { e.new ≡ with_index e.old key }
 {
     e.index = Some(key);
-    e
 }

@@ -81,6 +81,18 @@ impl View {
     }
 }
 
+/// What the view of a store shows, alone: what isn't shown as it is stored isn't held beside it. Fails only for want of
+/// memory.
+pub fn shown_elements(alloc: Global, store: &Store) -> Result<List<Element>, AllocError>
+    ensures exact { IfOk result (λ elements. elements ≡ shown (live_elements store.now.elements)) }
+    ensures keys { IfOk result HaveRisingKeys }
+    ensures settled { IfOk result AreSettled }
+{
+    let mut live = live_of(alloc, store)?;
+    let elements = shown_of(alloc, &mut live)?;
+    Ok(elements)
+}
+
 /// The live elements of a store, in the order of their ids.
 fn live_of(alloc: Global, store: &Store) -> Result<Vec<Spot<'_>>, AllocError>
     ensures exact { IfOk result (λ live. elements_of live.items ≡ live_elements store.now.elements) }

@@ -7,9 +7,9 @@ returns c =
       head = c.args.head.now;
       stored = c.args.store.elements;
       board = board;
-      written = c.in_ok-scene_text.field-0;
-      scene = rw (← c.in_ok-view.ensures) c.in_ok-scene_text.ensures.text;
+      written = c.in_ok-elements_text.field-0;
+      scene = rw (← c.in_ok-shown.ensures.exact, ← c.as_slice.ensures) c.in_ok-elements_text.ensures;
       ended = made;
-      rise = rw (← c.in_ok-view.ensures) c.in_ok-scene_text.ensures.rise;
-      settled = rw (← c.in_ok-view.ensures, ← c.elements-shown.ensures.exact) c.elements-shown.ensures.settled;
+      rise = rw (← c.in_ok-shown.ensures.exact) c.in_ok-shown.ensures.keys;
+      settled = rw (← c.in_ok-shown.ensures.exact) c.in_ok-shown.ensures.settled;
     }) c.ended.ensures

@@ -4,7 +4,7 @@ use Rattle.frames_groups.proofs.GroupLaws.{HaveDistinctGroups-settled, groups_se
 use Rattle.frames_groups.proofs.groups.settle_groups.Goals as goal
 
 pub returns-clause-exact : goal.returns-clause-exact
-returns-clause-exact c = c.from_vec.ensures ∙ c.in_ok-settled.ensures ∙ ap groups_settled c.into_vec.ensures
+returns-clause-exact c = c.from_vec.ensures ∙ c.in_ok-settle_each.ensures ∙ ap groups_settled c.into_vec-elements.ensures
 
 pub returns-clause-distinct : goal.returns-clause-distinct
 returns-clause-distinct c = subst HaveDistinctGroups (sym (returns-clause-exact c)) (HaveDistinctGroups-settled c.args.list)

@@ -1,4 +1,4 @@
-use Rattle.std.proofs.Common.{vec_len, [], ◌∷◌, ◌++◌, ◌≡◌, ◌<◌, ◌+◌, ℕ, List, Some, None, cond, length, get_or, take, sym, ap, subst, ◌∙◌, arith, All, bytes_eq}
+use Rattle.std.proofs.Common.{vec_len, [], ◌∷◌, ◌++◌, ◌≡◌, ◌<◌, ◌+◌, ℕ, List, Some, None, cond, length, get_or, take, sym, ap, subst, ◌∙◌, arith, bytes_eq}
 use Rattle.std.proofs.lemmas.List.{take_more}
 use Rattle.std.proofs.lemmas.List.Elements.{All-set, All-push}
 use Rattle.std.proofs.lemmas.Map.Text.{btree_map_updates_str}
@@ -8,7 +8,7 @@ use Rattle.std.specs.Ordering.{nat_cmp}
 use Rattle.std.proofs.Math.ListN.{set}
 use Rattle.json_text.specs.Compact.{Member, collapsed}
 use Rattle.json_text.proofs.Collapsed.{insert_entry}
-use Rattle.json_reader.specs.Places.{cut, entries, IsWithin}
+use Rattle.json_reader.specs.Places.{cut, entries, IsPlaced, AreWithin}
 use Rattle.json_reader.specs.declared.collapsing.Place.{Place}
 use Rattle.json_reader.proofs.Placing.{place_from, nowhere, entries-more, within-kept, keeps-last, keeps-new, finds-new, insert-place}
 use Rattle.json_reader.proofs.collapsing.kept_places.Goals as goal
@@ -34,9 +34,8 @@ loop-place-preserved c =
     let place : Place = get_or places i nowhere in
     let name : List ℕ = cut bytes place.name in
     let value : List ℕ = cut bytes place.value in
-    let fits : IsWithin (length bytes) place.name × IsWithin (length bytes) place.value = c.requires i nowhere here in
+    let fits : IsPlaced (length bytes) place = c.requires i nowhere here in
     let is = found (goal.at.loop-place-preserved c).After-copied in
-    let P : Place → Type 0 = λ p. IsWithin (length bytes) p.name × IsWithin (length bytes) p.value in
     let turn : (ms : List Member) → ms ≡ insert_entry (entries bytes kept) name value → ms ≡ collapsed (entries bytes (take (i + 1) places)) =
     λ ms e. e ∙ ap (λ es. insert_entry es name value) c.loop-place.invariant.same ∙ sym (entries-more bytes places i here) in
     elim c.match-copied.branch [
@@ -50,7 +49,7 @@ loop-place-preserved c =
           let put : entries bytes c.match-copied.kept.items ≡ insert_entry (entries bytes kept) name value =
           ap (entries bytes) now ∙ keeps-last bytes kept name first place.value d at in
           record {
-            within = subst (All P) (sym now) (All-set P kept first new ((c.loop-place.invariant.within first d inside).0, fits.1) c.loop-place.invariant.within);
+            within = subst (AreWithin (length bytes)) (sym now) (All-set (IsPlaced (length bytes)) kept first new ((c.loop-place.invariant.within first d inside).0, fits.1) c.loop-place.invariant.within);
             same = turn _ put;
             found = λ q. ap (get_by (λ k. slice_cmp nat_cmp q k.now)) w.known-is ∙ c.loop-place.invariant.found q
                 ∙ sym (insert-place 0 (entries bytes kept) name value q first at) ∙ ap (place_from 0 q) (sym put);
@@ -61,7 +60,7 @@ loop-place-preserved c =
           let count : vec_len c.loop-place.kept ≡ length kept = omega arith in
           let now : c.match-copied.kept.items ≡ kept ++ place ∷ [] = ap (λ v. v.items) w.kept-is ∙ w.in_ok-push-in-None.ensures.items in
           record {
-            within = subst (All P) (sym now) (All-push P kept place c.loop-place.invariant.within fits);
+            within = subst (AreWithin (length bytes)) (sym now) (All-push (IsPlaced (length bytes)) kept place c.loop-place.invariant.within fits);
             same = turn _ (ap (entries bytes) now ∙ keeps-new bytes kept place none);
             found = λ q. ap (get_by (λ k. slice_cmp nat_cmp q k.now)) w.known-is
                 ∙ btree_map_updates_str c.bytes_at-name.result.now c.loop-place.known w.insert.new.self (Some w.len.result) w.in_ok-insert-in-None.ensures.updates q

@@ -1,4 +1,4 @@
-use Rattle.json_reader.proofs.Written.{has-passed}
+use Rattle.json_reader.proofs.Written.{has_passed}
 use Rattle.json_reader.proofs.reader.pass.Goals as goal
 
 pub returns : goal.returns
@@ -7,5 +7,5 @@ returns c =
     let put = c.in_ok-put_all.ensures in (
       stay.within.0,
       stay.within.1,
-      λ at read. has-passed c.args.bytes.now at c.args.at c.args.machine.now c.args.writer.now read c.stay_end-end.result c.put_all.new.self stay.within.0 stay.within.1 stay.stays put.ready put.fits,
+      λ at read. has_passed c.args.bytes.now at c.args.at c.args.machine.now c.args.writer.now read c.stay_end-end.result c.put_all.new.self stay.within.0 stay.within.1 stay.stays put.ready put.fits,
     )

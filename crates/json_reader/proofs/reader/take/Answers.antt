@@ -2,20 +2,20 @@ use Rattle.std.proofs.Common.{ℕ, get_or}
 use Rattle.std.proofs.lemmas.Result.{IfOk-weaker}
 use Rattle.json_reader.specs.Writing.{HasRead, GoesOn}
 use Rattle.json_reader.specs.declared.machine.Machine.{Machine}
-use Rattle.json_reader.proofs.Written.{can-put, has-put}
+use Rattle.json_reader.proofs.Written.{can_put, has_put}
 use Rattle.json_reader.proofs.reader.take.Goals as goal
 use Rattle.json_reader.proofs.reader.take.Goals.{In_ok-end}
 
 pub put-requires-clause-can : goal.put-requires-clause-can
 put-requires-clause-can c =
     let r = c.requires.read in
-    can-put c.args.bytes.now r.0 c.args.next r.1 c.args.writer.now r.2 c.args.machine.now c.requires.within r.3
+    can_put c.args.bytes.now r.0 c.args.next r.1 c.args.writer.now r.2 c.args.machine.now c.requires.within r.3
 
 -- what the byte and the stretch behind it make
 taken : (c : In_ok-end) (at : ℕ) (before : Machine) → HasRead c.args.bytes.now at c.args.next before c.args.writer.now → GoesOn before (get_or c.args.bytes.now c.args.next 0) c.args.machine.now
     → HasRead c.args.bytes.now at c.in_ok-end.end c.args.machine.now c.pass.new.writer
 taken c at before read goes =
-    c.in_ok-end.ensures.2 at (has-put c.args.bytes.now at c.args.next before c.args.writer.now read c.args.machine.now c.requires.within goes c.put.new.self c.in_ok-put.ensures)
+    c.in_ok-end.ensures.2 at (has_put c.args.bytes.now at c.args.next before c.args.writer.now read c.args.machine.now c.requires.within goes c.put.new.self c.in_ok-put.ensures)
 
 pub end_string-requires : goal.end_string-requires
 end_string-requires c =

@@ -26,8 +26,7 @@ returns-in_ok-finish-in-Through-clause-only c text rest stands =
 pub returns-in-Ended-clause-only : goal.returns-in-Ended-clause-only
 returns-in-Ended-clause-only c text rest stands =
     let came = rw c.in-Ended.is at (c.in_ok-reader.ensures c.args.at (c.new.ensures c.args.bytes.now c.requires)) in
-    let both = Stands-once stands came.1 in
-    (both.0, both.1)
+    Stands-once stands came.3
 
 pub returns-in-Refused-clause-fault : goal.returns-in-Refused-clause-fault
 returns-in-Refused-clause-fault c fault is =

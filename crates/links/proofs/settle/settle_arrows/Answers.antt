@@ -9,7 +9,7 @@ use Rattle.links.proofs.settle.settle_arrows.Goals as goal
 
 exact : (c : goal.After-from_vec) → c.from_vec.result ≡ settled_arrows c.args.list
 exact c =
-    c.from_vec.ensures ∙ c.in_ok-with_all_links.ensures
+    c.from_vec.ensures ∙ c.change_each.ensures with_links (λ e v new changed. changed)
     ∙ ap (λ links. map (λ p. with_links p.0 p.1) (zip c.into_vec-list.result.items links)) c.in_ok-links.ensures
     ∙ zip-map (links_of c.into_vec-list.result.items) with_links c.into_vec-list.result.items
     ∙ ap settled_arrows c.into_vec-list.ensures

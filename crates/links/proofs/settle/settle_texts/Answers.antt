@@ -9,7 +9,7 @@ use Rattle.links.proofs.settle.settle_texts.Goals as goal
 
 exact : (c : goal.After-from_vec) → c.from_vec.result ≡ settled_texts c.args.list
 exact c =
-    c.from_vec.ensures ∙ c.in_ok-with_containers.ensures
+    c.from_vec.ensures ∙ c.change_each.ensures with_container (λ e v new changed. changed)
     ∙ ap (λ kept. map (λ p. with_container p.0 p.1) (zip c.into_vec-list.result.items kept)) c.in_ok-kept.ensures
     ∙ zip-map (keeps_container c.into_vec-list.result.items) with_container c.into_vec-list.result.items
     ∙ ap settled_texts c.into_vec-list.ensures

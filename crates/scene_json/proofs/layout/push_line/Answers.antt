@@ -1,7 +1,6 @@
 use Rattle.std.proofs.Common.{◌≡◌, ℕ, ◌+◌, ◌*◌, [], ◌∷◌, ◌++◌, replicate, ap, ◌∙◌, append_assoc, arith}
 use Rattle.std.proofs.lemmas.List.{replicate-append-replicate}
 use Rattle.scene_json.specs.Layout.{line}
-use Rattle.json_text.proofs.Appending.{extends_by, extends_then, extends_same, on_err}
 use Rattle.scene_json.proofs.layout.push_line.Goals as goal
 
 -- two more spaces
@@ -16,8 +15,3 @@ loop-preserved c =
     ∙ ap (λ x. x ++ 32 ∷ 32 ∷ []) c.loop.invariant
     ∙ append_assoc c.args.out.now.items (line (2 * c.loop.counter)) (32 ∷ 32 ∷ [])
     ∙ ap (λ x. c.args.out.now.items ++ x) (line-more c.loop.counter)
-
-pub returns-in_err-extend_from_slice-2-clause-kept : goal.returns-in_err-extend_from_slice-2-clause-kept
-returns-in_err-extend_from_slice-2-clause-kept c =
-    on_err c.from_residual-in_err-extend_from_slice-2.result
-    (extends_then _ _ _ (extends_by _ _ _ c.loop.invariant) (extends_same _ _ c.in_err-extend_from_slice-2.ensures.items))

@@ -1,30 +1,10 @@
-use Rattle.std.proofs.Common.{◌≡◌, ℕ, List, ◌∷◌, false, length, sym, ap, ◌∙◌, arith}
+use Rattle.std.proofs.Common.{◌≡◌, ℕ, List, length, sym, ap, ◌∙◌, arith}
 use Rattle.std.proofs.lemmas.List.{nil_from_length}
 use Rattle.json_text.specs.Value.{IsCompact}
 use Rattle.json_text.specs.Tree.{depth}
 use Rattle.json_text.specs.Walk.{outside}
-use Rattle.scene_json.proofs.Behind.{length-behind_string}
-use Rattle.scene_json.proofs.Depths.{deepest, quote-step, deepest-depth}
+use Rattle.scene_json.proofs.Depths.{deepest, deepest-depth}
 use Rattle.scene_json.proofs.nesting.depth_of.Goals as goal
-
-pub loop-byte-smaller-in-34 : goal.loop-byte-smaller-in-34
-loop-byte-smaller-in-34 c =
-    omega (arith, c.in-Some.ensures.cases.1, ap length c.after_string-rest.ensures, length-behind_string false c.in-Some.others.now)
-
-pub loop-byte-preserved-in-34 : goal.loop-byte-preserved-in-34
-loop-byte-preserved-in-34 c =
-    let level = c.loop-byte.level in
-    let most = c.loop-byte.deepest in
-    let quoted : c.loop-byte.rest.now ≡ 34 ∷ c.in-Some.others.now = rw (sym c.in-34.is) c.in-Some.ensures.cases.0 in
-    record {
-      within = c.loop-byte.invariant.within;
-      seen = omega (arith, c.in-Some.ensures.cases.1, ap length c.after_string-rest.ensures, length-behind_string false c.in-Some.others.now);
-      same =
-          ap (deepest outside level most) c.after_string-rest.ensures
-          ∙ sym (quote-step level most c.in-Some.others.now c.loop-byte.invariant.within)
-          ∙ ap (deepest outside level most) (sym quoted)
-          ∙ c.loop-byte.invariant.same;
-    }
 
 -- the deepest place is as deep as each tree that spells the text
 depth-seen : (most limit : ℕ) (text : List ℕ) → most ≡ deepest outside 0 0 text → (v : IsCompact limit text) → most ≡ depth v.tree

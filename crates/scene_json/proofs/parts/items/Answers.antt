@@ -1,4 +1,4 @@
-use Rattle.std.proofs.Common.{drop, refl, sym, ap, subst, ◌∙◌}
+use Rattle.std.proofs.Common.{◌≡◌, ℕ, List, drop, refl, sym, ap, ◌∙◌, rules}
 use Rattle.std.specs.List.{AllByRecursion}
 use Rattle.json_text.specs.Compact.{array_text}
 use Rattle.json_text.specs.Value.{IsCompact}
@@ -13,31 +13,21 @@ returns-then-not-begins_with-clause-shape c =
     let starts = array-starts others in
     c.if-not-begins_with.ensures.no refl starts.0 (c.as_bytes-bytes.ensures.value ∙ e ∙ starts.1)
 
-pub returns-then-begins_with-clause-spelled : goal.returns-then-begins_with-clause-spelled
-returns-then-begins_with-clause-spelled c =
-    let closed = c.if-begins_with.ensures.yes refl in
+pub returns-then-begins_with : goal.returns-then-begins_with
+returns-then-begins_with c =
     let form = form-listed 128 c.args.value.now (Value-Form c.as_bytes-bytes.ensures.compact) (starts-same 91 c.as_bytes-bytes.ensures.value (c.if-not-begins_with.ensures.yes refl)) in
-    form.2 ∙ ap array_text (closed-empty form.0 _ closed.0 form.1 (c.as_bytes-bytes.ensures.value ∙ form.2) (sym c.split_at.ensures.back ∙ closed.1) ∙ sym c.new.ensures)
-
-pub returns-then-begins_with-clause-only : goal.returns-then-begins_with-clause-only
-returns-then-begins_with-clause-only c =
-    λ others compact e.
     let closed = c.if-begins_with.ensures.yes refl in
-    c.new.ensures ∙ sym (closed-empty others _ closed.0 compact (c.as_bytes-bytes.ensures.value ∙ e) (sym c.split_at.ensures.back ∙ closed.1))
+    let only = λ (others : List (List ℕ)) (compact : AllByRecursion (IsCompact 127) others) (e : c.args.value.now ≡ array_text others).
+    c.new.ensures ∙ sym (closed-empty others _ closed.0 compact (c.as_bytes-bytes.ensures.value ∙ e) (sym c.split_at.ensures.back ∙ closed.1)) in
+    record { spelled = form.2 ∙ ap array_text (sym (only form.0 form.1 form.2)); compact = search rules; only = only; shape = search rules }
 
 pub items_from-requires : goal.items_from-requires
 items_from-requires c =
     let form = form-listed 128 c.args.value.now (Value-Form c.as_bytes-bytes.ensures.compact) (starts-same 91 c.as_bytes-bytes.ensures.value (c.if-not-begins_with.ensures.yes refl)) in
     filled-some form.0 c.args.value.now form.1 form.2 (λ more e. c.if-begins_with.ensures.no refl more (c.split_at.ensures.back ∙ ap (drop 1) c.as_bytes-bytes.ensures.value ∙ e))
 
-pub returns-clause-spelled : goal.returns-clause-spelled
-returns-clause-spelled c =
+pub returns : goal.returns
+returns c =
     let form = form-listed 128 c.args.value.now (Value-Form c.as_bytes-bytes.ensures.compact) (starts-same 91 c.as_bytes-bytes.ensures.value (c.if-not-begins_with.ensures.yes refl)) in
-    let found = c.in_ok-items_from.ensures form.0 form.1 form.2 in
-    form.2 ∙ ap array_text (sym (c.from_vec.ensures ∙ found))
-
-pub returns-clause-compact : goal.returns-clause-compact
-returns-clause-compact c =
-    let form = form-listed 128 c.args.value.now (Value-Form c.as_bytes-bytes.ensures.compact) (starts-same 91 c.as_bytes-bytes.ensures.value (c.if-not-begins_with.ensures.yes refl)) in
-    let found = c.in_ok-items_from.ensures form.0 form.1 form.2 in
-    subst (AllByRecursion (IsCompact 127)) (sym (c.from_vec.ensures ∙ found)) form.1
+    let found = c.from_vec.ensures ∙ c.in_ok-items_from.ensures form.0 form.1 form.2 in
+    record { spelled = form.2 ∙ ap array_text (sym found); compact = rw found form.1; only = search rules; shape = search rules }

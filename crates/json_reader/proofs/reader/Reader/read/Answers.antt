@@ -1,12 +1,11 @@
-use Rattle.std.proofs.Common.{◌≡◌, ℕ, suc, List, drop, get_or, arith, inl, inr, sym, subst, ◌∙◌}
-use Rattle.std.proofs.lemmas.Option.{slice_get-get_or}
+use Rattle.std.proofs.Common.{◌≡◌, ◌≤◌, ℕ, suc, List, length, drop, get_or, drop-cons, arith, inl, inr, sym, subst, ◌∙◌}
 use Rattle.json_text.specs.Value.{Stands}
 use Rattle.json_reader.specs.Runs.{EndsBefore}
-use Rattle.json_reader.specs.Writing.{HasRead, HasEnded}
+use Rattle.json_reader.specs.Writing.{HasRead, EndsIn}
 use Rattle.json_reader.specs.declared.machine.Machine.{Machine}
 use Rattle.json_reader.specs.declared.writing.Writer.{Writer}
-use Rattle.json_reader.proofs.Ends.{drop_one}
-use Rattle.json_reader.proofs.Written.{has-ended, ended-found}
+use Rattle.json_reader.proofs.Written.{has-ended}
+use Rattle.json_reader.proofs.Feeds.{ended-found}
 use Rattle.json_reader.proofs.reader.Reader.read.Goals as goal
 use Rattle.json_reader.proofs.reader.Reader.read.Goals.{In-Ended, Then-is_over}
 
@@ -24,36 +23,39 @@ before : (c : In-Ended) → EndsBefore c.loop-next.machine.mode c.loop-next.mach
 before c =
     let next = c.loop-next.next in
     let bytes = c.args.bytes.now in
-    inr (get_or bytes next 0, drop (suc next) bytes, drop_one bytes next (get_or bytes next 0) (slice_get-get_or bytes next 0 c.loop-next-test.true), c.in-Ended.ensures.0)
+    inr (get_or bytes next 0, drop (suc next) bytes, drop-cons bytes next 0 c.loop-next-test.true, c.in-Ended.ensures.0)
+
+-- nothing more is waited for
+over : (c : Then-is_over) → EndsBefore c.loop-next.machine.mode c.loop-next.machine.brackets (drop c.loop-next.next c.args.bytes.now)
+over c = inl (sym c.is_over.ensures ∙ c.if-is_over.true)
+
+-- a value stands there, and what is given is it
+module _ (bytes : List ℕ) (at next : ℕ) (machine : Machine) (writer : Writer) (read : HasRead bytes at next machine writer)
+    (ends : EndsBefore machine.mode machine.brackets (drop next bytes)) where
+  found : (text : List ℕ) × Stands (drop at bytes) text (drop next bytes)
+  found = ended-found (drop at bytes) (drop next bytes) (has-ended bytes at next machine writer read ends)
+
+  given : (value : List ℕ) → ((at : ℕ) (machine : Machine) (text : List ℕ) → HasRead bytes at next machine writer → Stands (drop at bytes) text (drop next bytes) → text ≡ value)
+      → (at ≤ next) × (next ≤ length bytes) × EndsIn (drop at bytes) (drop next bytes) × Stands (drop at bytes) value (drop next bytes)
+  given value same =
+      (read.low, read.high, has-ended bytes at next machine writer read ends, subst (λ text. Stands (drop at bytes) text (drop next bytes)) (same at machine found.0 read found.1) found.1)
 
 pub value_of-requires : goal.value_of-requires
 value_of-requires c =
     let l = c.loop-next in
     let read = l.invariant.2 c.requires.0 c.requires.1 in
-    (c.requires.0, l.machine, read, ended-found c.args.bytes.now c.requires.0 l.next l.machine l.writer read (before (goal.at.value_of-requires c).In-Ended))
-
--- the value that is given is the one there
-given : (bytes : List ℕ) (at next : ℕ) (machine : Machine) (writer : Writer) (read : HasRead bytes at next machine writer) → EndsBefore machine.mode machine.brackets (drop next bytes)
-    → (value : List ℕ) → ((at : ℕ) (machine : Machine) (text : List ℕ) → HasRead bytes at next machine writer → Stands (drop at bytes) text (drop next bytes) → text ≡ value)
-    → HasEnded bytes at next × Stands (drop at bytes) value (drop next bytes)
-given bytes at next machine writer read ends value same =
-    let found = ended-found bytes at next machine writer read ends in
-    (has-ended bytes at next machine writer read ends, subst (λ text. Stands (drop at bytes) text (drop next bytes)) (same at machine found.0 read found.1) found.1)
+    (c.requires.0, l.machine, read, found c.args.bytes.now c.requires.0 l.next l.machine l.writer read (before (goal.at.value_of-requires c).In-Ended))
 
 pub returns-in-Ended : goal.returns-in-Ended
 returns-in-Ended c at read =
     let l = c.loop-next in
     given c.args.bytes.now at l.next l.machine l.writer (l.invariant.2 at read) (before (goal.at.returns-in-Ended c).In-Ended) c.in_ok-value_of-in-Ended.field-0 c.in_ok-value_of-in-Ended.ensures
 
--- nothing more is waited for
-over : (c : Then-is_over) → EndsBefore c.loop-next.machine.mode c.loop-next.machine.brackets (drop c.loop-next.next c.args.bytes.now)
-over c = inl (sym c.is_over.ensures ∙ c.if-is_over.true)
-
 pub value_of-requires-then-is_over : goal.value_of-requires-then-is_over
 value_of-requires-then-is_over c =
     let l = c.loop-next in
     let read = l.invariant.2 c.requires.0 c.requires.1 in
-    (c.requires.0, l.machine, read, ended-found c.args.bytes.now c.requires.0 l.next l.machine l.writer read (over (goal.at.value_of-requires-then-is_over c).Then-is_over))
+    (c.requires.0, l.machine, read, found c.args.bytes.now c.requires.0 l.next l.machine l.writer read (over (goal.at.value_of-requires-then-is_over c).Then-is_over))
 
 pub returns-then-is_over : goal.returns-then-is_over
 returns-then-is_over c at read =

@@ -1,4 +1,4 @@
-use Rattle.std.proofs.Common.{◌≡◌, ◌≤◌, ℕ, ◌+◌, ◌-◌, List, take, drop, length, sym, ap, ◌∙◌, arith, drop-drop, length-drop}
+use Rattle.std.proofs.Common.{◌≡◌, ◌≤◌, ℕ, ◌+◌, ◌-◌, List, take, drop, length, sym, ap, arith, drop-drop, length-drop}
 use Rattle.std.proofs.lemmas.List.{drop-take, take-take, length-take-le}
 use Rattle.json_text.proofs.stretch.Part.cut.Goals as goal
 
@@ -8,11 +8,7 @@ part_of : (start size low high : ℕ) (bytes : List ℕ) → low ≤ high → hi
 part_of start size low high bytes rises fits =
     let same : start + high - (start + low) ≡ high - low = omega arith in
     let split : size ≡ low + (size - low) = omega arith in
-    let inner : drop low (take size (drop start bytes)) ≡ take (size - low) (drop (start + low) bytes) =
-    ap (λ n. drop low (take n (drop start bytes))) split ∙ drop-take low (size - low) (drop start bytes)
-    ∙ ap (take (size - low)) (drop-drop low start bytes) in
-    ap (λ n. take n (drop (start + low) bytes)) same
-    ∙ sym (ap (take (high - low)) inner ∙ take-take (high - low) (size - low) (drop (start + low) bytes) (omega arith))
+    rw (same, split, drop-take, drop-drop) (sym (take-take (high - low) (size - low) (drop (start + low) bytes) (omega arith)))
 
 pub returns : goal.returns
 returns c =

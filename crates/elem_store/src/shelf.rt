@@ -1,0 +1,159 @@
+//! Elements as they came, with the first bytes of their ids beside them.
+
+ghost use Rattle.std.specs.Prelude.{◌≡◌, ◌+◌, ◌-◌, ◌<◌, ◌≤◌, [], ◌∷◌, ◌++◌, length, slice_get, slice_set, slice_index_or, option_copied, IfErr, OnOk, IsOk};
+ghost use Rattle.elem_store.specs.Fronts.{front_of};
+ghost use Rattle.elem_store.specs.Places as places;
+
+use board_io::bytes_order;
+use elem::Element;
+use json_text::Text;
+use std::alloc::{AllocError, Global};
+use std::cmp::Ordering;
+use std::marker::Model;
+
+/// The first bytes of an id, and zeros where it is shorter.
+pub(crate) type Front = [u8; 8];
+
+/// Elements as they came. Beside them stand the fronts of their ids, which are close together in memory, so that ids are
+/// mostly told apart without a look at an element.
+#[derive(Drop)]
+pub(crate) struct Shelf {
+    elements: Vec<Element>,
+    fronts: Vec<Front>,
+}
+
+impl Model for Shelf {
+    ghost use Rattle.std.specs.Prelude.{◌≡◌, map, min, vec_capacity};
+    ghost use Rattle.elem_store.specs.Fronts.{Shelved, front_at};
+
+    ghost Value = { Shelved };
+
+    ghost view = { λ s. record { items = s.elements.items; room = min (vec_capacity s.elements) (vec_capacity s.fronts) } };
+
+    ghost invariant = { λ s. s.fronts.items ≡ map front_at s.elements.items };
+}
+
+impl Shelf {
+    /// With no element.
+    pub(crate) fn new(alloc: Global) -> Shelf
+        ensures { result.items ≡ [] }
+    {
+        Shelf {
+            elements: Vec::new(alloc),
+            fronts: Vec::new(alloc),
+        }
+    }
+
+    /// How many elements there are.
+    pub(crate) fn len(&self) -> usize
+        ensures { result ≡ length self.now.items }
+    {
+        self.elements.len()
+    }
+
+    /// The element at this place.
+    pub(crate) fn get(&self, place: usize) -> Option<&Element>
+        ensures { option_copied result ≡ slice_get self.now.items place }
+    {
+        self.elements.get(place)
+    }
+
+    /// How the id of the element at a place compares with another id, whose front this is. All places that are searched
+    /// have an element.
+    pub(crate) fn order_at(&self, place: usize, id: &Text, front: Front) -> Ordering
+        requires { front ≡ front_of id.now }
+        ensures { result ≡ places.order_at self.now.items id.now place }
+    {
+        let Some(known) = front_at(&self.fronts, place) else {
+            return Ordering::Less;
+        };
+        match bytes_order(&known, &front) {
+            Ordering::Less => Ordering::Less,
+            Ordering::Greater => Ordering::Greater,
+            Ordering::Equal => self.whole_order_at(place, id),
+        }
+    }
+
+    /// The same, by the whole ids.
+    fn whole_order_at(&self, place: usize, id: &Text) -> Ordering
+        ensures { result ≡ places.order_at self.now.items id.now place }
+    {
+        match self.get(place) {
+            Some(e) => bytes_order(e.id.as_bytes(), id.as_bytes()),
+            None => Ordering::Less,
+        }
+    }
+
+    /// Makes room for this many more. The elements stay, also for want of memory.
+    pub(crate) fn reserve(&mut self, n: usize) -> Result<(), AllocError>
+        ensures room { OnOk result (length self.old.items + n ≤ self.new.room) }
+        ensures kept { self.old.room ≤ self.new.room }
+        ensures items { self.new.items ≡ self.old.items }
+    {
+        self.fronts.reserve(n)?;
+        self.elements.reserve(n)
+    }
+
+    /// Adds the element at the end, or hands it back for want of memory. It takes no memory where there is room.
+    pub(crate) fn push(&mut self, e: Element) -> Result<(), (Element, AllocError)>
+        ensures ok { OnOk result (self.new.items ≡ self.old.items ++ e ∷ []) }
+        ensures err { IfErr result (λ back. (self.new.items ≡ self.old.items) × (back.0 ≡ e)) }
+        ensures room { length self.old.items < self.old.room → IsOk result }
+        ensures kept { self.old.room ≤ self.new.room }
+    {
+        if let Err(error) = self.fronts.reserve(1) {
+            return Err((e, error));
+        }
+        let front = front_of(e.id.as_bytes());
+        if let Err(failed) = self.elements.push(e) {
+            return Err((failed.value, AllocError));
+        }
+        match self.fronts.push(front) {
+            Ok(()) => Ok(()),
+            Err(_) => unreachable!(),
+        }
+    }
+
+    /// Puts the element at this place, in place of the one there.
+    pub(crate) fn set(&mut self, place: usize, e: Element)
+        requires { place < length self.old.items }
+        ensures items { self.new.items ≡ slice_set self.old.items place e }
+        ensures room { self.new.room ≡ self.old.room }
+    {
+        self.fronts[place] = front_of(e.id.as_bytes());
+        self.elements[place] = e;
+    }
+}
+
+/// The front at a place.
+fn front_at(fronts: &Vec<Front>, place: usize) -> Option<Front>
+    ensures { result ≡ slice_get fronts.now.items place }
+{
+    fronts.get(place).copied()
+}
+
+/// The front of an id.
+pub(crate) fn front_of(id: &[u8]) -> Front
+    ensures { result ≡ front_of id.now }
+{
+    [
+        byte_at(id, 0),
+        byte_at(id, 1),
+        byte_at(id, 2),
+        byte_at(id, 3),
+        byte_at(id, 4),
+        byte_at(id, 5),
+        byte_at(id, 6),
+        byte_at(id, 7),
+    ]
+}
+
+/// The byte at an offset, or 0 behind the end.
+fn byte_at(id: &[u8], at: usize) -> u8
+    ensures { result ≡ slice_index_or id.now at 0 }
+{
+    match id.get(at) {
+        Some(byte) => *byte,
+        None => 0,
+    }
+}
