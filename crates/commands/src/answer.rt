@@ -21,7 +21,7 @@ use scene_file::{Head, Layout, Scene, elements_text, join, state_text};
 use session::{replay, report_text};
 use session_text::Session;
 use std::alloc::{AllocError, Global};
-use view::shown_elements;
+use view::{into_shown, shown_elements};
 
 /// The text that the command answers the input with, which is read to its end.
 pub(crate) fn answer<S: Source>(
@@ -73,13 +73,12 @@ fn restored_text(alloc: Global, scene: Scene, layout: Layout) -> Result<Bytes, A
     shown_text(alloc, &head, store, layout)
 }
 
-/// The text of the scene that a board shows, and a newline. The store is dropped as soon as what it shows is made.
+/// The text of the scene that a board shows, and a newline. What it shows is moved out of the store.
 fn shown_text(alloc: Global, head: &Head, store: Store, layout: Layout) -> Result<Bytes, AllocError>
     ensures { IfOk result (λ text. (scenes : Items Scene)
         → IsBoardOf scenes head.now store.elements → IsShownAs scenes layout text) }
 {
-    let shown = shown_elements(alloc, &store)?;
-    drop(store);
+    let shown = into_shown(alloc, store)?;
     ended(elements_text(alloc, head, shown.as_slice(), layout)?)
 }
 

@@ -1,5 +1,5 @@
 -- The value that is read, its members and the restored ones.
-use Rattle.std.proofs.Common.{◌≡◌, ◌≢◌, ℕ, List, [], ◌∷◌, Some, All, refl, sym, ap, ◌∙◌, bytes_eq, codes, lit≤}
+use Rattle.std.proofs.Common.{◌≡◌, ◌≢◌, ℕ, List, [], ◌∷◌, Option, Some, None, All, subst, refl, sym, ap, ◌∙◌, bytes_eq, codes, lit≤}
 use Rattle.std.specs.List.{AllByRecursion}
 use Rattle.std.proofs.lemmas.Bool.{both_ways}
 use Rattle.std.proofs.lemmas.List.Elements.{recursion_from_All}
@@ -9,7 +9,9 @@ use Rattle.json_text.specs.Parts.{AreMembers}
 use Rattle.json_text.specs.Value.{IsCompact}
 use Rattle.json_text.specs.declared.text.Member.{Member}
 use Rattle.scene_json.specs.Named.{value_at}
+use Rattle.scene_json.specs.Walks.{IsTakenApart}
 use Rattle.json_text.proofs.Collapsed.{bytes_eq-same}
+use Rattle.json_text.proofs.CompactLaws.{object-compact}
 use Rattle.scene_json.proofs.Pairs.{AreMembers-values}
 use Rattle.restore_table.specs.Restored.{AreRestored, old_name}
 use Rattle.restore_table.proofs.RestoredLaws.{unknown-stays}
@@ -21,6 +23,15 @@ use Rattle.elem_read.specs.Reading.{IsSelection, IsNoSelection, IsElementIn, Has
 use Rattle.elem_read.specs.declared.fault.ElemFault.{ElemFault}
 use Rattle.elem_read.specs.declared.fault.ElemFault.TheVariants.{NotObject, Depth, Id, Kind, Version, Nonce, Updated, Index, Deleted, Groups, Frame, Bound, Container, Binding, File}
 use Rattle.elem_read.proofs.Keeping.{AllFound, found-has, object-nests}
+
+-- what a value is that was taken apart
+pub taken-apart : (value : List ℕ) (taken : Option (List Member)) → ((ms : List Member) → taken ≡ Some ms → AreMembers 127 (pairs ms) × (value ≡ object_text (pairs ms)))
+    → (taken ≡ None → (members : List Pair) → value ≢ object_text members) → IsTakenApart value taken
+taken-apart value None some none = none refl
+taken-apart value (Some ms) some none = some ms refl
+
+pub taken-object : (value : List ℕ) (taken : Option (List Member)) (ms : List Member) → IsTakenApart value taken → taken ≡ Some ms → IsObject value (pairs ms)
+taken-object value taken ms is e = let some = subst (IsTakenApart value) e is in record { are_members = some.0; spelled = some.1 }
 
 pub is-object : (value : List ℕ) (ms : List Pair) → value ≡ object_text ms → AreMembers 127 ms → IsObject value ms
 is-object value ms spelled are = record { are_members = are; spelled = spelled }
@@ -38,14 +49,19 @@ no_selection value ms object kind = record { object = object; kind = kind }
 pub given-nest : (value : List ℕ) (ms : List Member) → IsObject value (pairs ms) → IsCompact 120 value → All (λ (m : Member). IsCompact 119 m.value) ms
 given-nest value ms object shallow = AreMembers-values 119 ms (object-nests 120 value (pairs ms) (lit≤ tt) (lit≤ tt) shallow object)
 
+values-found : (limit : ℕ) (ms : List Member) → AllByRecursion (λ (m : Member). IsCompact limit m.value) ms → AllByRecursion (λ (m : Pair). IsCompact limit m.1) (pairs ms)
+values-found limit [] is = tt
+values-found limit (m ∷ ms) is = (is.0, values-found limit ms is.1)
+
+pub nest-given : (value : List ℕ) (ms : List Member) → IsObject value (pairs ms) → All (λ (m : Member). IsCompact 119 m.value) ms → IsCompact 120 value
+nest-given value ms object each =
+    let are = object.are_members in
+    rw object.spelled (object-compact 119 (pairs ms) (record { named = are.named; valued = values-found 119 ms (recursion_from_All (λ (m : Member). IsCompact 119 m.value) ms each); distinct = are.distinct }))
+
 -- restoring keeps the type
 pub kind-stays : (ms rs : List Pair) → AreRestored ms rs → value_at (codes "type") ms ≢ Some selection_text → value_at (codes "type") rs ≢ Some selection_text
 kind-stays ms rs are kept there =
     kept (sym (unknown-stays ms rs (codes "type") are (λ e. both_ways (bytes_eq (codes "type") old_name) refl (ap (λ n. bytes_eq n old_name) e ∙ bytes_eq-same old_name)) refl) ∙ there)
-
-values-found : (limit : ℕ) (ms : List Member) → AllByRecursion (λ (m : Member). IsCompact limit m.value) ms → AllByRecursion (λ (m : Pair). IsCompact limit m.1) (pairs ms)
-values-found limit [] is = tt
-values-found limit (m ∷ ms) is = (is.0, values-found limit ms is.1)
 
 pub members-found : (ms : List Member) → All (λ (m : Member). IsCompact 119 m.value) ms → AllFound (λ name value. IsCompact 119 value) (find_in (pairs ms))
 members-found ms is = found-has (λ name value. IsCompact 119 value) (pairs ms) (values-found 119 ms (recursion_from_All (λ (m : Member). IsCompact 119 m.value) ms is))

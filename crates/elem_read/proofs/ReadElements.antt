@@ -1,10 +1,11 @@
 -- Values that are read one after the other.
-use Rattle.std.proofs.Common.{◌≡◌, ◌⊎◌, inl, inr, ℕ, zero, suc, ◌+◌, ◌<◌, List, [], ◌∷◌, ◌++◌, All, lit≤, length, take, map, get_or, refl, sym, ap, ap₂, subst, ◌∙◌, arith}
+use Rattle.std.proofs.Common.{◌≡◌, ◌⊎◌, inl, inr, ℕ, zero, suc, ◌+◌, ◌<◌, List, [], ◌∷◌, ◌++◌, All, lit≤, length, take, take_all, drop, map, get_or, add-one, drop-cons, length-drop, refl, sym, ap, ap₂, subst, ◌∙◌, arith}
 use Rattle.std.specs.List.{AllByRecursion}
 use Rattle.std.proofs.lemmas.List.{take_more}
 use Rattle.std.proofs.lemmas.List.Elements.{recursion_from_All, All-from_recursion}
 use Rattle.json_text.specs.Value.{IsCompact}
 use Rattle.json_text.proofs.CompactLaws.{Value-deeper}
+use Rattle.scene_json.specs.Walks.{Walk, AreLeft}
 use Rattle.elem.specs.ElementValue.{ElementValue}
 use Rattle.elem.specs.Texts.{element_text}
 use Rattle.elem_read.specs.Elements.{AreRead, IsFirstFaulty}
@@ -52,6 +53,39 @@ faulty-at (v ∷ values) (suc i) value elements fault within at (inl (dropped, r
     (inl dropped, faulty-at values i value elements fault (omega arith) at read faulty)
 faulty-at (v ∷ values) (suc i) value elements fault within at (inr (e, others, all, here, read)) faulty =
     (inr (e, here), faulty-at values i value others fault (omega arith) at read faulty)
+
+-- ---- an array that is read item by item
+-- So many of the values are read, and these are left.
+pub record IsReadTo (values : List (List ℕ)) (walk : Walk) (place : ℕ) (elements : List ElementValue) : Type 0 where
+  pub read : AreRead (take place values) elements
+  pub left : AreLeft walk (drop place values)
+
+here : {A : Type 0} (xs : List A) (i : ℕ) (x : A) (others : List A) → drop i xs ≡ x ∷ others → (i < length xs) × (x ≡ get_or xs i x) × (drop (i + 1) xs ≡ others)
+here xs i x others e =
+    let within : i < length xs = omega (arith, ap length e, length-drop i xs) in
+    let split : get_or xs i x ∷ drop (i + 1) xs ≡ x ∷ others = rw add-one (sym (drop-cons xs i x within)) ∙ e in
+    (within, cc, cc)
+
+module _ (values : List (List ℕ)) (walk new : Walk) (place : ℕ) (elements : List ElementValue) (item : List ℕ) (others : List (List ℕ))
+    (r : IsReadTo values walk place elements) (next : drop place values ≡ item ∷ others) (left : AreLeft new others) where
+  pub IsReadTo-more : (more : List ElementValue) (e : ElementValue) → IsElementIn item e → more ≡ elements ++ e ∷ [] → IsReadTo values new (place + 1) more
+  IsReadTo-more more e is pushed =
+      let h = here values place item others next in
+      record { read = read-more values place item elements more e h.0 h.1 r.read is pushed; left = rw h.2 left }
+
+  pub IsReadTo-dropped : IsSelection item → IsReadTo values new (place + 1) elements
+  IsReadTo-dropped is =
+      let h = here values place item others next in
+      record { read = dropped-more values place item elements h.0 h.1 r.read is; left = rw h.2 left }
+
+  pub IsReadTo-faulty : (fault : ElemFault) → IsFaultIn item fault → IsFirstFaulty values place fault
+  IsReadTo-faulty fault is =
+      let h = here values place item others next in
+      faulty-at values place item elements fault h.0 h.1 r.read is
+
+pub IsReadTo-all : (values : List (List ℕ)) (walk : Walk) (place : ℕ) (elements : List ElementValue) → IsReadTo values walk place elements → drop place values ≡ [] → AreRead values elements
+IsReadTo-all values walk place elements r none =
+    subst (λ vs. AreRead vs elements) (take_all place values (omega (arith, ap length none, length-drop place values))) r.read
 
 -- ---- what is read is whole, and what is whole is read
 whole-each : (values : List (List ℕ)) (elements : List ElementValue) → AreRead values elements → AllByRecursion IsWholeElement elements

@@ -11,4 +11,4 @@ mod listing;
 mod reading;
 
 pub use fault::{ElemFault, FaultyElement};
-pub use reading::{read_element, read_elements};
+pub use reading::{read_array, read_element, read_elements};

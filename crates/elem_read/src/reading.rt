@@ -1,6 +1,10 @@
 //! Elements, read from values.
 
-ghost use Rattle.std.specs.Prelude.{◌≡◌, MatchOption, IfOk, IfSome, Err, All};
+ghost use Rattle.std.specs.Prelude.{◌≡◌, ◌↔◌, ℕ, List as Items, IsTrue, MatchOption, IfOk, IfSome, Ok, Err, All};
+ghost use Rattle.json_text.specs.Members.{pairs};
+ghost use Rattle.json_text.specs.Value.{IsCompact};
+ghost use Rattle.scene_json.specs.Walks.{AreLeft, IsTakenApart};
+ghost use Rattle.elem.specs.Forms.{IsObject};
 ghost use Rattle.elem_read.specs.Elements.{AreRead, IsFirstFaulty};
 ghost use Rattle.elem_read.specs.Reading.{IsSelection, IsElementIn, IsFaultIn, IsWholeElement};
 ghost use Rattle.elem_read.specs.declared.fault.ElemFault.{ElemFault};
@@ -10,9 +14,9 @@ use crate::element::element_of;
 use crate::fault::{ElemFault, FaultyElement};
 use board_io::{List, Stop};
 use elem::Element;
-use json_text::Raw;
+use json_text::{Member, Raw};
 use restore_table::into_restored;
-use scene_json::{has_value, members, nests_at_most, shaped};
+use scene_json::{Objects, has_value, members, nests_at_most, shaped};
 use std::alloc::Global;
 
 /// How many brackets may be open at once in an element, its own counted.
@@ -25,18 +29,45 @@ pub fn read_element(alloc: Global, value: &Raw) -> Result<Option<Element>, Stop<
     ensures fault { (fault : ElemFault) → result ≡ Err (Stop.Fault fault) → IsFaultIn value.now fault }
     ensures whole { IfOk result (λ found. IfSome found IsWholeElement) }
 {
-    let Some(given) = shaped(members(alloc, value))? else {
+    let taken = shaped(members(alloc, value))?;
+    read_members(alloc, taken)
+}
+
+/// The element that a value with these members is; without members it is no object.
+fn read_members(
+    alloc: Global,
+    taken: Option<List<Member>>,
+) -> Result<Option<Element>, Stop<ElemFault>>
+    requires { (value : Items ℕ) × IsTakenApart value taken }
+    ensures read { IfOk result (λ found. (value : Items ℕ) → IsTakenApart value taken → MatchOption found (IsSelection value) (IsElementIn value)) }
+    ensures fault { (fault : ElemFault) → result ≡ Err (Stop.Fault fault) → (value : Items ℕ) → IsTakenApart value taken → IsFaultIn value fault }
+    ensures whole { IfOk result (λ found. IfSome found IsWholeElement) }
+{
+    let Some(given) = taken else {
         return Err(Stop::Fault(ElemFault::NotObject));
     };
     if has_value(&given, "type", "\"selection\"") {
         return Ok(None);
     }
-    if !nests_at_most(value, DEEPEST) {
+    if !is_shallow(&given) {
         return Err(Stop::Fault(ElemFault::Depth));
     }
     let restored = into_restored(alloc, given)?;
     let element = element_of(alloc, restored)?;
     Ok(Some(element))
+}
+
+/// Whether an element with these members nests at most as deep as it may. Most values aren't looked through, since they
+/// open no bracket.
+fn is_shallow(members: &List<Member>) -> bool
+    ensures { (value : Items ℕ) → IsObject value (pairs members.now) → IsTrue result ↔ IsCompact 120 value }
+{
+    for member in members.as_slice() {
+        if !nests_at_most(&member.value, DEEPEST - 1) {
+            return false;
+        }
+    }
+    true
 }
 
 /// The elements that the values are, in their order, without what is dropped; or the first faulty one.
@@ -59,13 +90,46 @@ pub fn read_elements(
     Ok(List::from_vec(elements))
 }
 
+/// The elements that the items left of an array are, in their order, without what is dropped; or the first faulty one. Each
+/// item is taken apart as it comes.
+pub fn read_array(alloc: Global, objects: Objects<'_>) -> Result<List<Element>, Stop<FaultyElement>>
+    ensures read { IfOk result (λ elements. (values : Items (Items ℕ)) → AreLeft objects.entry values → AreRead values elements) }
+    ensures fault { (faulty : FaultyElement) → result ≡ Err (Stop.Fault faulty)
+        → (values : Items (Items ℕ)) → AreLeft objects.entry values → IsFirstFaulty values faulty.place faulty.fault }
+    ensures whole { IfOk result (All IsWholeElement) }
+{
+    let mut left = objects;
+    let mut elements = Vec::new(alloc);
+    let mut place = 0;
+    while let Some(taken) = left.next(alloc)? {
+        let read = at_place(read_members(alloc, taken), place)?;
+        if let Some(element) = read {
+            elements.push(element)?;
+        }
+        place += 1;
+    }
+    Ok(List::from_vec(elements))
+}
+
 /// The element that the value at this place is, if it isn't dropped.
 fn read_at(alloc: Global, value: &Raw, place: usize) -> Result<Option<Element>, Stop<FaultyElement>>
     ensures read { IfOk result (λ found. MatchOption found (IsSelection value.now) (IsElementIn value.now)) }
     ensures fault { (faulty : FaultyElement) → result ≡ Err (Stop.Fault faulty)
         → (faulty.place ≡ place) × IsFaultIn value.now faulty.fault }
 {
-    match read_element(alloc, value) {
+    at_place(read_element(alloc, value), place)
+}
+
+/// What was read at this place.
+fn at_place(
+    read: Result<Option<Element>, Stop<ElemFault>>,
+    place: usize,
+) -> Result<Option<Element>, Stop<FaultyElement>>
+    ensures read { IfOk result (λ found. read ≡ Ok found) }
+    ensures fault { (faulty : FaultyElement) → result ≡ Err (Stop.Fault faulty)
+        → (faulty.place ≡ place) × (read ≡ Err (Stop.Fault faulty.fault)) }
+{
+    match read {
         Ok(found) => Ok(found),
         Err(Stop::Fault(fault)) => {
             let place = place as u64;

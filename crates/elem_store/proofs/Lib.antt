@@ -7,6 +7,7 @@ pub mod StoreLaws
 pub mod SortedUpdates
 pub mod Edits
 pub mod Placed
+mod MovedOut
 pub mod Stored
 pub mod Woven
 pub mod Fronts

@@ -225,7 +225,7 @@ All-at P elements places h all = λ i d l.
     rw (read-at elements places h i 0 d m) (all (get_or places i 0) d (h i 0 m))
 
 -- no place comes twice
-places_differ : (elements : List ElementValue) (places : List ℕ) (o : AreInOrder elements places) (i k n : ℕ) → i < length places → k < length places → k ≢ i → get_or places k n ≢ get_or places i n
+pub places_differ : (elements : List ElementValue) (places : List ℕ) (o : AreInOrder elements places) (i k n : ℕ) → i < length places → k < length places → k ≢ i → get_or places k n ≢ get_or places i n
 places_differ elements places o i k n l m ne same =
     let among = elements_at elements places in
     let count = length-at elements places o.within in

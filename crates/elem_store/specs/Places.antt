@@ -1,7 +1,7 @@
 -- How a store keeps its elements: as they came, beside their places in the order of their ids. This project's own.
-use Rattle.std.specs.Prelude.{◌≡◌, ℕ, ◌-◌, min, ◌<◌, ◌≤◌, List, true, All, length, take, drop, filter_map, slice_get, IsSomeAnd}
+use Rattle.std.specs.Prelude.{◌≡◌, ℕ, ◌-◌, min, ◌<◌, ◌≤◌, List, true, Option, None, All, length, take, drop, filter_map, slice_get, slice_index_or, slice_set, IsSomeAnd}
 use Rattle.std.specs.Cmp.Lexicographic.{slice_cmp}
-use Rattle.std.specs.Option.{option_map_or}
+use Rattle.std.specs.Option.{option_and_then, option_map_or}
 use Rattle.std.specs.Ordering.{nat_cmp}
 use Rattle.std.specs.declared.cmp.Ordering.{Ordering}
 use Rattle.std.specs.declared.cmp.Ordering.TheVariants.{Less}
@@ -43,3 +43,10 @@ pub record IsGapFor (elements : List ElementValue) (id : List ℕ) (i : ℕ) : T
   pub in_range : i ≤ length elements
   pub less_before : All (λ (e : ElementValue). bytes_less e.id id ≡ true) (take i elements)
   pub greater_after : All (λ (e : ElementValue). bytes_less id e.id ≡ true) (drop i elements)
+
+-- what is in the slot at a place, if there is one, and the slots where nothing is in it
+abbrev pub slot_at : List (Option ElementValue) → Option ℕ → Option ElementValue
+slot_at slots place = option_and_then (λ place. slice_index_or slots place None) place
+
+abbrev pub with_empty_at : List (Option ElementValue) → Option ℕ → List (Option ElementValue)
+with_empty_at slots place = option_map_or (λ place. slice_set slots place None) place slots

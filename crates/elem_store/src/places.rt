@@ -1,15 +1,15 @@
 //! Elements as they came, and their places in the order of their ids.
 
-ghost use Rattle.std.specs.Prelude.{◌≡◌, ◌+◌, ◌<◌, ◌≤◌, [], ◌∷◌, ◌++◌, length, insert, slice_index, slice_index_or, slice_set, if◌then◌else◌, IfOk, IfErr, OnOk, IsOk};
+ghost use Rattle.std.specs.Prelude.{◌≡◌, ◌+◌, ◌<◌, ◌≤◌, ◌≢◌, [], ◌∷◌, ◌++◌, length, insert, slice_index, slice_index_or, slice_set, if◌then◌else◌, filter_map, slice_get, AllPairs, IfOk, IfErr, OnOk, IsOk};
 ghost use Rattle.elem.specs.Order as order;
 ghost use Rattle.elem_store.specs.Fronts.{front_of};
-ghost use Rattle.elem_store.specs.Places.{elements_at, order_at, AreInOrder, IsAt, IsGapFor};
+ghost use Rattle.elem_store.specs.Places.{elements_at, order_at, slot_at, with_empty_at, AreInOrder, IsAt, IsGapFor};
 
 use crate::indexed::Places;
 use crate::shelf::{Front, Shelf, front_of};
 use elem::{Element, beats};
 use json_text::Text;
-use std::alloc::AllocError;
+use std::alloc::{AllocError, Global};
 use std::cmp::Ordering;
 
 /// The index of the place at which the element of this id is, or the index that its place would have.
@@ -79,4 +79,34 @@ pub(crate) fn add(
         Ok(()) => Ok(()),
         Err(_) => unreachable!(),
     }
+}
+
+/// The elements at the places of these indices, in the order of the indices, moved out. No index comes twice.
+pub(crate) fn moved_out(
+    alloc: Global,
+    elements: Shelf,
+    places: &Places,
+    indices: &[usize],
+) -> Result<Vec<Element>, AllocError>
+    requires in_order { AreInOrder elements.items places.now.places }
+    requires distinct { AllPairs (λ i j. i ≢ j) indices.now }
+    ensures { IfOk result (λ moved. moved.items ≡ filter_map (slice_get (elements_at elements.items places.now.places)) indices.now) }
+{
+    let mut slots = elements.into_slots(alloc)?;
+    let mut moved = Vec::with_capacity(alloc, indices.len())?;
+    for i in indices {
+        if let Some(e) = take_at(&mut slots, places, *i) {
+            moved.push(e)?;
+        }
+    }
+    Ok(moved)
+}
+
+/// Takes out what is in the slot at the place of this index.
+fn take_at(slots: &mut Vec<Option<Element>>, places: &Places, i: usize) -> Option<Element>
+    ensures taken { result ≡ slot_at slots.old.items (slice_get places.now.places i) }
+    ensures left { slots.new.items ≡ with_empty_at slots.old.items (slice_get places.now.places i) }
+{
+    let place = places.get(i)?;
+    slots.get_mut(place)?.take()
 }

@@ -1,13 +1,13 @@
 //! A store.
 
-ghost use Rattle.std.specs.Prelude.{◌≡◌, ◌+◌, ◌<◌, ◌≤◌, List as Items, [], ◌∷◌, ◌++◌, true, length, slice_get, option_copied, IsSome, IsOk, IfOk, IfErr, OnOk, Ok, false};
+ghost use Rattle.std.specs.Prelude.{◌≡◌, ◌+◌, ◌<◌, ◌≤◌, ◌≢◌, List as Items, [], ◌∷◌, ◌++◌, true, length, filter_map, slice_get, option_copied, AllPairs, IsSome, IsOk, IfOk, IfErr, OnOk, Ok, false};
 ghost use Rattle.frac_keys.specs.Rising.{are_rising};
 ghost use Rattle.elem.specs.ElementValue.{ElementValue};
 ghost use Rattle.elem.specs.Said.{AreElements};
 ghost use Rattle.elem_store.specs.Updates.{AreStored, HasTaken, element_of, ids_of, is_taken};
 
 use crate::indexed::Places;
-use crate::places::{add, find_place, replace_beaten};
+use crate::places::{add, find_place, moved_out, replace_beaten};
 use crate::shelf::Shelf;
 use crate::telling::tell;
 use board_io::List;
@@ -167,5 +167,19 @@ impl Store {
         ensures { result ≡ length self.now.elements }
     {
         self.places.len()
+    }
+
+    /// The stored elements at these indices, in the order of the indices, moved out; the others are dropped. No index
+    /// comes twice. Fails only for want of memory.
+    pub fn into_elements_at(
+        self,
+        alloc: Global,
+        indices: &[usize],
+    ) -> Result<Vec<Element>, AllocError>
+        requires { AllPairs (λ i j. i ≢ j) indices.now }
+        ensures { IfOk result (λ moved. moved.items ≡ filter_map (slice_get self.elements) indices.now) }
+    {
+        let Store { elements, places } = self;
+        moved_out(alloc, elements, &places, indices)
     }
 }

@@ -1,45 +1,26 @@
 -- Where a feed stands in a stream, and what the machine's run over a piece says there.
-use Rattle.std.proofs.Common.{◌≡◌, ℕ, suc, ◌+◌, ◌-◌, ◌<◌, ◌≤◌, List, [], ◌∷◌, ◌++◌, length, take, drop, get_or, true, false, Some, None, refl, sym, ap, ap₂, subst, subst₂, ◌∙◌, inl, inr, arith, append_assoc, append-nil, length-append, length-drop, take-append-drop, get_or-drop}
-use Rattle.std.specs.Prelude.{slice_get}
+use Rattle.std.proofs.Common.{◌≡◌, ◌⊎◌, ℕ, suc, ◌+◌, ◌-◌, ◌<◌, ◌≤◌, List, [], ◌∷◌, ◌++◌, length, take, drop, get_or, true, false, Some, None, refl, sym, ap, subst, subst₂, ◌∙◌, inl, inr, arith, append_assoc, append-nil, length-append, length-drop}
 use Rattle.std.specs.List.{prefix_len}
 use Rattle.std.proofs.lemmas.Bool.{cases_Bool, and_parts, false≢true, false_from_ne_true}
-use Rattle.std.proofs.lemmas.List.{append_cancel_right, take_all, drop-append-le, drop-drop}
+use Rattle.std.proofs.lemmas.List.{take_all, drop-append-le, drop-drop, append_cancel_right}
 use Rattle.std.proofs.lemmas.List.Sums.{prefix_len-le-length}
-use Rattle.std.proofs.lemmas.Grind.{common_steps}
-use Rattle.std.proofs.lemmas.Option.{slice_get-get_or}
-use Rattle.std.proofs.Math.Seq.{take-append_seam, drop-append_seam, drop-append-add, get_or-append_seam}
+use Rattle.std.proofs.Math.Seq.{drop-append-add}
 use Rattle.json_text.specs.Characters.{is_space, is_blank}
 use Rattle.json_text.specs.Value.{Stands}
 use Rattle.json_reader.specs.Faults.{IsFirstFault}
 use Rattle.json_reader.specs.Feeding.{behind_space, Feeding, IsAt, IsUnderWay}
-use Rattle.json_reader.specs.Runs.{run, start, is_over, EndsBefore}
-use Rattle.json_reader.specs.Writing.{stretch, EndsIn, IsRefusedIn}
-use Rattle.json_reader.specs.declared.fault.JsonFault.{JsonFault}
-use Rattle.json_reader.specs.declared.brackets.Bracket.{Bracket}
-use Rattle.json_reader.specs.declared.number.Part.TheVariants.{Zero, Whole, Fraction, Exponent}
-use Rattle.json_reader.specs.declared.sequence.Tail.TheVariants.{One}
-use Rattle.json_reader.specs.declared.machine.Letters.TheVariants.{Ull}
-use Rattle.json_reader.specs.declared.machine.Place.TheVariants.{Sequence}
-use Rattle.json_reader.specs.declared.machine.Mode.{Mode}
-use Rattle.json_reader.specs.declared.machine.Mode.TheVariants.{After, Fresh, Number, Quoted, Word}
-use Rattle.json_reader.specs.declared.machine.Mode.TheVariants as mode
-use Rattle.json_reader.specs.declared.fault.JsonFault.TheVariants.{Syntax}
-use Rattle.json_reader.specs.Machine.{state, ended, refused, top, step, fault_of}
+use Rattle.json_reader.specs.Runs.{go, run, start, is_over, EndsBefore, IsKept}
+use Rattle.json_reader.specs.Writing.{stretch, IsRead, Came, EndsIn, IsRefusedIn, HasFed}
+use Rattle.json_reader.specs.declared.reader.Reader.{Reader}
+use Rattle.json_reader.specs.declared.reader.Taken.TheVariants as taken
+use Rattle.json_reader.specs.Machine.{Machine, Outcome, JsonFault, Bracket, Mode, After, Fresh, Number, Syntax, state, ended, refused, top, step, fault_of}
 use Rattle.json_text.proofs.Reading.{Stands-once, tree-Head}
-use Rattle.json_reader.proofs.Machines.{Reaches}
-use Rattle.json_reader.proofs.ValueRuns.{over, ended_stands, done_stands}
-use Rattle.json_reader.proofs.Steps.{onward}
-use Rattle.json_reader.proofs.ValueRuns.{runs_begins, runs_onward, stands_start}
-use Rattle.json_reader.proofs.OffsetRuns.{refused_fault, undone_fault}
+use Rattle.json_reader.proofs.ValueRuns.{ended_stands, done_stands, Stands-cut, ended_stays, refused_stays, runs_begins, value_runs}
+use Rattle.json_reader.proofs.TreeRuns.{IsDone, blank_over}
+use Rattle.json_text.specs.Tree.{IsNumber}
+use Rattle.json_reader.proofs.Outcomes.{parted_one, refused_fault, undone_fault}
 
 -- ---- white space before a value
-run-blank : (blank bytes : List ℕ) → is_blank blank ≡ true → run 128 start (blank ++ bytes) ≡ run 128 start bytes
-run-blank [] bytes space = refl
-run-blank (b ∷ blank) bytes space =
-    let both = and_parts (is_space b) (is_blank blank) space in
-    let stays : step 128 mode.Value [] b ≡ start = rw both.0 refl in
-    ap (λ o. run 128 o (blank ++ bytes)) stays ∙ run-blank blank bytes both.1
-
 spaced : (bytes : List ℕ) → (blank : List ℕ) × (is_blank blank ≡ true) × (bytes ≡ blank ++ behind_space bytes)
 spaced [] = ([], refl, refl)
 spaced (b ∷ bytes) = elim (cases_Bool (is_space b)) [
@@ -48,7 +29,7 @@ spaced (b ∷ bytes) = elim (cases_Bool (is_space b)) [
 ]
 
 run-behind : (bytes : List ℕ) → run 128 start bytes ≡ run 128 start (behind_space bytes)
-run-behind bytes = let s = spaced bytes in ap (run 128 start) s.2 ∙ run-blank s.0 (behind_space bytes) s.1
+run-behind bytes = let s = spaced bytes in ap (run 128 start) s.2 ∙ blank_over 128 Mode.Value [] (λ b s. rw s refl) s.0 (behind_space bytes) s.1
 
 pub behind-append : (xs ys : List ℕ) → behind_space (xs ++ ys) ≡ behind_space (behind_space xs ++ ys)
 behind-append [] ys = refl
@@ -98,16 +79,6 @@ Stands-spaced (b ∷ bytes) more text rest s = elim (cases_Bool (is_space b)) [
 ]
 
 -- ---- a value and what follows it
-pub Stands-cut : (xs text rest : List ℕ) → Stands (xs ++ rest) text rest → Stands xs text []
-Stands-cut xs text rest s = record {
-  blank = s.blank;
-  value = s.value;
-  parts = append_cancel_right xs (s.blank ++ s.value) rest (s.parts ∙ sym (append_assoc s.blank s.value rest)) ∙ ap (λ x. s.blank ++ x) (sym (append-nil s.value));
-  space = s.space;
-  reads = s.reads;
-  ends = tt;
-}
-
 -- a value takes some bytes
 pub used-some : (rest piece : List ℕ) (n : ℕ) (text : List ℕ) → Stands (behind_space (rest ++ piece)) text (drop n piece) → 0 < length rest + n
 used-some rest piece n text s =
@@ -117,38 +88,19 @@ used-some rest piece n text s =
     omega (arith, ap length (behind-drop (rest ++ piece)), length-drop (prefix_len is_space (rest ++ piece)) (rest ++ piece), length-append rest piece) in
     omega (arith, some, all, ap length s.parts, length-append s.blank (s.value ++ drop n piece), length-append s.value (drop n piece), length-drop n piece)
 
-pub over_ends : (m : Mode) (st : List Bracket) → is_over m st ≡ true → (b : ℕ) → step 128 m st b ≡ ended b
-over_ends After [] e b = refl
-over_ends Fresh [] e b = refl
-over_ends m st e b = absurd (false≢true e)
-
-pub ended_before : (m : Mode) (st : List Bracket) (left : List ℕ) → EndsBefore m st left → (b : ℕ) (more : List ℕ) → left ≡ b ∷ more → step 128 m st b ≡ ended b
-ended_before m st left (inl over) b more is = over_ends m st over b
-ended_before m st left (inr (other, others, there, e)) b more is = let same : other ≡ b = cc in subst (λ x. step 128 m st x ≡ ended x) same e
+pub over_before : (m : Mode) (st : List Bracket) → is_over m st ≡ true → (left : List ℕ) → EndsBefore m st left
+over_before m st over [] = over
+over_before After [] over (b ∷ left) = refl
+over_before Fresh [] over (b ∷ left) = refl
+over_before m st over (b ∷ left) = absurd (false≢true over)
 
 ends-more : (m : Mode) (st : List Bracket) (left more : List ℕ) → EndsBefore m st left → EndsBefore m st (left ++ more)
-ends-more m st left more (inl over) = inl over
-ends-more m st left more (inr (b, others, is, e)) = inr (b, others ++ more, ap (λ xs. xs ++ more) is, e)
+ends-more m st [] more over = over_before m st over more
+ends-more m st (b ∷ left) more ends = ends
 
-module _ (xs : List ℕ) (m : Mode) (st : List Bracket) (is : run 128 start xs ≡ state m st) where
-  ended_at : (b : ℕ) (more : List ℕ) → step 128 m st b ≡ ended b → (text : List ℕ) × Stands (xs ++ b ∷ more) text (b ∷ more)
-  ended_at b more e =
-      let bytes : List ℕ = xs ++ b ∷ more in
-      let high : length xs < length bytes = omega (arith, length-append xs (b ∷ more)) in
-      let got : slice_get bytes (length xs) ≡ Some b = slice_get-get_or bytes (length xs) 0 high ∙ ap Some (get_or-append_seam xs b more 0) in
-      let s = ended_stands bytes (length xs) m st (ap (run 128 start) (take-append_seam xs (b ∷ more)) ∙ is) b got e in
-      (s.0, subst (Stands bytes s.0) (drop-append_seam xs (b ∷ more)) s.1)
-
-  ends_stands : (left : List ℕ) → EndsBefore m st left → (text : List ℕ) × Stands (xs ++ left) text left
-  ends_stands [] (inl over) =
-      let found = done_stands xs (length xs) m st (ap (run 128 start) (take_all (length xs) xs (omega arith)) ∙ is) (omega arith) (over_ends m st over 32) in
-      (found.0, subst (λ bytes. Stands bytes found.0 []) (sym (append-nil xs)) found.1)
-  ends_stands [] (inr (b, more, none, e)) = absurd (cc)
-  ends_stands (b ∷ left) ends = ended_at b left (ended_before m st (b ∷ left) ends b left refl)
-
--- a stretch and what follows it
-pub parted : (bytes : List ℕ) (at n : ℕ) → at ≤ n → drop at bytes ≡ stretch bytes at n ++ drop n bytes
-parted bytes at n low = grind (arith, common_steps, take-append-drop (n - at) (drop at bytes), drop-drop (n - at) at bytes)
+ends_stands : (front : List ℕ) (m : Mode) (st : List Bracket) → run 128 start front ≡ state m st → (left : List ℕ) → EndsBefore m st left → (text : List ℕ) × Stands (front ++ left) text left
+ends_stands front m st is [] over = let found = done_stands front m st is (over_before m st over (32 ∷ [])) in (found.0, rw append-nil found.1)
+ends_stands front m st is (b ∷ left) ends = ended_stands front m st is b left ends
 
 -- where it has ended a value stands, and does so whatever follows
 module _ (bytes left : List ℕ) (e : EndsIn bytes left) where
@@ -161,42 +113,98 @@ module _ (bytes left : List ℕ) (e : EndsIn bytes left) where
       let same = Stands-once (Stands-cut e.front found.0 (left ++ more) found.1) (Stands-cut e.front text left (subst (λ xs. Stands xs text left) e.parts s)) in
       subst₂ (λ xs t. Stands xs t (left ++ more)) (sym (ap (λ xs. xs ++ more) e.parts ∙ append_assoc e.front left more)) same.0 found.1
 
--- a byte that is refused behind these
-refused-at : (bytes : List ℕ) (at : ℕ) (front : List ℕ) (b : ℕ) (left : List ℕ) (m : Mode) (st : List Bracket) → drop at bytes ≡ front ++ b ∷ left
-    → run 128 start front ≡ state m st → step 128 m st b ≡ refused → IsFirstFault bytes at (fault_of m (top st) (Some b) (at + length front))
-refused-at bytes at front b left m st parts ran stuck =
-    let width : at + length front - at ≡ length front = omega arith in
-    let taken : take (at + length front - at) (drop at bytes) ≡ front = ap₂ (λ k (xs : List ℕ). take k xs) width parts ∙ take-append_seam front (b ∷ left) in
-    let byte : get_or bytes (at + length front) 0 ≡ b = sym (get_or-drop at bytes (length front) 0) ∙ ap (λ xs. get_or xs (length front) 0) parts ∙ get_or-append_seam front b left 0 in
-    subst (λ x. IsFirstFault bytes at (fault_of m (top st) (Some x) (at + length front))) byte
-    (refused_fault bytes at (at + length front) (omega arith) m st (ap (run 128 start) taken ∙ ran)
-    (omega (arith, ap length parts, length-drop at bytes, length-append front (b ∷ left))) (ap (step 128 m st) byte ∙ stuck))
+-- a value that isn't over has not ended with the bytes: a number that has would not stand before a sign
+number_done : (value : List ℕ) (next m : Mode) (st : List Bracket) → IsDone value next → state next [] ≡ state m st → is_over m st ≡ false → IsNumber value
+number_done value After m st done same goes_on =
+    let mode : After ≡ m = cc in
+    let open' : [] ≡ st = cc in
+    absurd (false≢true (sym (rw (← mode, ← open') at goes_on)))
+number_done value (Number part) m st done same goes_on = done.1
+number_done value next m st done same goes_on = absurd done
 
--- where a value may end that isn't over, a number has, and a sign goes on with none
-sign_refused : (m : Mode) (st : List Bracket) → step 128 m st 32 ≡ ended 32 → is_over m st ≡ false → step 128 m st 43 ≡ refused
-sign_refused After [] e goes_on = absurd (false≢true (sym goes_on))
-sign_refused Fresh [] e goes_on = absurd (false≢true (sym goes_on))
-sign_refused (Number Zero) [] e goes_on = refl
-sign_refused (Number Whole) [] e goes_on = refl
-sign_refused (Number Fraction) [] e goes_on = refl
-sign_refused (Number Exponent) [] e goes_on = refl
-sign_refused (Word Ull) st e goes_on = absurd (cc)
-sign_refused (Quoted r (Sequence n One)) st e goes_on = absurd (cc)
-sign_refused m st e goes_on = absurd (cc)
-
--- a value that isn't over has not ended with the bytes
 pub under_way : (xs : List ℕ) (m : Mode) (st : List Bracket) → run 128 start xs ≡ state m st → is_over m st ≡ false → IsUnderWay xs
 under_way xs m st is goes_on = record {
   begins = runs_begins 128 xs (record { mode = m; brackets = st; reached = is });
   unended = λ text stands.
-      let ends = over [] m st (runs_onward 128 [] xs [] start m st (stands_start (xs ++ []) text [] (stands [])) is) in
-      let sign : List ℕ = 43 ∷ [] in
-      let after = runs_onward 128 sign xs sign start m st (stands_start (xs ++ sign) text sign (stands sign)) is in
-      subst (λ o. Reaches 128 sign o []) (sign_refused m st ends goes_on) (onward 128 sign m st 43 [] after);
+      let s = stands (43 ∷ []) in
+      let v = value_runs 128 s.blank s.value text s.space s.reads in
+      let front : xs ≡ s.blank ++ s.value = append_cancel_right xs (s.blank ++ s.value) (43 ∷ []) (s.parts ∙ sym (append_assoc s.blank s.value (43 ∷ []))) in
+      false≢true (sym (s.ends (number_done s.value v.0 m st v.1 (sym v.2 ∙ ap (run 128 start) (sym front) ∙ is) goes_on)));
 }
 
 pub kept-begun : (bytes : List ℕ) → behind_space (behind_space bytes) ≡ behind_space bytes
 kept-begun bytes = ap behind_space (sym (append-nil (behind_space bytes))) ∙ sym (behind-append bytes []) ∙ ap behind_space (append-nil bytes)
+
+-- ---- what came of the bytes
+pub ran-through : (bytes : List ℕ) (reader : Reader) → IsRead bytes 0 reader → reader.next ≡ length bytes → run 128 start bytes ≡ state reader.machine.mode reader.machine.brackets
+ran-through bytes reader read all = ap (run 128 start) (sym (take_all (reader.next - 0) bytes (omega arith))) ∙ read.runs
+
+-- what is read of a value under way
+pub kept-through : (bytes : List ℕ) (reader : Reader) → Came bytes 0 (taken.Through reader) → behind_space bytes ≡ bytes → IsKept bytes
+kept-through bytes reader came begun = record {
+  mode = reader.machine.mode;
+  brackets = reader.machine.brackets;
+  ran = ran-through bytes reader came.0 came.1;
+  begun = begun;
+  goes_on = came.2;
+}
+
+pub kept_none : IsKept []
+kept_none = record { mode = Mode.Value; brackets = []; ran = refl; begun = refl; goes_on = refl }
+
+-- the value has ended, or a byte is refused, in bytes that end with the piece
+module _ (bytes whole : List ℕ) (same : bytes ≡ whole) where
+  pub ended-in : (piece value : List ℕ) (n used : ℕ) → Came bytes 0 (taken.Ended value n) → drop n bytes ≡ drop used piece → EndsIn whole (drop used piece) × Stands whole value (drop used piece)
+  ended-in piece value n used came left = subst₂ (λ xs ys. EndsIn xs ys × Stands xs value ys) same left (came.2, came.3)
+
+  pub refused-in : (machine : Machine) (n : ℕ) → Came bytes 0 (taken.Refused machine n) → (place total : ℕ) → place + length bytes ≡ total + n → (fault : JsonFault)
+      → fault ≡ fault_of machine.mode (top machine.brackets) (Some (get_or bytes n 0)) place → IsRefusedIn whole total fault
+  refused-in machine n came place total counted fault told = record {
+    mode = machine.mode;
+    brackets = machine.brackets;
+    front = stretch bytes 0 n;
+    byte = get_or bytes n 0;
+    left = drop (suc n) bytes;
+    place = place;
+    parts = sym same ∙ parted_one bytes 0 n (omega arith) came.1;
+    counted = omega (arith, came.1, counted, length-drop (suc n) bytes);
+    ran = came.2;
+    stuck = came.3;
+    told = told;
+  }
+
+-- ---- the machine goes on over the bytes that are kept
+over-kept : (rest piece front left : List ℕ) (o : Outcome) (m other : Mode) (st others : List Bracket) → run 128 o rest ≡ state other others → run 128 o front ≡ state m st
+    → rest ++ piece ≡ front ++ left → ((b : ℕ) (more : List ℕ) → left ≡ b ∷ more → (step 128 m st b ≡ ended b) ⊎ (step 128 m st b ≡ refused)) → length rest ≤ length front
+over-kept [] piece front left o m other st others kept ran parts stops = omega arith
+over-kept (b ∷ rest) piece [] left o m other st others kept ran parts stops = elim (stops b (rest ++ piece) (sym parts)) [
+  | inl over ↦ absurd (ended_stays 128 b rest other others (rw (ran, over) at kept))
+  | inr stuck ↦ absurd (refused_stays 128 rest other others (rw (ran, stuck) at kept))
+]
+over-kept (b ∷ rest) piece (x ∷ front) left o m other st others kept ran parts stops =
+    let same : x ≡ b = cc in
+    let up = over-kept rest piece front left (go 128 o b) m other st others kept (rw same at ran) (cc) stops in
+    omega (arith, up)
+
+module _ (rest piece bytes : List ℕ) (is : bytes ≡ rest ++ piece) (kept : IsKept rest) where
+  pub late-ended : (value : List ℕ) (n : ℕ) → Came bytes 0 (taken.Ended value n) → length rest ≤ n
+  late-ended value n came =
+      let e = came.2 in
+      let up = over-kept rest piece e.front (drop n bytes) start e.mode kept.mode e.brackets kept.brackets kept.ran e.ran (sym is ∙ e.parts) (λ b more there. inl (subst (EndsBefore e.mode e.brackets) there e.ends)) in
+      omega (arith, up, came.1, ap length e.parts, length-append e.front (drop n bytes), length-drop n bytes)
+
+  pub late-refused : (machine : Machine) (n : ℕ) → Came bytes 0 (taken.Refused machine n) → length rest ≤ n
+  late-refused machine n came =
+      let parts = parted_one bytes 0 n (omega arith) came.1 in
+      let up = over-kept rest piece (stretch bytes 0 n) _ start machine.mode kept.mode machine.brackets kept.brackets kept.ran came.2 (sym is ∙ parts)
+      (λ b more there. let same : get_or bytes n 0 ≡ b = cc in inr (subst (λ x. step 128 machine.mode machine.brackets x ≡ refused) same came.3)) in
+      omega (arith, up, came.1, ap length parts, length-append (stretch bytes 0 n) (get_or bytes n 0 ∷ drop (suc n) bytes), length-drop (suc n) bytes)
+
+  -- what is left of the piece
+  pub behind-kept : (n before : ℕ) → before ≡ length rest → length rest ≤ n → drop n bytes ≡ drop (n - before) piece
+  behind-kept n before size up =
+      let sum : length rest + (n - before) ≡ n = omega arith in
+      ap (drop n) is ∙ ap (λ k. drop k (rest ++ piece)) (sym sum) ∙ drop-append-add rest piece (n - before)
 
 -- ---- where the feed stands
 module _ (stream : List ℕ) (begin : ℕ) (piece : List ℕ) (feed : Feeding) (at : IsAt stream begin piece feed) where
@@ -207,36 +215,35 @@ module _ (stream : List ℕ) (begin : ℕ) (piece : List ℕ) (feed : Feeding) (
   behind : behind_space (drop begin stream) ≡ behind_space (feed.rest ++ piece)
   behind = ap behind_space at.parts ∙ behind-append at.stretch piece ∙ ap (λ xs. behind_space (xs ++ piece)) at.kept
 
-  pub going_on : IsAt stream begin [] (record { rest = behind_space (feed.rest ++ piece); used = feed.used + length piece; fault = feed.fault })
-  going_on = record {
-    within = at.within;
-    stretch = at.stretch ++ piece;
-    parts = at.parts ∙ sym (append-nil (at.stretch ++ piece));
-    kept = behind-append at.stretch piece ∙ ap (λ x. behind_space (x ++ piece)) at.kept;
-    counted = omega (arith, at.counted);
-    sound = at.sound;
-  }
+  module _ (left : List ℕ) (n : ℕ) where
+    pub going_on : HasFed (behind_space (feed.rest ++ piece)) piece left n None → IsAt stream begin [] (record { rest = left; used = feed.used + n; fault = feed.fault })
+    going_on fed = record {
+      within = at.within;
+      stretch = at.stretch ++ piece;
+      parts = at.parts ∙ sym (append-nil (at.stretch ++ piece));
+      kept = behind-append at.stretch piece ∙ ap (λ x. behind_space (x ++ piece)) at.kept ∙ sym fed.1;
+      counted = omega (arith, at.counted, fed.0);
+      sound = at.sound;
+    }
 
-  -- the value that has ended
-  pub value_there : (n : ℕ) (text : List ℕ) → n ≤ length piece → EndsIn (behind_space (feed.rest ++ piece)) (drop n piece)
-      → Stands (behind_space (feed.rest ++ piece)) text (drop n piece)
-      → (next : ℕ) × IsAt stream next (drop n piece) (record { rest = []; used = feed.used + n; fault = feed.fault })
-      × ((more : List ℕ) → Stands (drop begin stream ++ more) text (drop next stream ++ more))
-  value_there n text low ends stands =
-      let width : ℕ = length at.stretch + n in
-      let left : drop (begin + width) stream ≡ drop n piece = sym (drop-drop width begin stream) ∙ ap (drop width) at.parts ∙ drop-append-add at.stretch piece n in (
-        begin + width,
-        record {
-          within = omega (arith, all_length);
-          stretch = [];
-          parts = left;
-          kept = refl;
-          counted = omega (arith, at.counted, length-drop n piece);
-          sound = at.sound;
-        },
-        λ more. Stands-spaced (drop begin stream) more text (drop (begin + width) stream ++ more)
-            (subst₂ (λ xs ys. Stands (xs ++ more) text (ys ++ more)) (sym behind) (sym left) (ended-on _ (drop n piece) ends text more stands)),
-      )
+    -- the value that has ended
+    pub value_there : (text : List ℕ) → HasFed (behind_space (feed.rest ++ piece)) piece left n (Some text)
+        → (next : ℕ) × IsAt stream next (drop n piece) (record { rest = left; used = feed.used + n; fault = feed.fault })
+        × ((more : List ℕ) → Stands (drop begin stream ++ more) text (drop next stream ++ more))
+    value_there text fed =
+        let width : ℕ = length at.stretch + n in
+        let after : drop (begin + width) stream ≡ drop n piece = sym (drop-drop width begin stream) ∙ ap (drop width) at.parts ∙ drop-append-add at.stretch piece n in (
+          begin + width,
+          record {
+            within = omega (arith, all_length, fed.1);
+            stretch = [];
+            parts = after;
+            kept = sym fed.0;
+            counted = omega (arith, at.counted, length-drop n piece, fed.1);
+            sound = at.sound;
+          },
+          λ more. Stands-spaced (drop begin stream) more text _ (rw (behind, after) (ended-on _ (drop n piece) fed.2 text more fed.3)),
+        )
 
   -- the byte that is refused
   module _ (fault : JsonFault) (r : IsRefusedIn (behind_space (feed.rest ++ piece)) (feed.used + length piece) fault) where
@@ -247,13 +254,13 @@ module _ (stream : List ℕ) (begin : ℕ) (piece : List ℕ) (feed : Feeding) (
     pub fault_there : (more : List ℕ) → IsFirstFault (stream ++ more) begin fault
     fault_there more =
         let s = spaced (drop begin stream) in
-        let front : List ℕ = s.0 ++ r.front in
-        let here : drop begin stream ≡ s.0 ++ (r.front ++ r.byte ∷ r.left) = s.2 ∙ ap (λ xs. s.0 ++ xs) (behind ∙ r.parts) in
-        let parts : drop begin (stream ++ more) ≡ front ++ r.byte ∷ (r.left ++ more) = drop-append-le begin stream more at.within ∙ ap (λ xs. xs ++ more) here ∙ simp append_assoc in
-        let place : begin + length front ≡ r.place =
-        omega (arith, ap length here, length-append s.0 (r.front ++ r.byte ∷ r.left), length-append r.front (r.byte ∷ r.left), length-append s.0 r.front, at.within, length-drop begin stream, r.counted, at.counted) in
+        let here : drop begin stream ≡ (s.0 ++ r.front) ++ r.byte ∷ r.left = s.2 ∙ ap (λ xs. s.0 ++ xs) (behind ∙ r.parts) ∙ sym (append_assoc s.0 r.front (r.byte ∷ r.left)) in
+        let parts : drop begin (stream ++ more) ≡ (s.0 ++ r.front) ++ r.byte ∷ (r.left ++ more) =
+        drop-append-le begin stream more at.within ∙ ap (λ xs. xs ++ more) here ∙ append_assoc (s.0 ++ r.front) (r.byte ∷ r.left) more in
+        let place : begin + length (s.0 ++ r.front) ≡ r.place =
+        omega (arith, ap length here, length-append (s.0 ++ r.front) (r.byte ∷ r.left), at.within, length-drop begin stream, r.counted, at.counted) in
         subst (IsFirstFault (stream ++ more) begin) (ap (fault_of r.mode (top r.brackets) (Some r.byte)) place ∙ sym r.told)
-        (refused-at (stream ++ more) begin front r.byte (r.left ++ more) r.mode r.brackets parts (run-blank s.0 r.front s.1 ∙ r.ran) r.stuck)
+        (refused_fault (stream ++ more) begin (s.0 ++ r.front) r.mode r.brackets (blank_over 128 Mode.Value [] (λ b s. rw s refl) s.0 r.front s.1 ∙ r.ran) r.byte (r.left ++ more) parts r.stuck)
 
 -- ---- where the feed stands at the stream's end
 module _ (stream : List ℕ) (begin : ℕ) (feed : Feeding) (at : IsAt stream begin [] feed) where
@@ -274,11 +281,10 @@ module _ (stream : List ℕ) (begin : ℕ) (feed : Feeding) (at : IsAt stream be
   pub cut_off_there : (m : Mode) (st : List Bracket) → run 128 start feed.rest ≡ state m st → (step 128 m st 32 ≡ ended 32 → ⊥)
       → IsFirstFault stream begin (fault_of m (top st) None feed.used)
   cut_off_there m st ran undone =
-      let taken : take (length stream - begin) (drop begin stream) ≡ at.stretch = take_all (length stream - begin) (drop begin stream) (omega (arith, length-drop begin stream)) ∙ all_parts in
-      let place : length stream ≡ feed.used = omega (arith, at.counted) in
+      let place : begin + length at.stretch ≡ feed.used = omega (arith, at.counted, at.within, ap length all_parts, length-drop begin stream) in
       subst (λ k. IsFirstFault stream begin (fault_of m (top st) None k)) place
-      (undone_fault stream begin (length stream) at.within m st (ap (run 128 start) taken ∙ run-behind at.stretch ∙ ap (run 128 start) at.kept ∙ ran) refl undone)
+      (undone_fault stream begin at.stretch m st (run-behind at.stretch ∙ ap (run 128 start) at.kept ∙ ran) all_parts undone)
 
   -- a value that must come is missing
   pub missing_there : feed.rest ≡ [] → IsFirstFault stream begin (Syntax feed.used)
-  missing_there none = cut_off_there mode.Value [] (ap (run 128 start) none) (λ e. cc)
+  missing_there none = cut_off_there Mode.Value [] (ap (run 128 start) none) (λ e. cc)

@@ -7,15 +7,7 @@ use Rattle.std.proofs.lemmas.Bool.Decides.{nat_tests}
 use Rattle.std.proofs.lemmas.List.{drop-drop}
 use Rattle.json_text.specs.Value.{Begins, IsUnfinished, IsTooDeepBracket, IsBrokenOff, IsStray, IsBadUtf8}
 use Rattle.json_reader.specs.Faults.{IsJsonFault}
-use Rattle.json_reader.specs.declared.fault.JsonFault.{JsonFault}
-use Rattle.json_reader.specs.declared.fault.JsonFault.TheVariants.{Syntax, Depth, Utf8}
-use Rattle.json_reader.specs.declared.sequence.Tail.{Tail}
-use Rattle.json_reader.specs.declared.sequence.Tail.TheVariants.{One}
-use Rattle.json_reader.specs.declared.brackets.Bracket.{Bracket}
-use Rattle.json_reader.specs.declared.machine.Place.TheVariants.{Sequence}
-use Rattle.json_reader.specs.declared.machine.Mode.{Mode}
-use Rattle.json_reader.specs.declared.machine.Mode.TheVariants.{Quoted}
-use Rattle.json_reader.specs.Machine.{state, refused, step, tail_fits}
+use Rattle.json_reader.specs.Machine.{JsonFault, Syntax, Depth, Utf8, Tail, One, Bracket, Sequence, Mode, Quoted, state, refused, step, tail_fits}
 use Rattle.json_reader.proofs.Sequences.{Completes}
 use Rattle.json_reader.proofs.Machines.{run-append}
 use Rattle.json_reader.proofs.Steps.{led_high}

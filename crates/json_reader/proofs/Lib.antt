@@ -3,17 +3,15 @@
 mod NumberRuns
 mod Sequences
 mod Machines
-mod Unrolled
 mod Digits
 mod Steps
+mod TreeRuns
 mod ValueRuns
 mod Moves
 mod Places
 pub mod FirstFaults
-mod OffsetRuns
 pub mod Outcomes
 pub mod Feeds
-mod Pieces
 -- ---- the writer: what it has written is the compact text of the value that was read
 mod Placing
 mod Marks

@@ -3,31 +3,16 @@ use Rattle.std.proofs.Common.{◌≡◌, ◌⊎◌, inr, ◌==◌, ◌&&◌, not
 use Rattle.std.proofs.lemmas.Bool.{eqb-true, cond_both, false≢true, cases_lt, le-ltb, ltb-true, lt-ltb}
 use Rattle.json_text.specs.Tree.{opening}
 use Rattle.json_text.specs.Value.{extends_number}
-use Rattle.json_reader.specs.declared.number.Part.{Part}
-use Rattle.json_reader.specs.declared.sequence.Tail.{Tail}
-use Rattle.json_reader.specs.declared.sequence.Tail.TheVariants.{One}
-use Rattle.json_reader.specs.declared.brackets.Bracket.{Bracket}
-use Rattle.json_reader.specs.declared.brackets.Bracket.TheVariants.{Square, Curly}
-use Rattle.json_reader.specs.declared.machine.Role.{Role}
-use Rattle.json_reader.specs.declared.machine.Role.TheVariants as role
-use Rattle.json_reader.specs.declared.machine.Place.TheVariants.{Plain, Escape, Hex, Sequence}
-use Rattle.json_reader.specs.declared.machine.Letters.TheVariants.{Ull}
-use Rattle.json_reader.specs.declared.machine.Mode.{Mode}
-use Rattle.json_reader.specs.declared.machine.Mode.TheVariants.{Fresh, After, Quoted, Number, Word}
-use Rattle.json_reader.specs.declared.machine.Move.{Move}
-use Rattle.json_reader.specs.declared.machine.Move.TheVariants.{To, Open, Close, End, Refuse}
-use Rattle.json_reader.specs.Machine.{Outcome, state, top, applied, moved, container_of, after_move, part_after, is_complete, number_move_on, tail_led, tail_fits, tail_length, plain_move, refused, opens, string_move, is_bare, keeps_bare, keeps_digits, keeps_space}
+use Rattle.json_reader.specs.Machine.{Part, Tail, One, Bracket, Square, Curly, Role, Plain, Escape, Hex, Sequence, Ull, Mode, Fresh, After, Quoted, Number, Word, Move, To, Open, Close, End, Refuse}
+use Rattle.json_reader.specs.Machine.{Minus, Place, Outcome, state, top, applied, moved, container_of, after_move, part_after, is_complete, number_move_on, tail_led, tail_fits, tail_length}
+use Rattle.json_reader.specs.Machine.{refused, opens, string_move}
 use Rattle.json_reader.proofs.Sequences.{Completes, IsChar, led_char}
 use Rattle.json_reader.proofs.Machines.{go, run, run-append}
 use Rattle.json_reader.proofs.Steps.{lead_char}
 use Rattle.json_reader.proofs.NumberRuns.{ended_part}
-use Rattle.json_reader.specs.declared.number.Part.TheVariants.{Minus, Whole}
-use Rattle.json_reader.specs.declared.machine.Place.{Place}
 use Rattle.json_text.proofs.Reading.{append-none}
-use Rattle.json_reader.proofs.ValueRuns.{digit_more, refused_stays}
+use Rattle.json_reader.proofs.ValueRuns.{refused_stays}
 use Rattle.std.specs.List.{AllByRecursion}
-use Rattle.std.proofs.lemmas.Bool.Decides.{nat_tests}
-use Rattle.json_text.specs.Characters.{is_space, is_digit, is_plain}
 
 -- P holds of the mode that the move leads to
 abbrev pub OnMove : (Mode → Type 0) → Move → Type 0
@@ -91,9 +76,9 @@ module _ (bytes : List ℕ) (b : ℕ) where
   calm_kept (Open bracket) calm = eqb-true b (opening (container_of bracket)) calm
   calm_kept move calm = tt
 
-  plain_kept : (r : Role) (o : Option Tail) → tail_led b ≡ o → Kept bytes b (plain_move r b)
-  plain_kept role.Name None e = calm_kept _ (grind arith)
-  plain_kept role.Value None e = calm_kept _ (grind arith)
+  plain_kept : (r : Role) (o : Option Tail) → tail_led b ≡ o → Kept bytes b (string_move r Plain b)
+  plain_kept Role.Name None e = calm_kept _ (grind arith)
+  plain_kept Role.Value None e = calm_kept _ (grind arith)
   plain_kept r (Some tail) e =
       rw (lead_char r b tail e) (record { before = bytes; come = b ∷ []; parts = refl; counts = omega arith; some = omega arith; completes = λ t c. led_char b t tail e c })
 
@@ -210,7 +195,7 @@ Goes o = (m : Mode) × (st : List Bracket) × (o ≡ state m st)
 
 hex_goes : (limit : ℕ) (r : Role) (more : ℕ) (st : List Bracket) → run limit (state (Quoted r (Hex more)) st) (replicate (suc more) 48) ≡ state (Quoted r Plain) st
 hex_goes limit r zero st = refl
-hex_goes limit r (suc more) st = ap (λ place. run limit (state (Quoted r place) st) (replicate (suc more) 48)) (digit_more more) ∙ hex_goes limit r more st
+hex_goes limit r (suc more) st = hex_goes limit r more st
 
 pub some_escape : (limit : ℕ) (r : Role) (place : Place) (st : List Bracket) → IsInside place → (zeros : ℕ) × Goes (run limit (state (Quoted r place) st) (replicate zeros 48 ++ 92 ∷ []))
 some_escape limit r Plain st h = (0, (Quoted r Escape, st, refl))
@@ -279,25 +264,7 @@ pub string_shut : (r : Role) (place : Place) (b : ℕ) → opens (string_move r 
 string_shut r Plain b = grind arith
 string_shut r place b = grind arith
 
--- ---- the bytes that leave a mode as it is
-pub bare_stays : (m : Mode) (top : Option Bracket) → keeps_bare m ≡ true → (b : ℕ) → is_bare b ≡ true → moved m top b ≡ To m
-bare_stays (Quoted r Plain) top keeps b is = grind arith
-bare_stays m top keeps b is = absurd (false≢true keeps)
-
-pub digit_stays : (m : Mode) (top : Option Bracket) → keeps_digits m ≡ true → (b : ℕ) → is_digit b ≡ true → moved m top b ≡ To m
-digit_stays (Number Whole) top keeps b is = grind arith
-digit_stays m top keeps b is = grind arith
-
-pub space_stays : (m : Mode) (top : Option Bracket) → keeps_space m top ≡ true → (b : ℕ) → is_space b ≡ true → moved m top b ≡ To m
-space_stays Fresh None keeps b is = grind arith
-space_stays After None keeps b is = grind arith
-space_stays m top keeps b is = grind arith
-
--- ---- the machine over it
+-- ---- bytes that leave the machine as it is
 pub stay_run : (m : Mode) (st : List Bracket) (xs : List ℕ) → AllByRecursion (λ b. moved m (top st) b ≡ To m) xs → run 128 (state m st) xs ≡ state m st
 stay_run m st [] all = refl
 stay_run m st (x ∷ xs) all = ap (λ move. run 128 (applied 128 st x move) xs) all.0 ∙ stay_run m st xs all.1
-
--- ---- what is written of it
-pub bare-plain : (b : ℕ) → is_bare b ≡ true → is_plain b ≡ true
-bare-plain b is = grind (arith, nat_tests)

@@ -6,9 +6,7 @@ use Rattle.json_text.specs.Characters.{is_digit}
 use Rattle.json_text.specs.Tree.{AreDigits, IsSign, IsIntegerPart, IsFraction, IsExponent, IsNumber}
 use Rattle.json_text.specs.Value.{extends_number}
 use Rattle.json_text.proofs.Numbers.{number}
-use Rattle.json_reader.specs.declared.number.Part.{Part}
-use Rattle.json_reader.specs.declared.number.Part.TheVariants.{Minus, Zero, Whole, Dot, Fraction, Letter, Sign, Exponent}
-use Rattle.json_reader.specs.Machine.{whole_begun, part_begun, after_fraction, after_whole, part_after, is_complete}
+use Rattle.json_reader.specs.Machine.{Part, Minus, Zero, Whole, Dot, Fraction, Letter, Sign, Exponent, part_begun, after_fraction, after_whole, part_after, is_complete}
 
 abbrev pub on_part : (Part → Bool) → Option Part → Bool
 on_part test None = false
@@ -59,19 +57,19 @@ abbrev pub IsRun : (ℕ → Option Part) → List ℕ → Type 0
 IsRun begins [] = ⊥
 IsRun begins (b ∷ s) = on_part (ends s) (begins b) ≡ true
 
-counted_ends : (whole fraction exponent : List ℕ) → IsIntegerPart whole → IsFraction fraction → IsExponent exponent → IsRun whole_begun (whole ++ (fraction ++ exponent))
+counted_ends : (whole fraction exponent : List ℕ) → IsIntegerPart whole → IsFraction fraction → IsExponent exponent → ends (whole ++ (fraction ++ exponent)) Minus ≡ true
 counted_ends whole fraction exponent (inl zero) parted scaled = rw zero (point_ends Zero refl refl refl refl fraction exponent parted scaled)
 counted_ends whole fraction exponent (inr (b, s, e, other, all)) parted scaled =
     let p = and_parts (is_digit b) (list_all is_digit s) (rw e at all) in
     let first : is_digit b ≡ true = p.0 in
-    let begun : whole_begun b ≡ Some Whole = grind arith in
+    let begun : part_after Minus b ≡ Some Whole = grind arith in
     rw (e, begun) (digits_end Whole (λ b d. rw d refl) s (fraction ++ exponent) p.1 (point_ends Whole refl refl refl refl fraction exponent parted scaled))
 
-signed_ends : (sign s : List ℕ) → IsSign sign → IsRun whole_begun s → IsRun part_begun (sign ++ s)
-signed_ends sign [] signed run = absurd run
+signed_ends : (sign s : List ℕ) → IsSign sign → ends s Minus ≡ true → IsRun part_begun (sign ++ s)
+signed_ends sign [] signed run = absurd (false≢true run)
 signed_ends sign (b ∷ s) (inr minus) run = rw minus run
 signed_ends sign (b ∷ s) (inl none) run = rw none (elim (cases_Bool (b == 45)) [
-  | inl minus ↦ absurd (false≢true (subst (λ x. on_part (ends s) (whole_begun x) ≡ true) (eqb-true b 45 minus) run))
+  | inl minus ↦ absurd (false≢true (subst (λ x. on_part (ends s) (part_after Minus x) ≡ true) (eqb-true b 45 minus) run))
   | inr other ↦ rw other run
 ])
 
@@ -152,7 +150,7 @@ zero_ended : (s : List ℕ) → ends s Zero ≡ true → Pointed s
 zero_ended [] run = ([], [], refl, inl refl, inl refl)
 zero_ended (b ∷ s) run = point_ended b s run
 
-counted_ended : (sign : List ℕ) (b : ℕ) (s : List ℕ) → IsSign sign → Goes s (whole_begun b) → IsNumber (sign ++ b ∷ s)
+counted_ended : (sign : List ℕ) (b : ℕ) (s : List ℕ) → IsSign sign → Goes s (part_after Minus b) → IsNumber (sign ++ b ∷ s)
 counted_ended sign b s signed =
     let Number = λ (o : Option Part). Goes s o → IsNumber (sign ++ b ∷ s) in
     cond_both (b == 48) _ _ Number (λ zero run.

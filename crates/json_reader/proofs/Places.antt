@@ -7,7 +7,7 @@ use Rattle.std.proofs.lemmas.Bool.{cases_lt, cases_order, false≢true, leb-true
 use Rattle.std.proofs.lemmas.Str.{encode_ascii}
 use Rattle.std.proofs.lemmas.Option.{slice_get-get_or}
 use Rattle.std.proofs.lemmas.List.{take-take, drop_at, length-take-le}
-use Rattle.json_text.specs.Value.{Begins, IsLongest, IsInString, IsUnfinished, IsTooDeepBracket, IsBrokenOff, IsStray, IsBadSyntax}
+use Rattle.json_text.specs.Value.{Begins, IsLongest, IsInString, IsUnfinished, IsTooDeepBracket, IsStray, IsBadSyntax}
 use Rattle.json_reader.specs.Faults.{IsJsonFault}
 use Rattle.json_reader.specs.declared.fault.JsonFault.TheVariants.{Syntax, Depth, Utf8}
 use Rattle.json_reader.specs.declared.sequence.Tail.{Tail}
@@ -19,18 +19,14 @@ use Rattle.json_reader.specs.declared.machine.Place.TheVariants.{Plain, Sequence
 use Rattle.json_reader.specs.declared.machine.Mode.{Mode}
 use Rattle.json_reader.specs.declared.machine.Mode.TheVariants.{Quoted}
 use Rattle.json_reader.specs.declared.machine.Move.{Move}
-use Rattle.json_reader.specs.declared.machine.Move.TheVariants.{To, Open}
-use Rattle.json_reader.specs.Machine.{Outcome, state, ended, refused, top, applied, step, moved, opens, tail_led, tail_length, is_stray, stray_fault, bracket_fault, fault_of}
+use Rattle.json_reader.specs.declared.machine.Move.TheVariants.{Open}
+use Rattle.json_reader.specs.Machine.{Outcome, state, ended, refused, top, step, moved, opens, tail_led, tail_length, is_stray, stray_fault, bracket_fault, fault_of}
 use Rattle.json_text.proofs.Reading.{append-none}
 use Rattle.json_reader.proofs.Sequences.{Completes, IsChar, char_led, led_char}
 use Rattle.json_reader.proofs.Machines.{run, start, run-append}
-use Rattle.json_reader.proofs.ValueRuns.{tail_closed}
+use Rattle.json_reader.proofs.ValueRuns.{tail_closed, begins_runs, runs_begins, begins_less, refused_stays, ended_stays, take_one}
 use Rattle.json_reader.proofs.Steps.{lead_char, led_high}
-use Rattle.json_reader.proofs.Moves.{OnState, on_applied, HasCome, Keeps, Kept, kept, run_keeps, IsBetween, IsOutside, high_moved}
-use Rattle.json_reader.proofs.Moves.{IsWithin, run_more, run_within, deep_opens, opens_deeper, string_shut}
-use Rattle.json_reader.proofs.Moves.{IsInside, no_escape, some_escape, tail_run}
-use Rattle.json_reader.proofs.ValueRuns.{begins_runs, runs_begins, begins_less, refused_stays, ended_stays}
-use Rattle.json_reader.proofs.ValueRuns.{take_one}
+use Rattle.json_reader.proofs.Moves.{OnState, on_applied, HasCome, Keeps, Kept, kept, run_keeps, IsOutside, high_moved, IsWithin, run_more, run_within, deep_opens, opens_deeper, string_shut, IsInside, no_escape, some_escape, tail_run}
 
 -- the machine is inside a sequence
 abbrev pub IsSequence : Mode → Type 0
@@ -63,46 +59,33 @@ pub record IsCut (first : ℕ) (more : List ℕ) : Type 0 where
 
 cut : (c first : ℕ) (more next : List ℕ) → IsScalar c → encode_utf8 c ≡ first ∷ (more ++ next) → next ≢ [] → IsCut first more
 cut c first more next scalar e some = elim (cases_lt c 128) [
-  | inl small ↦
-      let one : c ∷ [] ≡ first ∷ (more ++ next) = sym (encode_ascii c small) ∙ e in
-      absurd (some (append-none more next (cc)))
+  | inl small ↦ let one = sym (encode_ascii c small) ∙ e in absurd (some (append-none more next (cc)))
   | inr big ↦
       let l = char_led c scalar big in
-      let same : l.first ∷ l.more ≡ first ∷ (more ++ next) = sym l.spells ∙ e in
-      record {
-        tail = l.tail;
-        next = next;
-        led = subst (λ x. tail_led x ≡ Some l.tail) (let f : l.first ≡ first = cc in f) l.led;
-        completes = subst (λ x. Completes x l.tail) (let m : l.more ≡ more ++ next = cc in m) l.completes;
-        some = some;
-      }
+      let same = sym l.spells ∙ e in
+      let f : l.first ≡ first = cc in
+      let m : l.more ≡ more ++ next = cc in
+      record { tail = l.tail; next = next; led = rw f at l.led; completes = rw m at l.completes; some = some }
 ]
 
 module _ (limit : ℕ) (first : ℕ) (more : List ℕ) (is : IsCut first more) (m : Mode) (st : List Bracket) where
   high : 192 ≤ first
   high = led_high first is.tail is.led
 
-  no_lead : (m0 : Mode) (st0 : List Bracket) → (IsBetween m0 → ⊥) → run limit (step limit m0 st0 first) more ≡ state m st → IsSequence m
-  no_lead m0 st0 no_plain e = by (step limit m0 st0 first) (on_applied (λ m. ⊥) limit st0 first (moved m0 (top st0) first) (high_moved first high m0 (top st0) no_plain)) e
-    where
-      by : (o : Outcome) → OnState (λ m. ⊥) o → run limit o more ≡ state m st → IsSequence m
-      by (state m1 st1) h r = absurd h
-      by (ended c) h r = absurd (ended_stays limit c more m st r)
-      by refused h r = absurd (refused_stays limit more m st r)
+  stops : (o : Outcome) → OnState (λ m. ⊥) o → run limit o more ≡ state m st → ⊥
+  stops (state m1 st1) h r = h
+  stops (ended c) h r = ended_stays limit c more m st r
+  stops refused h r = refused_stays limit more m st r
 
   led_sequence : (o : Outcome) → run limit o (first ∷ more) ≡ state m st → IsSequence m
   led_sequence refused e = absurd (refused_stays limit more m st e)
   led_sequence (ended c) e = absurd (refused_stays limit more m st e)
   led_sequence (state (Quoted r Plain) st0) e =
       let t = tail_run limit r (tail_length is.tail + 1) st0 more is.next is.tail is.completes is.some in
-      let led : step limit (Quoted r Plain) st0 first ≡ state (Quoted r (Sequence (tail_length is.tail + 1) is.tail)) st0 = ap (applied limit st0 first) (lead_char' r) in
-      let all : state (Quoted r (Sequence (tail_length is.tail + 1) t.0)) st0 ≡ state m st = sym t.1 ∙ ap (λ o. run limit o more) (sym led) ∙ e in
+      let all = sym t.1 ∙ (rw (lead_char r first is.tail is.led) at e) in
       let same : Quoted r (Sequence (tail_length is.tail + 1) t.0) ≡ m = cc in
       subst IsSequence same tt
-    where
-      lead_char' : (r : Role) → moved (Quoted r Plain) (top st0) first ≡ To (Quoted r (Sequence (tail_length is.tail + 1) is.tail))
-      lead_char' r = lead_char r first is.tail is.led
-  led_sequence (state m0 st0) e = no_lead m0 st0 (λ h. h) e
+  led_sequence (state m0 st0) e = absurd (stops (step limit m0 st0 first) (on_applied (λ m. ⊥) limit st0 first (moved m0 (top st0) first) (high_moved first high m0 (top st0) (λ h. h))) e)
 
 pub unfinished_cut : (bytes : List ℕ) (u : IsUnfinished bytes) → IsCut u.1 u.2
 unfinished_cut bytes u = cut u.0 u.1 u.2 u.3 u.4 (u.6 ∙ ap (λ x. x ++ u.3) u.5) u.7
@@ -126,16 +109,11 @@ not_inside bytes m st is outside (zeros, begins) =
 stray_none : (b c : ℕ) (more : List ℕ) → is_stray b ≡ true → IsScalar c → encode_utf8 c ≡ b ∷ more → ⊥
 stray_none b c more stray scalar e =
     let p = and_parts (nat_le 128 b) (is_none (tail_led b)) stray in
-    let high : 128 ≤ b = leb-true 128 b p.0 in
     elim (cases_lt c 128) [
-      | inl small ↦
-          let one : c ∷ [] ≡ b ∷ more = sym (encode_ascii c small) ∙ e in
-          let same : c ≡ b = cc in
-          omega arith
+      | inl small ↦ let same : c ≡ b = let one = sym (encode_ascii c small) ∙ e in cc in omega (arith, leb-true 128 b p.0)
       | inr big ↦
           let l = char_led c scalar big in
-          let all : l.first ∷ l.more ≡ b ∷ more = sym l.spells ∙ e in
-          let same : l.first ≡ b = cc in
+          let same : l.first ≡ b = let all = sym l.spells ∙ e in cc in
           false≢true (ap is_none (sym l.led) ∙ ap (λ x. is_none (tail_led x)) same ∙ p.1)
     ]
 
@@ -176,29 +154,23 @@ module _ (every : List ℕ) (at n : ℕ) (within : n ≤ length (drop at every))
           cc;
     }
 
+    keeps : Keeps (take n bytes) m
+    keeps = subst (OnState (Keeps (take n bytes))) is (run_keeps 128 [] (take n bytes) start tt)
+
     -- a bracket that is one too many
     deep_opens_here : IsTooDeepBracket bytes n → (b : ℕ) × (slice_get bytes n ≡ Some b) × (opens (moved m (top st) b) ≡ true)
-    deep_opens_here d = elim d.bracket [ inl g ↦ by 91 g | inr g ↦ by 123 g ]
-      where
-        by : (b : ℕ) → slice_get bytes n ≡ Some b → (b : ℕ) × (slice_get bytes n ≡ Some b) × (opens (moved m (top st) b) ≡ true)
-        by b g =
-            let r = begins_runs 129 (take (suc n) bytes) d.deeper in (
-              b,
-              g,
-              deep_opens 128 st b (moved m (top st) b) r.mode r.brackets (stops b g)
-                  (sym (run_one 129 b (run_more 128 start (take n bytes) m st is) g) ∙ r.reached),
-            )
+    deep_opens_here d =
+        let b : (b : ℕ) × (slice_get bytes n ≡ Some b) = elim d.bracket [ inl g ↦ (91, g) | inr g ↦ (123, g) ] in
+        let r = begins_runs 129 (take (suc n) bytes) d.deeper in
+        (b.0, b.1, deep_opens 128 st b.0 (moved m (top st) b.0) r.mode r.brackets (stops b.0 b.1) (sym (run_one 129 b.0 (run_more 128 start (take n bytes) m st is) b.1) ∙ r.reached))
 
-    bracket_is : (b : ℕ) → opens (moved m (top st) b) ≡ true → Keeps (take n bytes) m → (b ≡ 91) ⊎ (b ≡ 123)
-    bracket_is b e k = by (moved m (top st) b) (kept (take n bytes) b m (top st) k) e
+    bracket_is : (b : ℕ) → opens (moved m (top st) b) ≡ true → (b ≡ 91) ⊎ (b ≡ 123)
+    bracket_is b e = by (moved m (top st) b) (kept (take n bytes) b m (top st) keeps) e
       where
         by : (move : Move) → Kept (take n bytes) b move → opens move ≡ true → (b ≡ 91) ⊎ (b ≡ 123)
         by (Open Square) h o = inl h
         by (Open Curly) h o = inr h
         by move h o = absurd (false≢true o)
-
-    keeps : Keeps (take n bytes) m
-    keeps = subst (OnState (Keeps (take n bytes))) is (run_keeps 128 [] (take n bytes) start tt)
 
     too_deep : (b : ℕ) → slice_get bytes n ≡ Some b → opens (moved m (top st) b) ≡ true → IsTooDeepBracket bytes n
     too_deep b g o =
@@ -207,22 +179,17 @@ module _ (every : List ℕ) (at n : ℕ) (within : n ≤ length (drop at every))
         let more = run_more 128 start (take n bytes) m st is in
         record {
           longest = longest;
-          bracket = elim (bracket_is b o keeps) [ inl e ↦ inl (g ∙ ap Some e) | inr e ↦ inr (g ∙ ap Some e) ];
+          bracket = elim (bracket_is b o) [ inl e ↦ inl (g ∙ ap Some e) | inr e ↦ inr (g ∙ ap Some e) ];
           deeper = runs_begins 129 (take (suc n) bytes) (record { mode = d.0; brackets = d.1; reached = run_one 129 b more g ∙ d.2 });
         }
 
     -- no sequence is cut off here
-    not_broken : (IsSequence m → ⊥) → (k i : ℕ) → IsBrokenOff bytes k i → ⊥
-    not_broken none k i broken =
-        let same : i ≡ n = longest_one bytes n i longest broken.longest in
-        none (unfinished_sequence 128 (take n bytes) k m st (subst (λ x. IsUnfinished (drop k (take x bytes))) same broken.unfinished) is)
-
     syntax : (IsTooDeepBracket bytes n → ⊥) → (IsSequence m → ⊥) → (IsStray bytes n → ⊥) → IsBadSyntax bytes n
     syntax deep sequence stray = record {
       longest = longest;
       not_deep = deep;
       not_utf8 = λ k bad. elim bad [
-        | inl broken ↦ not_broken sequence k broken.0 broken.1
+        | inl (i, broken) ↦ sequence (unfinished_sequence 128 (take n bytes) k m st (subst (λ x. IsUnfinished (drop k (take x bytes))) (longest_one bytes n i longest broken.longest) broken.unfinished) is)
         | inr s ↦ stray (subst (IsStray bytes) (longest_one bytes n k longest s.longest) s)
       ];
     }

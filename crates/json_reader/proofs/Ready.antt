@@ -1,5 +1,5 @@
 -- A writer that is ready for the rest behind a value, whose compact text it has written, was ready for the value.
-use Rattle.std.proofs.Common.{◌≡◌, ℕ, ◌+◌, ◌-◌, List, [], ◌∷◌, ◌++◌, Bool, true, false, eqb, Option, Some, None, map, flat_map, refl, sym, ap, subst, ◌∙◌, arith, inl, inr, append_assoc, append-nil}
+use Rattle.std.proofs.Common.{◌≡◌, ℕ, ◌+◌, ◌-◌, List, [], ◌∷◌, ◌++◌, Bool, true, false, eqb, map, flat_map, refl, sym, ap, subst, ◌∙◌, arith, inl, inr, append_assoc, append-nil}
 use Rattle.std.specs.Char.{encode_utf8}
 use Rattle.std.specs.List.{list_all, AllByRecursion, join_with_byte}
 use Rattle.std.proofs.lemmas.Bool.{and_parts, false≢true}
@@ -9,7 +9,7 @@ use Rattle.json_text.specs.Characters.{is_space, is_blank, is_plain, is_digit, q
 use Rattle.json_text.specs.Compact.{Member, content, compact, members, collapsed, label_name, member_text, array_text, object_text}
 use Rattle.json_text.specs.Walk.{outside, inside, Quoted}
 use Rattle.json_text.specs.Tree.{Piece, bare, letter, unit, IsPiece, piece_spelling, string_spelling, array, object, Label, unnamed, named, IsLabel, label_spelling, Tree, scalar, text, empty, filled, Values, last, next, spelling, values_spelling, IsGood, AreGood}
-use Rattle.json_reader.specs.Drafts.{Drafted, grown, pair_text, pairs_text}
+use Rattle.json_reader.specs.Drafts.{Drafted, fresh, grown, pair_text, pairs_text}
 use Rattle.json_reader.specs.Places.{quoted}
 use Rattle.json_reader.specs.Writing.{Writing, between, deed, deed_at, Can, Done, AreAlike, Ready}
 use Rattle.json_reader.specs.declared.writing.Deed.{Deed}
@@ -21,27 +21,25 @@ use Rattle.json_text.proofs.Literals.{is_part_of_literal, list_all-each, literal
 use Rattle.json_text.proofs.Reading.{regroup-last, regroup-next}
 use Rattle.json_text.proofs.Strings.{plain-bare, quoted-bare, plain-quote, plain-slash, hex-plain}
 use Rattle.json_reader.proofs.QuotedNames.{collapsed-quoted}
-
--- a draft by its parts
-abbrev draft : List Member → Option (List ℕ) → List ℕ → ℕ → Drafted
-draft ms name current level = record { members = ms; name = name; current = current; level = level }
+use Rattle.json_reader.proofs.Drafting.{IsRow, row_none, row_more, labelled, whole, closed_so}
 
 -- in a string
 abbrev within : Bool → Bool → List ℕ → Drafted → List Drafted → Writing
 within escaped escapes string here around = record { place = inside escaped; escapes = escapes; string = string; here = here; around = around }
 
--- whether an escape came, behind these pieces
+-- whether an escape came, behind a piece and behind pieces
+abbrev escaped : Bool → Piece → Bool
+escaped escapes (bare c) = escapes
+escaped escapes p = true
+
 abbrev escapes-after : Bool → List Piece → Bool
 escapes-after escapes [] = escapes
-escapes-after escapes (bare c ∷ ps) = escapes-after escapes ps
-escapes-after escapes (letter b ∷ ps) = escapes-after true ps
-escapes-after escapes (unit a b c d ∷ ps) = escapes-after true ps
+escapes-after escapes (p ∷ ps) = escapes-after (escaped escapes p) ps
 
 escapes-stay : (ps : List Piece) → escapes-after true ps ≡ false → ⊥
 escapes-stay [] e = false≢true (sym e)
 escapes-stay (bare c ∷ ps) e = escapes-stay ps e
-escapes-stay (letter b ∷ ps) e = escapes-stay ps e
-escapes-stay (unit a b c d ∷ ps) e = escapes-stay ps e
+escapes-stay (p ∷ ps) e = escapes-stay ps e
 
 -- a string without escapes is its own quote
 bare-content : (ps : List Piece) → AllByRecursion IsPiece ps → escapes-after false ps ≡ false → flat_map quoted_byte (content ps) ≡ flat_map piece_spelling ps
@@ -50,8 +48,7 @@ bare-content [] good none = refl
 bare-content (bare c ∷ ps) good none =
     ap (flat_map quoted_byte) (content-bare c ps good.0.0) ∙ flat_map-append quoted_byte (encode_utf8 c) (content ps)
     ∙ rw (quoted-bare c good.0, bare-content ps good.1 none) refl
-bare-content (letter b ∷ ps) good none = absurd (escapes-stay ps none)
-bare-content (unit a b c d ∷ ps) good none = absurd (escapes-stay ps none)
+bare-content (p ∷ ps) good none = absurd (escapes-stay ps none)
 
 bare-quote : (ps : List Piece) → AllByRecursion IsPiece ps → escapes-after false ps ≡ false → string_spelling ps ≡ quote (content ps)
 unfolding quote
@@ -86,9 +83,6 @@ object-shut values good c =
     let same : pairs_text (collapsed (map quoted (members values))) ≡ inner =
     ap pairs_text (collapsed-quoted (members values) (members-utf8 values good)) ∙ ap (join_with_byte 44) (pairs-quoted (collapsed (members values))) in
     rw same (sym (append_assoc (c ++ 123 ∷ []) inner (125 ∷ []) ∙ one-more c 123 (inner ++ 125 ∷ [])))
-
-some-none : {A : Type 0} {name : List ℕ} → Some name ≡ None → A
-some-none e = absurd (cc)
 
 -- ---- bytes that are all taken in one way
 pushes : (b level : ℕ) → is_part_of_literal b ≡ true → deed outside level b ≡ Push
@@ -138,10 +132,10 @@ module _ (written : List ℕ) where
   blank-ready blank rest d ds is = (blanks blank d ds is rest).0
 
   literals : (xs : List ℕ) (d : Drafted) (ds : List Drafted) → list_all is_part_of_literal xs ≡ true → Takes xs (between d ds) (between (grown d xs) ds)
-  literals [] d ds is = subst (λ c. Takes [] (between d ds) (between (record d { current = c }) ds)) (sym (append-nil d.current)) (λ rest. (λ r. r, λ r. r))
+  literals [] d ds is = subst (λ c. Takes [] (between d ds) (between (record d { text = c }) ds)) (sym (append-nil d.text)) (λ rest. (λ r. r, λ r. r))
   literals (x ∷ xs) d ds is =
       let both = and_parts (is_part_of_literal x) (list_all is_part_of_literal xs) is in
-      subst (λ c. Takes (x ∷ xs) (between d ds) (between (record d { current = c }) ds)) (one-more d.current x xs)
+      subst (λ c. Takes (x ∷ xs) (between d ds) (between (record d { text = c }) ds)) (one-more d.text x xs)
       (takes-byte Push x xs _ (between (grown d (x ∷ [])) ds) _ (pushes x d.level both.0) tt (λ new e. e) refl (literals xs (grown d (x ∷ [])) ds both.1))
 
   -- ---- strings
@@ -156,27 +150,27 @@ module _ (written : List ℕ) where
   plains (x ∷ xs) s escapes d ds is =
       let both = and_parts (is_plain x) (list_all is_plain xs) is in plain-first x xs s false escapes d ds both.0 (plains xs (s ++ x ∷ []) escapes d ds both.1)
 
+  escape : (b : ℕ) (more s : List ℕ) (escapes : Bool) (d : Drafted) (ds : List Drafted) → list_all is_plain more ≡ true
+      → Takes (92 ∷ b ∷ more) (within false escapes s d ds) (within false true (s ++ 92 ∷ b ∷ more) d ds)
+  escape b more s escapes d ds is =
+      let mid : List ℕ = (s ++ 92 ∷ []) ++ b ∷ [] in
+      subst (λ t. Takes (92 ∷ b ∷ more) (within false escapes s d ds) (within false true t d ds)) (simp append_assoc)
+      (takes-byte Slash 92 (b ∷ more) (within false escapes s d ds) (within true true (s ++ 92 ∷ []) d ds) _ refl tt (λ new e. e) refl
+      (takes-byte Keep b more (within true true (s ++ 92 ∷ []) d ds) (within false true mid d ds) _ refl tt (λ new e. e) refl (plains more mid true d ds is)))
+
+  piece : (p : Piece) (s : List ℕ) (escapes : Bool) (d : Drafted) (ds : List Drafted) → IsPiece p
+      → Takes (piece_spelling p) (within false escapes s d ds) (within false (escaped escapes p) (s ++ piece_spelling p) d ds)
+  piece (bare c) s escapes d ds good = plains (piece_spelling (bare c)) s escapes d ds (plain-bare c good.2 good.3)
+  piece (letter b) s escapes d ds good = escape b [] s escapes d ds refl
+  piece (unit a b c x) s escapes d ds good = escape 117 (a ∷ b ∷ c ∷ x ∷ []) s escapes d ds (list_all-each _ is_plain hex-plain (a ∷ b ∷ c ∷ x ∷ []) good)
+
   pieces : (ps : List Piece) (s : List ℕ) (escapes : Bool) (d : Drafted) (ds : List Drafted) → AllByRecursion IsPiece ps
       → Takes (flat_map piece_spelling ps) (within false escapes s d ds) (within false (escapes-after escapes ps) (s ++ flat_map piece_spelling ps) d ds)
   pieces [] s escapes d ds good = plains [] s escapes d ds refl
-  pieces (bare c ∷ ps) s escapes d ds good =
-      let bytes = piece_spelling (bare c) in
-      subst (λ t. Takes (flat_map piece_spelling (bare c ∷ ps)) (within false escapes s d ds) (within false (escapes-after escapes ps) t d ds)) (append_assoc s bytes (flat_map piece_spelling ps))
-      (takes-append bytes (flat_map piece_spelling ps) (within false escapes s d ds) (within false escapes (s ++ bytes) d ds) _ (plains bytes s escapes d ds (plain-bare c good.0.2 good.0.3)) (pieces ps (s ++ bytes) escapes d ds good.1))
-  pieces (letter b ∷ ps) s escapes d ds good =
-      let mid : List ℕ = (s ++ 92 ∷ []) ++ b ∷ [] in
-      let more = flat_map piece_spelling ps in
-      subst (λ t. Takes (flat_map piece_spelling (letter b ∷ ps)) (within false escapes s d ds) (within false (escapes-after true ps) t d ds)) (simp append_assoc)
-      (takes-byte Slash 92 (b ∷ more) (within false escapes s d ds) (within true true (s ++ 92 ∷ []) d ds) _ refl tt (λ new e. e) refl
-      (takes-byte Keep b more (within true true (s ++ 92 ∷ []) d ds) (within false true mid d ds) _ refl tt (λ new e. e) refl (pieces ps mid true d ds good.1)))
-  pieces (unit a b c x ∷ ps) s escapes d ds good =
-      let mid : List ℕ = (s ++ 92 ∷ []) ++ 117 ∷ [] in
-      let digits : List ℕ = a ∷ b ∷ c ∷ x ∷ [] in
-      let more = flat_map piece_spelling ps in
-      subst (λ t. Takes (flat_map piece_spelling (unit a b c x ∷ ps)) (within false escapes s d ds) (within false (escapes-after true ps) t d ds)) (simp append_assoc)
-      (takes-byte Slash 92 (117 ∷ digits ++ more) (within false escapes s d ds) (within true true (s ++ 92 ∷ []) d ds) _ refl tt (λ new e. e) refl
-      (takes-byte Keep 117 (digits ++ more) (within true true (s ++ 92 ∷ []) d ds) (within false true mid d ds) _ refl tt (λ new e. e) refl
-      (takes-append digits more (within false true mid d ds) (within false true (mid ++ digits) d ds) _ (plains digits mid true d ds (list_all-each _ is_plain hex-plain digits good.0)) (pieces ps (mid ++ digits) true d ds good.1))))
+  pieces (p ∷ ps) s escapes d ds good =
+      let bytes = piece_spelling p in
+      subst (λ t. Takes (flat_map piece_spelling (p ∷ ps)) (within false escapes s d ds) (within false (escapes-after escapes (p ∷ ps)) t d ds)) (append_assoc s bytes (flat_map piece_spelling ps))
+      (takes-append bytes (flat_map piece_spelling ps) _ (within false (escaped escapes p) (s ++ bytes) d ds) _ (piece p s escapes d ds good.0) (pieces ps (s ++ bytes) (escaped escapes p) d ds good.1))
 
   string-ready : (ps : List Piece) (rest : List ℕ) (d : Drafted) (ds : List Drafted) → AllByRecursion IsPiece ps
       → Is (between (grown d (quote (content ps))) ds) rest → Is (between d ds) (string_spelling ps ++ rest)
@@ -190,13 +184,13 @@ module _ (written : List ℕ) where
       )
 
   -- ---- the names of members
-  name-ready : (l : Label) (rest : List ℕ) (ms : List Member) (ds : List Drafted) → IsLabel object l
-      → Is (between (draft ms (Some (quote (label_name l))) [] 0) ds) rest → Is (between (draft ms None [] 0) ds) (label_spelling l ++ rest)
-  name-ready (unnamed before) rest ms ds good r = absurd good
-  name-ready (named before name middle after) rest ms ds good r =
-      subst (Is (between (draft ms None [] 0) ds)) (sym (regroup-next before (string_spelling name) middle 58 after rest))
+  name-ready : (l : Label) (rest : List ℕ) (d : Drafted) (ds : List Drafted) → IsLabel object l
+      → Is (between (labelled d (quote (label_name l))) ds) rest → Is (between d ds) (label_spelling l ++ rest)
+  name-ready (unnamed before) rest d ds good r = absurd good
+  name-ready (named before name middle after) rest d ds good r =
+      subst (Is (between d ds)) (sym (regroup-next before (string_spelling name) middle 58 after rest))
       (blank-ready before _ _ ds good.0 (string-ready name _ _ ds good.1 (blank-ready middle _ _ ds good.2
-      (refl, λ new e. subst (λ w. Is w (after ++ rest)) (sym e) (blank-ready after rest _ ds good.3 r)))))
+      (tt, λ new e. subst (λ w. Is w (after ++ rest)) (sym e) (blank-ready after rest _ ds good.3 r)))))
 
   space-ready : (l : Label) (rest : List ℕ) (d : Drafted) (ds : List Drafted) → IsLabel array l → Is (between d ds) rest → Is (between d ds) (label_spelling l ++ rest)
   space-ready (unnamed before) rest d ds good r = blank-ready before rest d ds good r
@@ -204,83 +198,83 @@ module _ (written : List ℕ) where
 
   -- ---- values
   mutual
-    pub tree-ready : (tree : Tree) (rest : List ℕ) (ms : List Member) (n : Option (List ℕ)) (c : List ℕ) (l : ℕ) (ds : List Drafted) → IsGood tree
-        → Is (between (draft ms n (c ++ compact tree) l) ds) rest → Is (between (draft ms n c l) ds) (spelling tree ++ rest)
-    tree-ready (scalar literal) rest ms n c l ds good r = (literals literal (draft ms n c l) ds (literal-plain literal good) rest).0 r
-    tree-ready (text pieces) rest ms n c l ds good r = string-ready pieces rest (draft ms n c l) ds good r
-    tree-ready (empty array blank) rest ms n c l ds good r =
-        let back : l + 1 - 1 ≡ l = omega arith in
-        (tt, λ new e. rw (e, append_assoc blank (93 ∷ []) rest) (blank-ready blank (93 ∷ rest) _ ds good (tt, λ other is. rw (is, back, one-more c 91 (93 ∷ [])) r)))
-    tree-ready (empty object blank) rest ms n c l ds good r = (
+    pub tree-ready : (tree : Tree) (rest : List ℕ) (d : Drafted) (ds : List Drafted) → IsGood tree
+        → Is (between (grown d (compact tree)) ds) rest → Is (between d ds) (spelling tree ++ rest)
+    tree-ready (scalar literal) rest d ds good r = (literals literal d ds (literal-plain literal good) rest).0 r
+    tree-ready (text pieces) rest d ds good r = string-ready pieces rest d ds good r
+    tree-ready (empty array blank) rest d ds good r =
+        let back : d.level + 1 - 1 ≡ d.level = omega arith in
+        (tt, λ new e. rw (e, append_assoc blank (93 ∷ []) rest) (blank-ready blank (93 ∷ rest) _ ds good (tt, λ other is. rw (is, back, one-more d.text 91 (93 ∷ [])) r)))
+    tree-ready (empty object blank) rest d ds good r = (
       tt,
       λ new e. rw (e, append_assoc blank (125 ∷ []) rest) (blank-ready blank (125 ∷ rest) _ _ good (
-        record { outer = ds; next = draft ms n (c ++ 123 ∷ []) l; open_in = refl; none = λ none. (refl, refl) },
-        λ other done. rw (done ds (draft ms n (c ++ 123 ∷ []) l) refl, append-nil (c ++ 123 ∷ []), one-more c 123 (125 ∷ [])) r,
+        record { outer = ds; next = grown d (123 ∷ []); open_in = refl; whole = record { within = (row_none.there []).0; written = refl } },
+        λ other done. rw (done ds (grown d (123 ∷ [])) refl, append-nil (d.text ++ 123 ∷ []), one-more d.text 123 (125 ∷ [])) r,
       )),
     )
-    tree-ready (filled array values) rest ms n c l ds good r = (
+    tree-ready (filled array values) rest d ds good r = (
       tt,
-      λ new e. rw (e, append_assoc (values_spelling values) (93 ∷ []) rest) (items-ready values rest ms n (c ++ 91 ∷ []) l ds good
-          (subst (λ s. Is (between (draft ms n s l) ds) rest) (ap (λ s. c ++ s) (array-items values) ∙ sym (one-more c 91 (items_text values))) r)),
+      λ new e. rw (e, append_assoc (values_spelling values) (93 ∷ []) rest) (items-ready values rest (grown d (91 ∷ [])) ds good
+          (subst (λ s. Is (between (record d { text = s }) ds) rest) (ap (λ s. d.text ++ s) (array-items values) ∙ sym (one-more d.text 91 (items_text values))) r)),
     )
-    tree-ready (filled object values) rest ms n c l ds good r =
-        let o : Drafted = draft ms n (c ++ 123 ∷ []) l in (
-          tt,
-          λ new e. rw (e, append_assoc (values_spelling values) (125 ∷ []) rest)
-              (members-ready values rest [] o ds good (subst (λ s. Is (between (draft ms n s l) ds) rest) (object-shut values good c) r)),
-        )
+    tree-ready (filled object values) rest d ds good r = (
+      tt,
+      λ new e. rw (e, append_assoc (values_spelling values) (125 ∷ []) rest)
+          (members-ready values rest [] fresh (grown d (123 ∷ [])) ds row_none good (subst (λ s. Is (between (record d { text = s }) ds) rest) (object-shut values good d.text) r)),
+    )
 
-    items-ready : (values : Values) (rest : List ℕ) (ms : List Member) (n : Option (List ℕ)) (c : List ℕ) (l : ℕ) (ds : List Drafted) → AreGood array values
-        → Is (between (draft ms n (c ++ items_text values) l) ds) rest → Is (between (draft ms n c (l + 1)) ds) (values_spelling values ++ 93 ∷ rest)
-    items-ready (last label value blank) rest ms n c l ds good r =
-        let back : l + 1 - 1 ≡ l = omega arith in
-        subst (Is (between (draft ms n c (l + 1)) ds)) (sym (regroup-last (label_spelling label) (spelling value) blank (93 ∷ rest)))
-        (space-ready label _ _ ds good.0 (tree-ready value _ ms n c (l + 1) ds good.1 (blank-ready blank _ _ ds good.2
-        (tt, λ new e. subst (λ w. Is w rest) (sym e) (rw (back, append_assoc c (compact value) (93 ∷ [])) r)))))
-    items-ready (next label value blank values) rest ms n c l ds good r =
-        let deep : eqb (l + 1) 0 ≡ false = grind (arith, nat_tests) in
-        subst (Is (between (draft ms n c (l + 1)) ds)) (sym (regroup-next (label_spelling label) (spelling value) blank 44 (values_spelling values) (93 ∷ rest)))
-        (space-ready label _ _ ds good.0 (tree-ready value _ ms n c (l + 1) ds good.1 (blank-ready blank _ _ ds good.2
-        (rw deep (
+    items-ready : (values : Values) (rest : List ℕ) (d : Drafted) (ds : List Drafted) → AreGood array values
+        → Is (between (grown d (items_text values)) ds) rest → Is (between (record d { level = d.level + 1 }) ds) (values_spelling values ++ 93 ∷ rest)
+    items-ready (last label value blank) rest d ds good r =
+        let deep : Drafted = record d { level = d.level + 1 } in
+        let back : d.level + 1 - 1 ≡ d.level = omega arith in
+        subst (Is (between deep ds)) (sym (regroup-last (label_spelling label) (spelling value) blank (93 ∷ rest)))
+        (space-ready label _ _ ds good.0 (tree-ready value _ deep ds good.1 (blank-ready blank _ _ ds good.2
+        (tt, λ new e. subst (λ w. Is w rest) (sym e) (rw (back, append_assoc d.text (compact value) (93 ∷ [])) r)))))
+    items-ready (next label value blank values) rest d ds good r =
+        let deep : Drafted = record d { level = d.level + 1 } in
+        let some : eqb (d.level + 1) 0 ≡ false = grind (arith, nat_tests) in
+        subst (Is (between deep ds)) (sym (regroup-next (label_spelling label) (spelling value) blank 44 (values_spelling values) (93 ∷ rest)))
+        (space-ready label _ _ ds good.0 (tree-ready value _ deep ds good.1 (blank-ready blank _ _ ds good.2
+        (rw some (
           tt,
           λ new e. subst (λ w. Is w (values_spelling values ++ 93 ∷ rest)) (sym e)
-              (items-ready values rest ms n ((c ++ compact value) ++ 44 ∷ []) l ds good.3
-              (subst (λ s. Is (between (draft ms n s l) ds) rest) (items-step c (compact value) values) r)),
+              (items-ready values rest (grown (grown d (compact value)) (44 ∷ [])) ds good.3
+              (subst (λ s. Is (between (record d { text = s }) ds) rest) (items-step d.text (compact value) values) r)),
         )))))
 
-    members-ready : (values : Values) (rest : List ℕ) (done : List Member) (o : Drafted) (ds : List Drafted) → AreGood object values
+    members-ready : (values : Values) (rest : List ℕ) (done : List Member) (d o : Drafted) (ds : List Drafted) → IsRow done d → AreGood object values
         → Is (between (grown (grown o (pairs_text (collapsed (done ++ map quoted (members values))))) (125 ∷ [])) ds) rest
-        → Is (between (draft done None [] 0) (ds ++ o ∷ [])) (values_spelling values ++ 125 ∷ rest)
-    members-ready (last label value blank) rest done o ds good r =
-        subst (Is (between (draft done None [] 0) (ds ++ o ∷ []))) (sym (regroup-last (label_spelling label) (spelling value) blank (125 ∷ rest)))
-        (name-ready label _ done _ good.0 (tree-ready value _ done (Some (quote (label_name label))) [] 0 _ good.1 (blank-ready blank _ _ _ good.2 (
-          record { outer = ds; next = o; open_in = refl; none = λ none. some-none none },
-          λ new is. subst (λ w. Is w rest) (sym (is ds o refl)) r,
+        → Is (between d (ds ++ o ∷ [])) (values_spelling values ++ 125 ∷ rest)
+    members-ready (last label value blank) rest done d o ds row good r =
+        let name = quote (label_name label) in
+        subst (Is (between d (ds ++ o ∷ []))) (sym (regroup-last (label_spelling label) (spelling value) blank (125 ∷ rest)))
+        (name-ready label _ d _ good.0 (tree-ready value _ (labelled d name) _ good.1 (blank-ready blank _ _ _ good.2 (
+          record { outer = ds; next = o; open_in = refl; whole = whole done d row name (compact value) },
+          λ new is. subst (λ w. Is w rest) (sym (is ds o refl ∙ ap (λ c. between (grown (grown o c) (125 ∷ [])) ds) (closed_so done d row name (compact value)))) r,
         ))))
-    members-ready (next label value blank values) rest done o ds good r =
-        subst (Is (between (draft done None [] 0) (ds ++ o ∷ []))) (sym (regroup-next (label_spelling label) (spelling value) blank 44 (values_spelling values) (125 ∷ rest)))
-        (name-ready label _ done _ good.0 (tree-ready value _ done (Some (quote (label_name label))) [] 0 _ good.1 (blank-ready blank _ _ _ good.2 (
-          (quote (label_name label), refl),
+    members-ready (next label value blank values) rest done d o ds row good r =
+        let name = quote (label_name label) in
+        let flat : eqb d.level 0 ≡ true = rw row.level refl in
+        subst (Is (between d (ds ++ o ∷ []))) (sym (regroup-next (label_spelling label) (spelling value) blank 44 (values_spelling values) (125 ∷ rest)))
+        (name-ready label _ d _ good.0 (tree-ready value _ (labelled d name) _ good.1 (blank-ready blank _ _ _ good.2 (rw flat (
+          tt,
           λ new is. subst (λ w. Is w (values_spelling values ++ 125 ∷ rest)) (sym is)
-              (members-ready values rest (done ++ (quote (label_name label), compact value) ∷ []) o ds good.3
-              (subst (λ ms. Is (between (grown (grown o (pairs_text (collapsed ms))) (125 ∷ [])) ds) rest)
-              (sym (append_assoc done ((quote (label_name label), compact value) ∷ []) (map quoted (members values)))) r)),
-        ))))
+              (members-ready values rest (done ++ (name, compact value) ∷ []) _ o ds (row_more done d row name (compact value)) good.3
+              (subst (λ ms. Is (between (grown (grown o (pairs_text (collapsed ms))) (125 ∷ [])) ds) rest) (sym (append_assoc done ((name, compact value) ∷ []) (map quoted (members values)))) r)),
+        )))))
 
   -- ---- stretches, by their first bytes
-  module _ (xs more : List ℕ) (d : Drafted) (ds : List Drafted) (b : ℕ) (others : List ℕ) (first : xs ≡ b ∷ others) where
+  module _ (b : ℕ) (xs more : List ℕ) (d : Drafted) (ds : List Drafted) where
     -- in a string
-    pub stretch-quoted : (s : List ℕ) (escaped escapes : Bool) → AreAlike ground.Quoted xs → Is (within escaped escapes s d ds) (xs ++ more) → Is (within false escapes (s ++ xs) d ds) more
-    stretch-quoted s escaped escapes plain =
-        let all = subst (AllByRecursion (λ x. is_plain x ≡ true)) first plain in
-        subst (λ ys. Is (within escaped escapes s d ds) (ys ++ more) → Is (within false escapes (s ++ ys) d ds) more) (sym first)
-        (plain-first b others s escaped escapes d ds all.0 (plains others (s ++ b ∷ []) escapes d ds (all-pass is_plain is_plain (λ x e. e) others all.1)) more).1
+    pub stretch-quoted : (s : List ℕ) (escaped escapes : Bool) → AreAlike ground.Quoted (b ∷ xs) → Is (within escaped escapes s d ds) (b ∷ xs ++ more) → Is (within false escapes (s ++ b ∷ xs) d ds) more
+    stretch-quoted s escaped escapes plain = (plain-first b xs s escaped escapes d ds plain.0 (plains xs (s ++ b ∷ []) escapes d ds (all-pass is_plain is_plain (λ x e. e) xs plain.1)) more).1
 
     -- outside strings white space is dropped, and digits are appended
-    pub stretch-appended : AreAlike ground.Between xs → is_space b ≡ false → Is (between d ds) (xs ++ more) → Is (between (grown d xs) ds) more
-    stretch-appended (inl blank) solid = absurd (false≢true (sym solid ∙ (subst (AllByRecursion (λ x. is_space x ≡ true)) first blank).0))
-    stretch-appended (inr digits) solid = (literals xs d ds (all-pass is_digit is_part_of_literal digit-part xs digits) more).1
+    pub stretch-appended : AreAlike ground.Between (b ∷ xs) → is_space b ≡ false → Is (between d ds) (b ∷ xs ++ more) → Is (between (grown d (b ∷ xs)) ds) more
+    stretch-appended (inl blank) solid = absurd (false≢true (sym solid ∙ blank.0))
+    stretch-appended (inr digits) solid = (literals (b ∷ xs) d ds (all-pass is_digit is_part_of_literal digit-part (b ∷ xs) digits) more).1
 
-    pub stretch-dropped : AreAlike ground.Between xs → is_space b ≡ true → Is (between d ds) (xs ++ more) → Is (between d ds) more
-    stretch-dropped (inl blank) space = (blanks xs d ds (all-pass is_space is_space (λ x e. e) xs blank) more).1
-    stretch-dropped (inr digits) space = absurd (false≢true (sym (digit-solid b (subst (AllByRecursion (λ x. is_digit x ≡ true)) first digits).0) ∙ space))
+    pub stretch-dropped : AreAlike ground.Between (b ∷ xs) → is_space b ≡ true → Is (between d ds) (b ∷ xs ++ more) → Is (between d ds) more
+    stretch-dropped (inl blank) space = (blanks (b ∷ xs) d ds (all-pass is_space is_space (λ x e. e) (b ∷ xs) blank) more).1
+    stretch-dropped (inr digits) space = absurd (false≢true (sym (digit-solid b digits.0) ∙ space))

@@ -3,9 +3,7 @@ use Rattle.std.proofs.Common.{◌≡◌, ◌⊎◌, ℕ, ◌+◌, ◌-◌, ◌*�
 use Rattle.std.proofs.lemmas.Bool.{cases_lt, cases_eq, and_parts, and_from, leb-true, le-leb, le-ltb, lt-ltb}
 use Rattle.std.specs.Char.{encode_utf8, IsScalar}
 use lib.Utf8.{scalar, scalar_cases, low_scalar, next}
-use Rattle.json_reader.specs.declared.sequence.Tail.{Tail}
-use Rattle.json_reader.specs.declared.sequence.Tail.TheVariants.{One, Two, Three, Long3, Low3, Long4, Low4}
-use Rattle.json_reader.specs.Machine.{tail_led, tail_fits, tail_after}
+use Rattle.json_reader.specs.Machine.{Tail, One, Two, Three, Long3, Low3, Long4, Low4, tail_led, tail_fits, tail_after}
 
 abbrev pub on_tail : (Tail → Type 0) → Type 0 → Option Tail → Type 0
 on_tail goes over None = over

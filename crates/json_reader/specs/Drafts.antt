@@ -1,8 +1,8 @@
 -- What is written of an object under way. Only contracts of private functions cite this. This project's own.
-use Rattle.std.specs.Prelude.{◌≡◌, ℕ, ◌≤◌, List, [], ◌∷◌, ◌++◌, Option, None, Some, length, drop, map, flat_map}
+use Rattle.std.specs.Prelude.{◌≡◌, ℕ, ◌+◌, List, [], ◌∷◌, ◌++◌, Option, None, Some, length, map}
 use Rattle.std.specs.List.{join_with_byte}
 use Rattle.json_text.specs.Compact.{Member, collapsed}
-use Rattle.json_reader.specs.Places.{cut, entries, IsWithin, AreWithin}
+use Rattle.json_reader.specs.Places.{entries, AreWithin}
 use Rattle.json_reader.specs.declared.collapsing.Span.{Span}
 use Rattle.json_reader.specs.declared.collapsing.Place.{Place}
 
@@ -13,53 +13,45 @@ pair_text member = member.0 ++ 58 ∷ member.1
 abbrev pub pairs_text : List Member → List ℕ
 pairs_text members = join_with_byte 44 (map pair_text members)
 
--- Of the innermost object that is open, or of the text outside objects: its whole members, the name of the one under way,
--- what is written behind that, and how many arrays are open in it. Names are quoted.
+-- Of the innermost object that is open, or of the text outside objects: its text, where what stands behind its last colon or
+-- comma begins, where the name of the member under way stands, where its whole members stand, and how many arrays are open
+-- in it.
 pub record Drafted : Type 0 where
-  pub members : List Member
-  pub name : Option (List ℕ)
-  pub current : List ℕ
+  pub text : List ℕ
+  pub from : ℕ
+  pub name : Option Span
+  pub places : List Place
   pub level : ℕ
 
 -- nothing is written
 abbrev pub fresh : Drafted
-fresh = record { members = []; name = None; current = []; level = 0 }
+fresh = record { text = []; from = 0; name = None; places = []; level = 0 }
 
 -- more is written
 abbrev pub grown : Drafted → List ℕ → Drafted
-grown draft more = record draft { current = draft.current ++ more }
-
--- the members with the one of this name and value, if there is a name
-abbrev pub with_last : List Member → Option (List ℕ) → List ℕ → List Member
-with_last members None value = members
-with_last members (Some name) value = members ++ (name, value) ∷ []
-
--- what stands between the brackets of the object, each name once
-abbrev pub closed : Drafted → List ℕ
-closed draft = pairs_text (collapsed (with_last draft.members draft.name draft.current))
-
--- what stands before the text that is current
-abbrev pub front : List Member → Option (List ℕ) → List ℕ
-front members None = flat_map (λ (member : Member). pair_text member ++ 44 ∷ []) members
-front members (Some name) = flat_map (λ (member : Member). pair_text member ++ 44 ∷ []) members ++ (name ++ 58 ∷ [])
-
--- the name that stands there
-abbrev pub named_there : List ℕ → Option Span → Option (List ℕ)
-named_there text None = None
-named_there text (Some span) = Some (cut text span)
-
-abbrev pub IsNameWithin : ℕ → Option Span → Type 0
-IsNameWithin size None = Unit {0}
-IsNameWithin size (Some span) = IsWithin size span
+grown draft more = record draft { text = draft.text ++ more }
 
 -- the places with that of the member of this name and value, if there is a name
 abbrev pub placed : List Place → Option Span → Span → List Place
 placed places None value = places
 placed places (Some name) value = places ++ record { name = name; value = value } ∷ []
 
--- The text is of these members, this name and what is current behind them.
-pub record IsDraft (text : List ℕ) (from : ℕ) (name : Option Span) (places : List Place) : Type 0 where
-  pub within : from ≤ length text
-  pub named : IsNameWithin (length text) name
-  pub placed : AreWithin (length text) places
-  pub written : text ≡ front (entries text places) (named_there text name) ++ drop from text
+-- the places where a member ends at an offset
+abbrev pub placed_to : ℕ → Drafted → List Place
+placed_to end draft = placed draft.places draft.name (record { start = draft.from; end = end })
+
+-- a name ends at an offset, or a member
+abbrev pub named : ℕ → Drafted → Drafted
+named end draft = record draft { name = Some (record { start = draft.from; end = end }); from = end + 1 }
+
+abbrev pub parted : ℕ → Drafted → Drafted
+parted end draft = record draft { places = placed_to end draft; name = None; from = end + 1 }
+
+-- The text is of whole members.
+pub record IsWhole (draft : Drafted) : Type 0 where
+  pub within : AreWithin (length draft.text) (placed_to (length draft.text) draft)
+  pub written : draft.text ≡ pairs_text (entries draft.text (placed_to (length draft.text) draft))
+
+-- what stands between the brackets of the object, each name once
+abbrev pub closed : Drafted → List ℕ
+closed draft = pairs_text (collapsed (entries draft.text (placed_to (length draft.text) draft)))

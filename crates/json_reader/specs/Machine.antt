@@ -1,41 +1,31 @@
 -- What each byte does to the machine that reads a value. This project's own, over the grammar of RFC 8259.
 -- Only contracts of private functions cite this.
-use Rattle.std.specs.Prelude.{◌≡◌, ℕ, ◌+◌, ◌-◌, Option, Some, None, List, [], ◌∷◌, length, drop, is_none, is_some, Bool, true, false, not, ◌&&◌, ◌||◌, ◌==◌, nat_lt, nat_le, if◌then◌else◌}
+use Rattle.std.specs.Prelude.{◌≡◌, ℕ, zero, suc, ◌+◌, ◌-◌, Option, Some, None, List, [], ◌∷◌, length, drop, slice_index, is_none, Bool, true, false, not, ◌&&◌, ◌||◌, ◌==◌, nat_lt, nat_le, if◌then◌else◌}
 use Rattle.json_text.specs.Characters.{is_space, is_digit, is_hex}
 use Rattle.json_text.specs.Tree.{Container, array, object, closing, letter_meaning}
 use Rattle.json_text.specs.Value.{extends_number}
-use Rattle.json_reader.specs.declared.fault.JsonFault.{JsonFault}
-use Rattle.json_reader.specs.declared.fault.JsonFault.TheVariants.{Syntax, Depth, Utf8}
-use Rattle.json_reader.specs.declared.number.Part.{Part}
-use Rattle.json_reader.specs.declared.number.Part.TheVariants.{Minus, Zero, Whole, Dot, Fraction, Letter, Sign, Exponent}
-use Rattle.json_reader.specs.declared.sequence.Tail.{Tail}
-use Rattle.json_reader.specs.declared.sequence.Tail.TheVariants.{One, Two, Three, Long3, Low3, Long4, Low4}
-use Rattle.json_reader.specs.declared.brackets.Bracket.{Bracket}
-use Rattle.json_reader.specs.declared.brackets.Bracket.TheVariants.{Square, Curly}
-use Rattle.json_reader.specs.declared.machine.Role.{Role}
-use Rattle.json_reader.specs.declared.machine.Role.TheVariants as role
-use Rattle.json_reader.specs.declared.machine.Place.{Place}
-use Rattle.json_reader.specs.declared.machine.Place.TheVariants.{Plain, Escape, Hex, Sequence}
-use Rattle.json_reader.specs.declared.machine.Letters.{Letters}
-use Rattle.json_reader.specs.declared.machine.Letters.TheVariants.{Ull, Ll, L, Rue, Ue, Alse, Lse, Se, E}
-use Rattle.json_reader.specs.declared.machine.Mode.{Mode}
-use Rattle.json_reader.specs.declared.machine.Mode.TheVariants.{Fresh, Name, Colon, After, Quoted, Number, Word}
-use Rattle.json_reader.specs.declared.machine.Mode.TheVariants as mode
-use Rattle.json_reader.specs.declared.machine.Machine.{Machine}
-use Rattle.json_reader.specs.declared.machine.Step.{Step}
-use Rattle.json_reader.specs.declared.machine.Step.TheVariants.{On, Ended, Refused}
-use Rattle.json_reader.specs.declared.machine.Move.{Move}
-use Rattle.json_reader.specs.declared.machine.Move.TheVariants.{To, Open, Close, End, Refuse}
+pub use Rattle.json_reader.specs.declared.fault.JsonFault.{JsonFault}
+pub use Rattle.json_reader.specs.declared.fault.JsonFault.TheVariants.{Syntax, Depth, Utf8}
+pub use Rattle.json_reader.specs.declared.number.Part.{Part}
+pub use Rattle.json_reader.specs.declared.number.Part.TheVariants.{Minus, Zero, Whole, Dot, Fraction, Letter, Sign, Exponent}
+pub use Rattle.json_reader.specs.declared.sequence.Tail.{Tail}
+pub use Rattle.json_reader.specs.declared.sequence.Tail.TheVariants.{One, Two, Three, Long3, Low3, Long4, Low4}
+pub use Rattle.json_reader.specs.declared.brackets.Bracket.{Bracket}
+pub use Rattle.json_reader.specs.declared.brackets.Bracket.TheVariants.{Square, Curly}
+pub use Rattle.json_reader.specs.declared.machine.Role.{Role}
+pub use Rattle.json_reader.specs.declared.machine.Place.{Place}
+pub use Rattle.json_reader.specs.declared.machine.Place.TheVariants.{Plain, Escape, Hex, Sequence}
+pub use Rattle.json_reader.specs.declared.machine.Letters.{Letters}
+pub use Rattle.json_reader.specs.declared.machine.Letters.TheVariants.{Ull, Ll, L, Rue, Ue, Alse, Lse, Se, E}
+pub use Rattle.json_reader.specs.declared.machine.Mode.{Mode}
+pub use Rattle.json_reader.specs.declared.machine.Mode.TheVariants.{Fresh, Name, Colon, After, Quoted, Number, Word}
+pub use Rattle.json_reader.specs.declared.machine.Machine.{Machine}
+pub use Rattle.json_reader.specs.declared.machine.Step.{Step}
+pub use Rattle.json_reader.specs.declared.machine.Step.TheVariants.{On, Ended, Refused}
+pub use Rattle.json_reader.specs.declared.machine.Move.{Move}
+pub use Rattle.json_reader.specs.declared.machine.Move.TheVariants.{To, Open, Close, End, Refuse}
 
 -- ---- numbers
--- the part that this byte begins a whole number with
-abbrev pub whole_begun : ℕ → Option Part
-whole_begun b = if b == 48 then Some Zero else (if is_digit b then Some Whole else None)
-
--- the part that this byte begins a number with
-abbrev pub part_begun : ℕ → Option Part
-part_begun b = if b == 45 then Some Minus else whole_begun b
-
 -- the part that may follow a fraction: an exponent
 abbrev pub after_fraction : ℕ → Option Part
 after_fraction b = if b == 101 || b == 69 then Some Letter else None
@@ -46,7 +36,7 @@ after_whole b = if b == 46 then Some Dot else after_fraction b
 
 -- the part that a number has come to after one more byte
 abbrev pub part_after : Part → ℕ → Option Part
-part_after Minus b = whole_begun b
+part_after Minus b = if b == 48 then Some Zero else (if is_digit b then Some Whole else None)
 part_after Zero b = after_whole b
 part_after Whole b = if is_digit b then Some Whole else after_whole b
 part_after Dot b = if is_digit b then Some Fraction else None
@@ -54,6 +44,10 @@ part_after Fraction b = if is_digit b then Some Fraction else after_fraction b
 part_after Letter b = if b == 43 || b == 45 then Some Sign else (if is_digit b then Some Exponent else None)
 part_after Sign b = if is_digit b then Some Exponent else None
 part_after Exponent b = if is_digit b then Some Exponent else None
+
+-- the part that this byte begins a number with
+abbrev pub part_begun : ℕ → Option Part
+part_begun b = if b == 45 then Some Minus else part_after Minus b
 
 -- a number may end after this part
 abbrev pub is_complete : Part → Bool
@@ -101,17 +95,21 @@ tail_length Low4 = 3
 tail_length tail = 2
 
 -- ---- words
+-- how the letters are spelled that must still come
+abbrev pub letters_of : Letters → List ℕ
+letters_of Ull = 117 ∷ 108 ∷ 108 ∷ []
+letters_of Ll = 108 ∷ 108 ∷ []
+letters_of L = 108 ∷ []
+letters_of Rue = 114 ∷ 117 ∷ 101 ∷ []
+letters_of Ue = 117 ∷ 101 ∷ []
+letters_of Alse = 97 ∷ 108 ∷ 115 ∷ 101 ∷ []
+letters_of Lse = 108 ∷ 115 ∷ 101 ∷ []
+letters_of Se = 115 ∷ 101 ∷ []
+letters_of E = 101 ∷ []
+
 -- the letter that must come next
 abbrev pub first_letter : Letters → ℕ
-first_letter Ull = 117
-first_letter Ll = 108
-first_letter L = 108
-first_letter Rue = 114
-first_letter Ue = 117
-first_letter Alse = 97
-first_letter Lse = 108
-first_letter Se = 115
-first_letter E = 101
+first_letter letters = slice_index (letters_of letters) 0
 
 -- the letters that must come after it
 abbrev pub letters_after : Letters → Option Letters
@@ -130,10 +128,6 @@ abbrev pub word_on : Option Letters → Move
 word_on (Some letters) = To (Word letters)
 word_on None = To After
 
--- a letter of a word
-abbrev pub word_move : Letters → ℕ → Move
-word_move letters b = if first_letter letters == b then word_on (letters_after letters) else Refuse
-
 -- ---- between values
 -- what the bracket opens
 abbrev pub container_of : Bracket → Container
@@ -146,7 +140,7 @@ closes_bracket bracket b = b == closing (container_of bracket)
 
 -- what must come after a comma
 abbrev pub after_comma : Bracket → Mode
-after_comma Square = mode.Value
+after_comma Square = Mode.Value
 after_comma Curly = Name
 
 -- behind a value
@@ -158,63 +152,32 @@ after_move (Some bracket) b =
     else (if b == 44 then To (after_comma bracket)
     else Refuse))
 
--- what a byte does that begins a number, by the part that it begins with
-abbrev pub number_on : Option Part → Move
-number_on (Some part) = To (Number part)
-number_on None = Refuse
-
 -- what a byte does in a number, by the part that it goes on with and by whether the number may end before it
 abbrev pub number_move_on : Option Part → Bool → Option Bracket → ℕ → Move
 number_move_on (Some part) ends top b = To (Number part)
 number_move_on None ends top b = if ends then after_move top b else Refuse
 
--- in a number
-abbrev pub number_move : Part → Option Bracket → ℕ → Move
-number_move part top b = number_move_on (part_after part b) (is_complete part && not (extends_number b)) top b
-
 -- where a value must come, but for white space
 abbrev pub value_begun : ℕ → Move
 value_begun b =
-    if b == 34 then To (Quoted role.Value Plain)
+    if b == 34 then To (Quoted Role.Value Plain)
     else (if b == 91 then Open Square
     else (if b == 123 then Open Curly
     else (if b == 110 then To (Word Ull)
     else (if b == 116 then To (Word Rue)
     else (if b == 102 then To (Word Alse)
-    else number_on (part_begun b))))))
-
--- where a value must come
-abbrev pub value_move : ℕ → Move
-value_move b = if is_space b then To mode.Value else value_begun b
-
--- where a name must come, but for white space
-abbrev pub name_begun : ℕ → Move
-name_begun b = if b == 34 then To (Quoted role.Name Plain) else Refuse
-
--- where a name must come
-abbrev pub name_move : ℕ → Move
-name_move b = if is_space b then To Name else name_begun b
-
--- where a colon must come
-abbrev pub colon_move : ℕ → Move
-colon_move b = if is_space b then To Colon else (if b == 58 then To mode.Value else Refuse)
+    else number_move_on (part_begun b) false None b)))))
 
 -- the first value or name in a container
 abbrev pub first_move : Bracket → ℕ → Move
 first_move Square b = value_begun b
-first_move Curly b = name_begun b
-
--- behind an opening bracket
-abbrev pub fresh_move : Option Bracket → ℕ → Move
-fresh_move None b = End
-fresh_move (Some bracket) b =
-    if is_space b then To Fresh else (if closes_bracket bracket b then Close else first_move bracket b)
+first_move Curly b = if b == 34 then To (Quoted Role.Name Plain) else Refuse
 
 -- ---- strings
 -- what comes behind a string
 abbrev pub after_string : Role → Mode
-after_string role.Name = Colon
-after_string role.Value = After
+after_string Role.Name = Colon
+after_string Role.Value = After
 
 -- what a byte of 0x80 or more does between two characters, by what must come after it
 abbrev pub led_on : Role → Option Tail → Move
@@ -225,76 +188,41 @@ led_on r None = Refuse
 abbrev pub is_bare : ℕ → Bool
 is_bare b = nat_le 0x20 b && (nat_lt b 0x80 && (not (b == 34) && not (b == 92)))
 
--- between two characters of a string
-abbrev pub plain_move : Role → ℕ → Move
-plain_move r b =
-    if b == 34 then To (after_string r)
-    else (if b == 92 then To (Quoted r Escape)
-    else (if nat_lt b 0x20 then Refuse
-    else (if nat_lt b 0x80 then To (Quoted r Plain)
-    else led_on r (tail_led b))))
-
--- behind a `\`
-abbrev pub escape_move : Role → ℕ → Move
-escape_move r b =
-    if b == 117 then To (Quoted r (Hex 3)) else (if letter_meaning b == 0 then Refuse else To (Quoted r Plain))
-
 -- behind a digit of base 16 that so many more must follow
 abbrev pub after_digit : ℕ → Place
-after_digit more = if more == 0 then Plain else Hex (more - 1)
-
--- among the digits of base 16 of an escape
-abbrev pub hex_move : Role → ℕ → ℕ → Move
-hex_move r more b = if is_hex b then To (Quoted r (after_digit more)) else Refuse
+after_digit zero = Plain
+after_digit (suc more) = Hex more
 
 -- behind a byte of a sequence, by what must come after it
 abbrev pub in_sequence : ℕ → Option Tail → Place
 in_sequence length (Some tail) = Sequence length tail
 in_sequence length None = Plain
 
--- in a sequence of UTF-8
-abbrev pub sequence_move : Role → ℕ → Tail → ℕ → Move
-sequence_move r length tail b = if tail_fits tail b then To (Quoted r (in_sequence length (tail_after tail))) else Refuse
-
 -- in a string
 abbrev pub string_move : Role → Place → ℕ → Move
-string_move r Plain b = plain_move r b
-string_move r Escape b = escape_move r b
-string_move r (Hex more) b = hex_move r more b
-string_move r (Sequence length tail) b = sequence_move r length tail b
+string_move r Plain b =
+    if b == 34 then To (after_string r)
+    else (if b == 92 then To (Quoted r Escape)
+    else (if nat_lt b 0x20 then Refuse
+    else (if nat_lt b 0x80 then To (Quoted r Plain)
+    else led_on r (tail_led b))))
+string_move r Escape b =
+    if b == 117 then To (Quoted r (Hex 3)) else (if letter_meaning b == 0 then Refuse else To (Quoted r Plain))
+string_move r (Hex more) b = if is_hex b then To (Quoted r (after_digit more)) else Refuse
+string_move r (Sequence length tail) b = if tail_fits tail b then To (Quoted r (in_sequence length (tail_after tail))) else Refuse
 
 -- ---- the machine
 -- what a byte does in a mode, where this bracket is the innermost open one
 abbrev pub moved : Mode → Option Bracket → ℕ → Move
-moved mode.Value top b = value_move b
-moved Fresh top b = fresh_move top b
-moved Name top b = name_move b
-moved Colon top b = colon_move b
+moved Mode.Value top b = if is_space b then To Mode.Value else value_begun b
+moved Fresh None b = End
+moved Fresh (Some bracket) b = if is_space b then To Fresh else (if closes_bracket bracket b then Close else first_move bracket b)
+moved Name top b = if is_space b then To Name else first_move Curly b
+moved Colon top b = if is_space b then To Colon else (if b == 58 then To Mode.Value else Refuse)
 moved After top b = after_move top b
 moved (Quoted r place) top b = string_move r place b
-moved (Number part) top b = number_move part top b
-moved (Word letters) top b = word_move letters b
-
--- where an ASCII character that stands in a string as it is leaves the mode as it is
-abbrev pub keeps_bare : Mode → Bool
-keeps_bare (Quoted r Plain) = true
-keeps_bare m = false
-
--- where a digit does
-abbrev pub keeps_digits : Mode → Bool
-keeps_digits (Number Whole) = true
-keeps_digits (Number Fraction) = true
-keeps_digits (Number Exponent) = true
-keeps_digits m = false
-
--- where white space does
-abbrev pub keeps_space : Mode → Option Bracket → Bool
-keeps_space mode.Value top = true
-keeps_space Name top = true
-keeps_space Colon top = true
-keeps_space Fresh top = is_some top
-keeps_space After top = is_some top
-keeps_space m top = false
+moved (Number part) top b = number_move_on (part_after part b) (is_complete part && not (extends_number b)) top b
+moved (Word letters) top b = if first_letter letters == b then word_on (letters_after letters) else Refuse
 
 -- What comes of a byte: a mode and the open brackets, the innermost first; the value has ended before this byte; or no
 -- value goes on with it.
@@ -332,10 +260,8 @@ stray_fault (Some b) n = if is_stray b then Utf8 n else Syntax n
 
 -- the fault in a string; that of a sequence is at its first byte
 abbrev pub string_fault : Place → Option ℕ → ℕ → JsonFault
-string_fault Plain byte n = stray_fault byte n
-string_fault Escape byte n = stray_fault byte n
-string_fault (Hex more) byte n = stray_fault byte n
 string_fault (Sequence length tail) byte n = Utf8 (n - (length - tail_length tail))
+string_fault place byte n = stray_fault byte n
 
 -- the move opens a bracket
 abbrev pub opens : Move → Bool

@@ -1,5 +1,5 @@
 -- Where members stand in a text that is written. Only contracts of private functions cite this.
-use Rattle.std.specs.Prelude.{ℕ, ◌+◌, ◌-◌, ◌%◌, ◌≤◌, List, map, take, drop, length, slice_index, nat_lt, if◌then◌else◌, All}
+use Rattle.std.specs.Prelude.{ℕ, ◌+◌, ◌-◌, ◌*◌, ◌/◌, ◌%◌, ◌≤◌, List, map, take, drop, length, slice_index, nat_lt, if◌then◌else◌, All}
 use Rattle.json_text.specs.Characters.{quote}
 use Rattle.json_text.specs.Compact.{Member}
 use Rattle.json_reader.specs.declared.collapsing.Span.{Span}
@@ -15,9 +15,9 @@ entry bytes place = (cut bytes place.name, cut bytes place.value)
 abbrev pub entries : List ℕ → List Place → List Member
 entries bytes places = map (entry bytes) places
 
--- a number below 256 by a name's length and two of its bytes
+-- a number below 256 by the length of a quoted name, its last byte and one in its middle
 abbrev pub mark_of : List ℕ → ℕ
-mark_of name = if nat_lt (length name) 3 then 0 else ((length name + slice_index name 1) + slice_index name (length name - 3)) % 256
+mark_of name = if nat_lt (length name) 2 then 0 else ((length name + 6 * slice_index name (length name - 2)) + 5 * slice_index name (length name / 2)) % 256
 
 abbrev pub IsWithin : ℕ → Span → Type 0
 IsWithin size span = (span.start ≤ span.end) × (span.end ≤ size)

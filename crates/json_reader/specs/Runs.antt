@@ -1,12 +1,7 @@
 -- Runs of the machine. Only contracts of private functions cite this.
-use Rattle.std.specs.Prelude.{◌≡◌, ◌⊎◌, ℕ, List, [], ◌∷◌, None, Bool, true, false}
+use Rattle.std.specs.Prelude.{◌≡◌, ℕ, List, [], ◌∷◌, None, Bool, true, false}
 use Rattle.json_reader.specs.Feeding.{behind_space}
-use Rattle.json_reader.specs.Machine.{Outcome, state, ended, refused, top, step, fault_of}
-use Rattle.json_reader.specs.declared.brackets.Bracket.{Bracket}
-use Rattle.json_reader.specs.declared.machine.Mode.{Mode}
-use Rattle.json_reader.specs.declared.machine.Mode.TheVariants.{After, Fresh}
-use Rattle.json_reader.specs.declared.machine.Mode.TheVariants as mode
-use Rattle.json_reader.specs.declared.fault.JsonFault.{JsonFault}
+use Rattle.json_reader.specs.Machine.{Bracket, Mode, After, Fresh, JsonFault, Outcome, state, ended, refused, top, step, fault_of}
 
 -- what comes of a byte more, where at most so many brackets may be open
 abbrev pub go : ℕ → Outcome → ℕ → Outcome
@@ -21,7 +16,7 @@ run limit from (b ∷ bytes) = run limit (go limit from b) bytes
 
 -- a value must come, and no bracket is open
 abbrev pub start : Outcome
-start = state mode.Value []
+start = state Mode.Value []
 
 -- The value has ended, whatever follows: no bracket is open, and it is no scalar that is under way.
 abbrev pub is_over : Mode → List Bracket → Bool
@@ -31,7 +26,8 @@ is_over m st = false
 
 -- The value has ended before these bytes, whatever follows them.
 abbrev pub EndsBefore : Mode → List Bracket → List ℕ → Type 0
-EndsBefore m st left = (is_over m st ≡ true) ⊎ ((b : ℕ) × (more : List ℕ) × (left ≡ b ∷ more) × (step 128 m st b ≡ ended b))
+EndsBefore m st [] = is_over m st ≡ true
+EndsBefore m st (b ∷ more) = step 128 m st b ≡ ended b
 
 -- The bytes of a value under way, which are nothing or begin with no white space: the value isn't over.
 pub record IsKept (rest : List ℕ) : Type 0 where

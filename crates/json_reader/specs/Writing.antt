@@ -7,7 +7,7 @@ use Rattle.json_text.specs.Compact.{compact}
 use Rattle.json_text.specs.Walk.{Place, outside, inside, place_of, Quoted}
 use Rattle.json_text.specs.Tree.{Tree, IsGood, spelling}
 use Rattle.json_text.specs.Value.{Stands}
-use Rattle.json_reader.specs.Drafts.{Drafted, fresh, grown, closed, with_last}
+use Rattle.json_reader.specs.Drafts.{Drafted, fresh, grown, named, parted, closed, IsWhole}
 use Rattle.json_reader.specs.Machine.{state, refused, top, step, fault_of}
 use Rattle.json_reader.specs.Runs.{run, start, is_over, EndsBefore, IsKept}
 use Rattle.json_reader.specs.declared.brackets.Bracket.{Bracket}
@@ -80,19 +80,17 @@ pub record IsStringWhole (w : Writing) (b : ℕ) : Type 0 where
   pub quoted : Quoted (w.string ++ b ∷ []) text []
   pub same : w.escapes ≡ false → w.string ++ b ∷ [] ≡ quote text
 
--- An object is open, and its last member has a name, or it has no member.
+-- An object is open, of whole members.
 pub record IsObjectWhole (w : Writing) : Type 0 where
   pub outer : List Drafted
   pub next : Drafted
   pub open_in : w.around ≡ outer ++ next ∷ []
-  pub none : w.here.name ≡ None → (w.here.members ≡ []) × (w.here.current ≡ [])
+  pub whole : IsWhole w.here
 
 -- what it takes to do so with a byte
 abbrev pub Can : Deed → Writing → ℕ → Type 0
 Can Finish w b = IsStringWhole w b
 Can Shut w b = IsObjectWhole w
-Can Name w b = w.here.name ≡ None
-Can Part w b = (name : List ℕ) × (w.here.name ≡ Some name)
 Can d w b = Unit {0}
 
 -- what comes of it
@@ -105,8 +103,8 @@ Done Finish w b new = (text : List ℕ) → Quoted (w.string ++ b ∷ []) text [
 Done Open w b new = new ≡ record w { here = fresh; around = w.around ++ grown w.here (b ∷ []) ∷ [] }
 Done Shut w b new = (outer : List Drafted) (next : Drafted) → w.around ≡ outer ++ next ∷ []
     → new ≡ record w { here = grown (grown next (closed w.here)) (b ∷ []); around = outer }
-Done Name w b new = new ≡ record w { here = record w.here { name = Some w.here.current; current = [] } }
-Done Part w b new = new ≡ record w { here = record w.here { members = with_last w.here.members w.here.name w.here.current; name = None; current = [] } }
+Done Name w b new = new ≡ record w { here = grown (named (length w.here.text) w.here) (b ∷ []) }
+Done Part w b new = new ≡ record w { here = grown (parted (length w.here.text) w.here) (b ∷ []) }
 Done Deepen w b new = new ≡ record w { here = record (grown w.here (b ∷ [])) { level = w.here.level + 1 } }
 Done Rise w b new = new ≡ record w { here = record (grown w.here (b ∷ [])) { level = w.here.level - 1 } }
 Done Push w b new = new ≡ record w { here = grown w.here (b ∷ []) }

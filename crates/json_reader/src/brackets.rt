@@ -57,6 +57,7 @@ impl Brackets {
     }
 
     /// As many are open as may be.
+    #[tactic(auto, using(crate::proofs::Digits::kinds_count))]
     pub(crate) fn is_full(&self) -> bool
         ensures { result ≡ nat_le 128 (length self.now) }
     {
@@ -64,6 +65,7 @@ impl Brackets {
     }
 
     /// Opens a bracket.
+    #[tactic(auto, using(crate::proofs::Digits::room))]
     pub(crate) fn push(&mut self, bracket: Bracket)
         requires { length self.old < 128 }
         ensures { self.new ≡ bracket ∷ self.old }

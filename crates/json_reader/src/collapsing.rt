@@ -1,7 +1,7 @@
 //! Keeping each name of an object once.
 
-ghost use Rattle.std.specs.Prelude.{◌≡◌, ◌<◌, ◌≤◌, length, slice_set, slice_index_or, IsTrue, IfOk, OnOk, IfSome, MatchOption, bytes_eq};
-ghost use Rattle.std.specs.List.{IsDistinct, list_any};
+ghost use Rattle.std.specs.Prelude.{◌≡◌, ◌<◌, ◌≤◌, length, slice_set, slice_index_or, IsTrue, false, IfOk, OnOk, IfSome, MatchOption, bytes_eq};
+ghost use Rattle.std.specs.List.{list_any};
 ghost use Rattle.json_text.specs.Compact.{collapsed};
 ghost use Rattle.json_text.specs.Parts.{names_of};
 ghost use Rattle.json_reader.specs.Drafts.{pairs_text};
@@ -51,13 +51,13 @@ pub(crate) fn collapse(
 /// Whether no name comes again. Only names with one mark are compared.
 fn are_distinct(bytes: &[u8], places: &[Place]) -> bool
     requires { AreWithin (length bytes.now) places.now }
-    ensures { IsTrue result → IsDistinct bytes_eq (names_of (entries bytes.now places.now)) }
+    ensures { IsTrue result → collapsed (entries bytes.now places.now) ≡ entries bytes.now places.now }
 {
     let mut seen = [false; 256];
     for (i, place) in places.iter().enumerate() {
         let name = bytes_at(bytes, place.name);
         let mark = mark_of(name);
-        if seen[mark] && comes_again(bytes, name, &places[..i]) {
+        if comes_again(bytes, name, seen[mark], &places[..i]) {
             return false;
         }
         seen[mark] = true;
@@ -65,22 +65,29 @@ fn are_distinct(bytes: &[u8], places: &[Place]) -> bool
     true
 }
 
-/// A number below 256 that is the same for equal names, and mostly another one for others.
+/// A number below 256 that is the same for equal names, and mostly another one for others: the names of an element's members
+/// have one each.
 fn mark_of(name: &[u8]) -> usize
     ensures value { result ≡ mark_of name.now }
     ensures small { result < 256 }
 {
-    if name.len() < 3 {
+    if name.len() < 2 {
         return 0;
     }
-    (name.len() + usize::from(name[1]) + usize::from(name[name.len() - 3])) % 256
+    let last = usize::from(name[name.len() - 2]);
+    let middle = usize::from(name[name.len() / 2]);
+    (name.len() + 6 * last + 5 * middle) % 256
 }
 
-/// Whether the name is one of those at these places.
-fn comes_again(bytes: &[u8], name: &[u8], places: &[Place]) -> bool
-    requires { AreWithin (length bytes.now) places.now }
+/// Whether the name is one of those at these places. It is none of them if its mark wasn't seen.
+fn comes_again(bytes: &[u8], name: &[u8], seen: bool, places: &[Place]) -> bool
+    requires within { AreWithin (length bytes.now) places.now }
+    requires marked { seen ≡ false → list_any (bytes_eq name.now) (names_of (entries bytes.now places.now)) ≡ false }
     ensures { result ≡ list_any (bytes_eq name.now) (names_of (entries bytes.now places.now)) }
 {
+    if !seen {
+        return false;
+    }
     for place in places {
         if name == bytes_at(bytes, place.name) {
             return true;
@@ -134,14 +141,13 @@ fn text_of(alloc: Global, bytes: &[u8], places: &[Place]) -> Result<Vec<u8>, All
     ensures { IfOk result (λ text. text.items ≡ pairs_text (entries bytes.now places.now)) }
 {
     let mut text = Vec::new(alloc);
-    for (i, place) in places.iter().enumerate() {
-        if i > 0 {
-            text.push(b',')?;
-        }
+    for place in places {
         text.extend_from_slice(bytes_at(bytes, place.name))?;
         text.push(b':')?;
         text.extend_from_slice(bytes_at(bytes, place.value))?;
+        text.push(b',')?;
     }
+    let _comma = text.pop();
     Ok(text)
 }
 

@@ -1,15 +1,16 @@
 //! What is written of an object under way.
 
-ghost use Rattle.std.specs.Prelude.{◌≡◌, ℕ, [], ◌∷◌, ◌++◌, List, Some, None, ◌+◌, ◌-◌, IfOk, OnOk, OnErr};
+ghost use Rattle.std.specs.Prelude.{◌≡◌, length, ◌+◌, ◌-◌, IfOk, OnOk, OnErr};
 ghost use Rattle.json_text.specs.Characters.{quote};
-ghost use Rattle.json_reader.specs.Drafts.{fresh, grown, closed, placed, with_last};
+ghost use Rattle.json_reader.specs.Drafts.{fresh, grown, named, parted, closed, placed, IsWhole};
 
 use crate::collapsing::{FEW, Place, Span, collapse};
 use json_text::{Text, push_quote};
 use std::alloc::{AllocError, Global};
 use std::marker::Model;
 
-/// What is written of the innermost object that is open, behind its bracket, or of the text outside objects.
+/// What is written of the innermost object that is open, behind its bracket, or of the text outside objects. Bytes that are
+/// still to be appended may stand before the offsets.
 pub(crate) struct Draft {
     text: Vec<u8>,
     /// Where the text behind the last colon or comma of the object begins.
@@ -36,20 +37,17 @@ impl Drop for Draft {
 }
 
 impl Model for Draft {
-    ghost use Rattle.std.specs.Prelude.{drop};
-    ghost use Rattle.json_reader.specs.Drafts.{Drafted, IsDraft, named_there};
-    ghost use Rattle.json_reader.specs.Places.{entries};
+    ghost use Rattle.json_reader.specs.Drafts.{Drafted};
 
     ghost Value = { Drafted };
 
     ghost view = { λ d. record {
-      members = entries d.text.items d.places.items;
-      name = named_there d.text.items d.name;
-      current = drop d.from d.text.items;
+      text = d.text.items;
+      from = d.from;
+      name = d.name;
+      places = d.places.items;
       level = d.level;
     } };
-
-    ghost invariant = { λ d. IsDraft d.text.items d.from d.name d.places.items };
 }
 
 impl Draft {
@@ -89,7 +87,6 @@ impl Draft {
     }
 
     /// Appends these bytes.
-    #[tactic(auto, using(crate::proofs::Drafting::grown_is))]
     pub(crate) fn extend(&mut self, bytes: &[u8]) -> Result<(), AllocError>
         ensures { OnOk result (self.new ≡ grown self.old bytes.now) }
     {
@@ -121,43 +118,36 @@ impl Draft {
         self.level = self.level.saturating_sub(1);
     }
 
-    /// A colon comes: what is current is a name.
-    #[tactic(auto, using(crate::proofs::Drafting::named_is))]
-    pub(crate) fn end_name(&mut self) -> Result<(), AllocError>
-        requires { self.old.name ≡ None }
-        ensures { OnOk result (self.new ≡ record self.old { name = Some self.old.current; current = [] }) }
+    /// A colon comes behind these bytes, which are still to be appended: a name ends.
+    pub(crate) fn end_name(&mut self, ahead: &[u8])
+        ensures { self.new ≡ named (length self.old.text + length ahead.now) self.old }
     {
-        let end = self.text.len();
-        self.text.push(b':')?;
+        let end = self.text.len() + ahead.len();
         self.name = Some(Span {
             start: self.from,
             end,
         });
-        self.from = self.text.len();
-        Ok(())
+        self.from = end + 1;
     }
 
-    /// A comma comes: the member is whole.
-    #[tactic(auto, using(crate::proofs::Drafting::grown_is))]
-    pub(crate) fn end_member(&mut self) -> Result<(), AllocError>
-        requires { (name : List ℕ) × (self.old.name ≡ Some name) }
-        ensures { OnOk result (self.new ≡ record self.old { members = with_last self.old.members self.old.name self.old.current; name = None; current = [] }) }
+    /// A comma comes behind these bytes, which are still to be appended: a member ends.
+    pub(crate) fn end_member(&mut self, ahead: &[u8]) -> Result<(), AllocError>
+        ensures { OnOk result (self.new ≡ parted (length self.old.text + length ahead.now) self.old) }
     {
-        let end = self.text.len();
-        self.text.push(b',')?;
+        let end = self.text.len() + ahead.len();
         let value = Span {
             start: self.from,
             end,
         };
         place_member(&mut self.places, self.name, value)?;
         self.name = None;
-        self.from = self.text.len();
+        self.from = end + 1;
         Ok(())
     }
 
     /// What stands between the brackets of the object, each name once.
     pub(crate) fn close(self, alloc: Global) -> Result<Vec<u8>, AllocError>
-        requires { self.name ≡ None → (self.members ≡ []) × (self.current ≡ []) }
+        requires { IsWhole self }
         ensures { IfOk result (λ text. text.items ≡ closed self) }
     {
         let Draft {
@@ -175,8 +165,7 @@ impl Draft {
 
     /// The text, where no object is open.
     pub(crate) fn into_text(self) -> Vec<u8>
-        requires { (self.members ≡ []) × (self.name ≡ None) }
-        ensures { result.items ≡ self.current }
+        ensures { result.items ≡ self.text }
     {
         let Draft {
             text,

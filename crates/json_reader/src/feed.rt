@@ -61,7 +61,7 @@ impl Model for Feed {
 
 impl Feed {
     /// A feed that has used nothing.
-    #[tactic(auto, using(crate::proofs::Pieces::kept_none))]
+    #[tactic(auto, using(crate::proofs::Feeds::kept_none))]
     pub fn new(alloc: Global) -> Feed
         ensures { result ≡ record { rest = []; used = 0; fault = None } }
     {

@@ -5,7 +5,7 @@
 ghost use Rattle.std.specs.Prelude.{◌≡◌, ◌↔◌, ◌-◌, ◌≤◌, IsTrue, [], false, take, drop, length};
 ghost use Rattle.std.specs.List.{AllByRecursion};
 ghost use Rattle.json_text.specs.Characters.{is_space, is_hex};
-ghost use Rattle.json_reader.specs.Machine.{closes_bracket, after_comma, after_string, value_begun, value_move, fresh_move, name_begun, name_move, colon_move, after_move, plain_move, led_on, tail_led, escape_move, hex_move, sequence_move, string_move, number_move, first_letter, letters_after, word_move, moved, string_fault, bracket_fault, fault_of, top, step, state, ended, Stepped};
+ghost use Rattle.json_reader.specs.Machine.{first_move, closes_bracket, after_comma, after_string, value_begun, after_move, led_on, tail_led, string_move, first_letter, letters_after, moved, string_fault, bracket_fault, fault_of, top, step, state, ended, Stepped};
 ghost use Rattle.json_reader.specs.Runs.{is_over};
 ghost use Rattle.json_reader.specs.Writing.{AreAlike};
 ghost use Rattle.json_reader.specs.declared.machine.Move.TheVariants.{To};
@@ -213,7 +213,7 @@ pub(crate) fn moved(mode: Mode, top: Option<Bracket>, byte: u8) -> Move
 }
 
 fn value_move(byte: u8) -> Move
-    ensures { result ≡ value_move byte }
+    ensures { result ≡ moved Mode.Value None byte }
 {
     if is_space(byte) {
         Move::To(Mode::Value)
@@ -240,7 +240,7 @@ fn value_begun(byte: u8) -> Move
 }
 
 fn fresh_move(top: Option<Bracket>, byte: u8) -> Move
-    ensures { result ≡ fresh_move top byte }
+    ensures { result ≡ moved Mode.Fresh top byte }
 {
     let Some(bracket) = top else {
         return Move::End;
@@ -267,7 +267,7 @@ fn closes_bracket(bracket: Bracket, byte: u8) -> bool
 }
 
 fn name_move(byte: u8) -> Move
-    ensures { result ≡ name_move byte }
+    ensures { result ≡ moved Mode.Name None byte }
 {
     if is_space(byte) {
         Move::To(Mode::Name)
@@ -277,7 +277,7 @@ fn name_move(byte: u8) -> Move
 }
 
 fn name_begun(byte: u8) -> Move
-    ensures { result ≡ name_begun byte }
+    ensures { result ≡ first_move Bracket.Curly byte }
 {
     if byte == b'"' {
         Move::To(Mode::Quoted(Role::Name, Place::Plain))
@@ -287,7 +287,7 @@ fn name_begun(byte: u8) -> Move
 }
 
 fn colon_move(byte: u8) -> Move
-    ensures { result ≡ colon_move byte }
+    ensures { result ≡ moved Mode.Colon None byte }
 {
     if is_space(byte) {
         Move::To(Mode::Colon)
@@ -336,7 +336,7 @@ fn string_move(role: Role, place: Place, byte: u8) -> Move
 }
 
 fn plain_move(role: Role, byte: u8) -> Move
-    ensures { result ≡ plain_move role byte }
+    ensures { result ≡ string_move role Place.Plain byte }
 {
     match byte {
         b'"' => Move::To(after_string(role)),
@@ -366,7 +366,7 @@ fn led_move(role: Role, byte: u8) -> Move
 }
 
 fn escape_move(role: Role, byte: u8) -> Move
-    ensures { result ≡ escape_move role byte }
+    ensures { result ≡ string_move role Place.Escape byte }
 {
     match byte {
         b'u' => Move::To(Mode::Quoted(role, Place::Hex(3))),
@@ -378,7 +378,7 @@ fn escape_move(role: Role, byte: u8) -> Move
 }
 
 fn hex_move(role: Role, more: u8, byte: u8) -> Move
-    ensures { result ≡ hex_move role more byte }
+    ensures { result ≡ string_move role (Place.Hex more) byte }
 {
     if !byte.is_ascii_hexdigit() {
         Move::Refuse
@@ -390,7 +390,7 @@ fn hex_move(role: Role, more: u8, byte: u8) -> Move
 }
 
 fn sequence_move(role: Role, length: u8, tail: Tail, byte: u8) -> Move
-    ensures { result ≡ sequence_move role length tail byte }
+    ensures { result ≡ string_move role (Place.Sequence length tail) byte }
 {
     if !tail.fits(byte) {
         return Move::Refuse;
@@ -403,7 +403,7 @@ fn sequence_move(role: Role, length: u8, tail: Tail, byte: u8) -> Move
 
 #[inline(always)]
 fn number_move(part: Part, top: Option<Bracket>, byte: u8) -> Move
-    ensures { result ≡ number_move part top byte }
+    ensures { result ≡ moved (Mode.Number part) top byte }
 {
     match part.after(byte) {
         Some(part) => Move::To(Mode::Number(part)),
@@ -413,7 +413,7 @@ fn number_move(part: Part, top: Option<Bracket>, byte: u8) -> Move
 }
 
 fn word_move(letters: Letters, byte: u8) -> Move
-    ensures { result ≡ word_move letters byte }
+    ensures { result ≡ moved (Mode.Word letters) None byte }
 {
     if letters.first() != byte {
         return Move::Refuse;

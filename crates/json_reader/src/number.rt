@@ -2,7 +2,7 @@
 
 ghost use Rattle.std.specs.Prelude.{◌≡◌};
 ghost use Rattle.json_text.specs.Value.{extends_number};
-ghost use Rattle.json_reader.specs.Machine.{part_begun, whole_begun, part_after, after_whole, after_fraction, is_complete};
+ghost use Rattle.json_reader.specs.Machine.{part_begun, part_after, after_whole, after_fraction, is_complete};
 
 /// The part of a number that came last.
 #[derive(Clone, Copy)]
@@ -70,7 +70,7 @@ impl Part {
     }
 
     fn whole_begun(byte: u8) -> Option<Part>
-        ensures { result ≡ whole_begun byte }
+        ensures { result ≡ part_after Part.Minus byte }
     {
         match byte {
             b'0' => Some(Part::Zero),

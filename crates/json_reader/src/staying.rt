@@ -1,10 +1,11 @@
 //! Stretches of bytes that leave the machine as it is.
 
-ghost use Rattle.std.specs.Prelude.{◌≡◌, ◌+◌, ◌-◌, ◌≤◌, take, drop, length};
+ghost use Rattle.std.specs.Prelude.{◌≡◌, ℕ, ◌+◌, ◌-◌, ◌≤◌, Option, true, take, drop, length};
 ghost use Rattle.std.specs.List.{AllByRecursion, prefix_len};
-ghost use Rattle.json_text.specs.Characters.{is_digit};
-ghost use Rattle.json_reader.specs.Machine.{is_bare, keeps_bare, keeps_digits, keeps_space, moved};
+ghost use Rattle.json_text.specs.Characters.{is_digit, is_space};
+ghost use Rattle.json_reader.specs.Machine.{is_bare, moved};
 ghost use Rattle.json_reader.specs.Writing.{AreAlike};
+ghost use Rattle.json_reader.specs.declared.brackets.Bracket.{Bracket};
 ghost use Rattle.json_reader.specs.declared.machine.Move.TheVariants.{To};
 
 use crate::brackets::Bracket;
@@ -44,13 +45,13 @@ pub(crate) fn stay_end(
 }
 
 fn keeps_bare(mode: Mode) -> bool
-    ensures { result ≡ keeps_bare mode }
+    ensures { result ≡ true → (top : Option Bracket) (b : ℕ) → is_bare b ≡ true → moved mode top b ≡ To mode }
 {
     matches!(mode, Mode::Quoted(_, Place::Plain))
 }
 
 fn keeps_digits(mode: Mode) -> bool
-    ensures { result ≡ keeps_digits mode }
+    ensures { result ≡ true → (top : Option Bracket) (b : ℕ) → is_digit b ≡ true → moved mode top b ≡ To mode }
 {
     matches!(
         mode,
@@ -59,7 +60,7 @@ fn keeps_digits(mode: Mode) -> bool
 }
 
 fn keeps_space(mode: Mode, top: Option<Bracket>) -> bool
-    ensures { result ≡ keeps_space mode top }
+    ensures { result ≡ true → (b : ℕ) → is_space b ≡ true → moved mode top b ≡ To mode }
 {
     match mode {
         Mode::Value | Mode::Name | Mode::Colon => true,

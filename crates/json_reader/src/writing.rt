@@ -165,7 +165,7 @@ impl Writer {
     }
 
     /// Takes a byte in a string.
-    #[tactic(auto, using(crate::proofs::Copying::kept_behind, crate::proofs::Copying::kept_plain, crate::proofs::Copying::slashed))]
+    #[tactic(auto, using(crate::proofs::Copying::string_steps))]
     #[inline(always)]
     fn put_quoted(&mut self, alloc: Global, bytes: &[u8], next: usize) -> Result<(), AllocError>
         requires quoted { self.old.quoted ≡ true }
@@ -179,7 +179,8 @@ impl Writer {
             return Ok(());
         }
         match bytes[next] {
-            b'"' => self.finish(alloc, bytes, next)?,
+            b'"' if self.escapes => self.quote(alloc, bytes, next)?,
+            b'"' => self.quoted = false,
             b'\\' => {
                 self.escaped = true;
                 self.escapes = true;
@@ -205,7 +206,10 @@ impl Writer {
             }
             Deed::Open => self.open(alloc, bytes, next),
             Deed::Shut => self.shut(alloc, bytes, next),
-            Deed::Name => self.end_name(bytes, next),
+            Deed::Name => {
+                self.end_name(bytes, next);
+                Ok(())
+            }
             Deed::Part => self.end_member(bytes, next),
             Deed::Deepen => self.deepen(),
             Deed::Rise => {
@@ -245,22 +249,7 @@ impl Writer {
         self.start = next;
     }
 
-    /// A string ends. It is appended as it stands, or quoted anew where it has an escape.
-    fn finish(&mut self, alloc: Global, bytes: &[u8], next: usize) -> Result<(), AllocError>
-        requires quoted { self.old.quoted ≡ true }
-        requires within { next < length bytes.now }
-        requires fits { Fits next self.old }
-        requires can { Can Finish (writing_at bytes.now next self.old) (slice_index bytes.now next) }
-        ensures { OnOk result (HasPut Finish bytes.now next self.old self.new) }
-    {
-        if self.escapes {
-            self.quote(alloc, bytes, next)
-        } else {
-            self.quoted = false;
-            Ok(())
-        }
-    }
-
+    /// A string ends that has an escape. It is quoted anew.
     #[inline(never)]
     fn quote(&mut self, alloc: Global, bytes: &[u8], next: usize) -> Result<(), AllocError>
         requires quoted { self.old.quoted ≡ true }
@@ -279,6 +268,7 @@ impl Writer {
     }
 
     /// An object is opened.
+    #[tactic(auto, using(crate::proofs::Copying::later_steps))]
     #[inline(never)]
     fn open(&mut self, alloc: Global, bytes: &[u8], next: usize) -> Result<(), AllocError>
         requires apart { self.old.quoted ≡ false }
@@ -293,6 +283,7 @@ impl Writer {
     }
 
     /// An object is closed.
+    #[tactic(auto, using(crate::proofs::Copying::shut_steps))]
     #[inline(never)]
     fn shut(&mut self, alloc: Global, bytes: &[u8], next: usize) -> Result<(), AllocError>
         requires apart { self.old.quoted ≡ false }
@@ -312,36 +303,30 @@ impl Writer {
     }
 
     /// The name of a member ends.
-    #[inline(never)]
-    fn end_name(&mut self, bytes: &[u8], next: usize) -> Result<(), AllocError>
+    #[tactic(auto, using(crate::proofs::Copying::later_steps))]
+    fn end_name(&mut self, bytes: &[u8], next: usize)
         requires apart { self.old.quoted ≡ false }
         requires within { next < length bytes.now }
         requires fits { Fits next self.old }
-        requires can { Can Name (writing_at bytes.now next self.old) (slice_index bytes.now next) }
-        ensures { OnOk result (HasPut Name bytes.now next self.old self.new) }
+        ensures { HasPut Name bytes.now next self.old self.new }
     {
-        self.copy(bytes, next)?;
-        self.here.end_name()?;
-        self.from = next + 1;
-        Ok(())
+        self.here.end_name(&bytes[self.from..next]);
     }
 
     /// A member ends.
+    #[tactic(auto, using(crate::proofs::Copying::later_steps))]
     fn end_member(&mut self, bytes: &[u8], next: usize) -> Result<(), AllocError>
         requires apart { self.old.quoted ≡ false }
         requires within { next < length bytes.now }
         requires fits { Fits next self.old }
-        requires can { Can Part (writing_at bytes.now next self.old) (slice_index bytes.now next) }
         ensures { OnOk result (HasPut Part bytes.now next self.old self.new) }
     {
-        self.copy(bytes, next)?;
-        self.here.end_member()?;
-        self.from = next + 1;
+        self.here.end_member(&bytes[self.from..next])?;
         Ok(())
     }
 
     /// An array is opened.
-    #[tactic(auto, using(crate::proofs::Copying::deepened))]
+    #[tactic(auto, using(crate::proofs::Copying::later_steps))]
     fn deepen(&mut self) -> Result<(), AllocError>
         requires { self.old.quoted ≡ false }
         ensures { OnOk result ((bytes : List ℕ) (next : ℕ) → next < length bytes → Fits next self.old → HasPut Deepen bytes next self.old self.new) }
@@ -351,7 +336,7 @@ impl Writer {
     }
 
     /// An array is closed.
-    #[tactic(auto, using(crate::proofs::Copying::risen))]
+    #[tactic(auto, using(crate::proofs::Copying::later_steps))]
     fn rise(&mut self)
         requires { self.old.quoted ≡ false }
         ensures { (bytes : List ℕ) (next : ℕ) → next < length bytes → Fits next self.old → HasPut Rise bytes next self.old self.new }
@@ -360,7 +345,7 @@ impl Writer {
     }
 
     /// A byte is to be appended as it stands.
-    #[tactic(auto, using(crate::proofs::Copying::pushed))]
+    #[tactic(auto, using(crate::proofs::Copying::later_steps))]
     fn push(&mut self)
         requires { self.old.quoted ≡ false }
         ensures { (bytes : List ℕ) (next : ℕ) → next < length bytes → Fits next self.old → HasPut Push bytes next self.old self.new }

@@ -1,9 +1,11 @@
 -- Members of an object whose names are kept once.
-use Rattle.std.proofs.Common.{◌≡◌, ℕ, List, [], ◌∷◌, ◌++◌, Bool, true, false, if◌then◌else◌, refl, sym, ◌∙◌, map, filter, bytes_eq, arith}
+use Rattle.std.proofs.Common.{◌≡◌, ℕ, List, [], ◌∷◌, ◌++◌, Bool, true, false, if◌then◌else◌, refl, sym, ◌∙◌, filter, bytes_eq, arith}
 use Rattle.std.proofs.lemmas.Bool.{false_from_ne_true, false≢true}
+use Rattle.std.proofs.lemmas.Map.Made.{IsDistinct-keys_filter}
 use Rattle.std.proofs.lemmas.Slice.Eq.{bytes_eq-Decides}
 use Rattle.std.specs.List.{AllByRecursion, IsDistinct, list_any}
 use Rattle.json_text.specs.Compact.{Member, has_other_name, last_value, collapsed}
+pub use Rattle.json_text.specs.Parts.{names_of}
 
 -- equal names are told by `bytes_eq`
 pub bytes_eq-true : (a b : List ℕ) → bytes_eq a b ≡ true → a ≡ b
@@ -20,9 +22,6 @@ bytes_eq-flip a b h = bytes_eq-apart b a (λ e. false≢true (sym h ∙ (rw e (b
 
 abbrev pub name_of : Member → List ℕ
 name_of member = member.0
-
-abbrev pub names_of : List Member → List (List ℕ)
-names_of members = map name_of members
 
 -- no member has this name
 abbrev pub IsAbsent : List ℕ → List Member → Type 0
@@ -48,19 +47,9 @@ collapsed-names P (m ∷ ms) h = (h.0, filter-All (λ m. P m.0) (has_other_name 
 
 pub collapsed-values : (P : List ℕ → Type 0) (ms : List Member) → AllByRecursion (λ m. P m.1) ms → AllByRecursion (λ m. P m.1) (collapsed ms)
 collapsed-values P [] h = tt
-collapsed-values P (m ∷ ms) h =
-    (last_value-All P m.0 m.1 ms h.0 h.1, filter-All (λ m. P m.1) (has_other_name m.0) (collapsed ms) (collapsed-values P ms h.1))
+collapsed-values P (m ∷ ms) h = grind (arith, last_value-All P m.0 m.1 ms, filter-All (λ n. P n.1) (has_other_name m.0), collapsed-values P ms)
 
 -- collapsed names are distinct
-filter-IsAbsent-other : (name other : List ℕ) (ms : List Member) → IsAbsent name ms → IsAbsent name (filter (has_other_name other) ms)
-filter-IsAbsent-other name other [] h = tt
-filter-IsAbsent-other name other (m ∷ ms) h = grind (arith, filter-IsAbsent-other name other ms)
-
-filter-distinct : (name : List ℕ) (ms : List Member) → IsDistinct bytes_eq (names_of ms) → IsDistinct bytes_eq (names_of (filter (has_other_name name) ms))
-unfolding IsDistinct
-filter-distinct name [] h = tt
-filter-distinct name (m ∷ ms) h = grind (arith, filter-distinct name ms, filter-IsAbsent-other m.0 name ms)
-
 filter-IsAbsent : (name : List ℕ) (ms : List Member) → IsAbsent name (filter (has_other_name name) ms)
 filter-IsAbsent name [] = tt
 filter-IsAbsent name (m ∷ ms) = grind (arith, filter-IsAbsent name ms)
@@ -68,14 +57,14 @@ filter-IsAbsent name (m ∷ ms) = grind (arith, filter-IsAbsent name ms)
 pub collapsed-distinct : (ms : List Member) → IsDistinct bytes_eq (names_of (collapsed ms))
 unfolding IsDistinct
 collapsed-distinct [] = tt
-collapsed-distinct (m ∷ ms) = (filter-IsAbsent m.0 (collapsed ms), filter-distinct m.0 (collapsed ms) (collapsed-distinct ms))
+collapsed-distinct (m ∷ ms) = (filter-IsAbsent m.0 (collapsed ms), IsDistinct-keys_filter bytes_eq (has_other_name m.0) (collapsed ms) (collapsed-distinct ms))
 
 -- distinct names are left as they are
 filter-same : (name : List ℕ) (ms : List Member) → IsAbsent name ms → filter (has_other_name name) ms ≡ ms
 filter-same name [] h = refl
 filter-same name (m ∷ ms) h = grind (arith, filter-same name ms)
 
-last_value-same : (name value : List ℕ) (ms : List Member) → IsAbsent name ms → last_value name value ms ≡ value
+pub last_value-same : (name value : List ℕ) (ms : List Member) → IsAbsent name ms → last_value name value ms ≡ value
 last_value-same name value [] h = refl
 last_value-same name value (m ∷ ms) h = rw h.0 (last_value-same name value ms h.1)
 

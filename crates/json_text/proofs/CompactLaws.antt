@@ -1,8 +1,9 @@
 -- What compact texts are made of, and that they are made so.
 use Rattle.std.proofs.Common.{◌≡◌, ◌<◌, ◌≤◌, ◌^◌, inl, decimal, ℕ, ◌+◌, ◌-◌, List, [], ◌∷◌, ◌++◌, refl, sym, ap, ap₂, ◌∙◌, subst, arith, map, IsUtf8, append_assoc, append-nil, ◌⊎◌, le_trans}
+use Rattle.std.proofs.lemmas.List.{map-id}
 use Rattle.std.specs.List.{AllByRecursion, IsDistinct, join_with_byte}
 use Rattle.json_text.specs.Characters.{quote}
-use Rattle.json_text.specs.Tree.{Piece, Container, array, object, unnamed, named, Tree, scalar, text, empty, filled, Values, last, next, IsNumber, IsWord, IsGood, AreGood, spelling, values_spelling, string_spelling, depth, values_depth}
+use Rattle.json_text.specs.Tree.{Container, array, object, unnamed, named, Tree, scalar, text, empty, filled, Values, last, next, IsNumber, IsWord, IsGood, AreGood, spelling, values_spelling, string_spelling, depth, values_depth}
 use Rattle.json_text.specs.Compact.{Member, member_text, collapsed, content, array_text, object_text, compact, members}
 use Rattle.json_text.specs.Value.{Value, IsCompact}
 pub use Rattle.json_text.specs.Parts.{AreMembers}
@@ -29,15 +30,15 @@ decimal_nests limit number small = literal-compact limit (decimal number) (inl (
 pub Value-deeper : {limit more : ℕ} {bytes s : List ℕ} → limit ≤ more → Value limit bytes s → Value more bytes s
 Value-deeper h v = record { tree = v.tree; good = v.good; shallow = le_trans v.shallow h; spells = v.spells; means = v.means }
 
--- values that spell the texts of an array
-pub record Items (limit : ℕ) (ts : List (List ℕ)) : Type 0 where
+-- values of a container that spell these texts between commas, and what is kept of their members
+pub record Spelled (c : Container) (limit : ℕ) (ts : List (List ℕ)) {X : Type 0} (kept : Member → X) (xs : List X) : Type 0 where
   pub values : Values
-  pub good : AreGood array values
+  pub good : AreGood c values
   pub shallow : values_depth values ≤ limit
   pub spells : values_spelling values ≡ join_with_byte 44 ts
-  pub means : map (λ (m : Member). m.1) (members values) ≡ ts
+  pub means : map kept (members values) ≡ xs
 
-pub items : (limit : ℕ) (t : List ℕ) (ts : List (List ℕ)) → AllByRecursion (IsCompact limit) (t ∷ ts) → Items limit (t ∷ ts)
+pub items : (limit : ℕ) (t : List ℕ) (ts : List (List ℕ)) → AllByRecursion (IsCompact limit) (t ∷ ts) → Spelled array limit (t ∷ ts) (λ m. m.1) (t ∷ ts)
 items limit t [] h = record {
   values = last (unnamed []) h.0.tree [];
   good = (refl, h.0.good, refl);
@@ -64,24 +65,13 @@ array-compact limit (t ∷ ts) h = let all = items limit t ts h in record {
   means = rw all.means refl;
 }
 
--- values that spell the members of an object
-pub record Fields (limit : ℕ) (ms : List Member) : Type 0 where
-  pub values : Values
-  pub good : AreGood object values
-  pub shallow : values_depth values ≤ limit
-  pub spells : values_spelling values ≡ join_with_byte 44 (map member_text ms)
-  pub means : members values ≡ ms
-
-labelled : (ps : List Piece) (s v : List ℕ) → string_spelling ps ≡ s → (string_spelling ps ++ 58 ∷ []) ++ v ≡ s ++ 58 ∷ v
-labelled ps s v e = append_assoc (string_spelling ps) (58 ∷ []) v ∙ ap (λ s. s ++ 58 ∷ v) e
-
-pub fields : (limit : ℕ) (m : Member) (ms : List Member) → AllByRecursion (λ (m : Member). IsUtf8 m.0) (m ∷ ms) → AllByRecursion (λ (m : Member). IsCompact limit m.1) (m ∷ ms) → Fields limit (m ∷ ms)
+pub fields : (limit : ℕ) (m : Member) (ms : List Member) → AllByRecursion (λ (m : Member). IsUtf8 m.0) (m ∷ ms) → AllByRecursion (λ (m : Member). IsCompact limit m.1) (m ∷ ms)
+    → Spelled object limit (map member_text (m ∷ ms)) (λ n. n) (m ∷ ms)
 fields limit m [] name value = let q = utf8-Quotes m.0 name.0 in record {
   values = last (named [] q.pieces [] []) value.0.tree [];
   good = ((refl, q.good, refl, refl), value.0.good, refl);
   shallow = value.0.shallow;
-  spells = labelled q.pieces (quote m.0) (spelling value.0.tree ++ []) q.spells
-      ∙ ap (λ v. quote m.0 ++ 58 ∷ v) (append-nil (spelling value.0.tree) ∙ value.0.spells);
+  spells = append_assoc (string_spelling q.pieces) (58 ∷ []) _ ∙ ap₂ (λ s v. s ++ 58 ∷ v) q.spells (append-nil (spelling value.0.tree) ∙ value.0.spells);
   means = rw (q.means, value.0.means) refl;
 }
 fields limit m (n ∷ ns) name value =
@@ -89,9 +79,9 @@ fields limit m (n ∷ ns) name value =
       values = next (named [] q.pieces [] []) value.0.tree [] others.values;
       good = ((refl, q.good, refl, refl), value.0.good, refl, others.good);
       shallow = omega (arith, value.0.shallow, others.shallow);
-      spells = labelled q.pieces (quote m.0) (spelling value.0.tree ++ 44 ∷ values_spelling others.values) q.spells
-          ∙ ap₂ (λ v rest. quote m.0 ++ 58 ∷ (v ++ 44 ∷ rest)) value.0.spells others.spells
-          ∙ sym (append_assoc (quote m.0) (58 ∷ m.1) (44 ∷ join_with_byte 44 (map member_text (n ∷ ns))));
+      spells = append_assoc (string_spelling q.pieces) (58 ∷ []) _
+          ∙ ap₂ (λ s rest. s ++ 58 ∷ rest) q.spells (ap₂ (λ v rest. v ++ 44 ∷ rest) value.0.spells others.spells)
+          ∙ sym (append_assoc (quote m.0) (58 ∷ m.1) _);
       means = rw (q.means, value.0.means, others.means) refl;
     }
 
@@ -103,7 +93,7 @@ object-compact limit (m ∷ ms) h = let all = fields limit m ms h.named h.valued
   good = all.good;
   shallow = omega (arith, all.shallow);
   spells = rw all.spells refl;
-  means = ap object_text (ap collapsed all.means ∙ collapsed-same (m ∷ ms) h.distinct);
+  means = ap object_text (ap collapsed (sym (map-id (members all.values)) ∙ all.means) ∙ collapsed-same (m ∷ ms) h.distinct);
 }
 
 -- the names of an object are texts
@@ -115,13 +105,6 @@ members-utf8 values good = absurd good.0
 values-of : (P : List ℕ → Type 0) (ms : List Member) → AllByRecursion (λ (m : Member). P m.1) ms → AllByRecursion P (map (λ (m : Member). m.1) ms)
 values-of P [] h = tt
 values-of P (m ∷ ms) h = (h.0, values-of P ms h.1)
-
-collapsed-AreMembers : (limit : ℕ) (vs : Values) → AreGood object vs → AllByRecursion (λ (m : Member). IsCompact limit m.1) (members vs) → AreMembers limit (collapsed (members vs))
-collapsed-AreMembers limit vs good h = record {
-  named = collapsed-names IsUtf8 (members vs) (members-utf8 vs good);
-  valued = collapsed-values (IsCompact limit) (members vs) h;
-  distinct = collapsed-distinct (members vs);
-}
 
 -- What a compact text is made of: it is a number or a word, the quote of a text, an array or an object.
 pub data Form (limit : ℕ) (s : List ℕ) : Type 0 where
@@ -150,7 +133,11 @@ mutual
   compact-Form (filled array values) limit good shallow =
       listed _ (values-of (IsCompact (limit - 1)) (members values) (members-compact array values (limit - 1) good (omega (arith, shallow)))) (omega (arith, shallow)) refl
   compact-Form (filled object values) limit good shallow =
-      membered _ (collapsed-AreMembers (limit - 1) values good (members-compact object values (limit - 1) good (omega (arith, shallow)))) (omega (arith, shallow)) refl
+      membered _ (record {
+        named = collapsed-names IsUtf8 (members values) (members-utf8 values good);
+        valued = collapsed-values (IsCompact (limit - 1)) (members values) (members-compact object values (limit - 1) good (omega (arith, shallow)));
+        distinct = collapsed-distinct (members values);
+      }) (omega (arith, shallow)) refl
 
   members-compact : (c : Container) (vs : Values) (limit : ℕ) → AreGood c vs → values_depth vs ≤ limit → AllByRecursion (λ (m : Member). IsCompact limit m.1) (members vs)
   members-compact c (last label value blank) limit good shallow = (Form-compact limit _ (compact-Form value limit good.1 shallow), tt)

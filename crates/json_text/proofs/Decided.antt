@@ -16,7 +16,7 @@ use Rattle.json_text.proofs.Strings.{heads-differ}
 starts-or-not : (b : ℕ) (bytes : List ℕ) → StartsWith b bytes ⊎ (StartsWith b bytes → ⊥)
 starts-or-not b [] = inr (λ s. let e = s.1 in cc)
 starts-or-not b (x ∷ more) = elim (cases_Bool (eqb x b)) [
-  | inl e ↦ let same = eqb-true x b e in inl (more, λ i. same i ∷ more)
+  | inl e ↦ inl (more, ap (λ y. y ∷ more) (eqb-true x b e))
   | inr e ↦ inr (λ s. heads-differ x b more s.0 e s.1)
 ]
 
@@ -44,8 +44,6 @@ pub nests-or-not : (text : List ℕ) (limit : ℕ) → IsCompact 128 text → Is
 nests-or-not text limit is = elim (cases_lt limit (depth is.tree)) [
   | inl deeper ↦ inr (λ other.
       let same = tree-once is.tree other.tree [] [] is.good other.good tt tt (ap (λ s. s ++ []) (is.spells ∙ sym other.spells)) in
-      let both = ap depth same.0 in
-      let within = other.shallow in
-      omega arith)
+      omega (arith, other.shallow, ap depth same.0))
   | inr within ↦ inl (record { tree = is.tree; good = is.good; shallow = within; spells = is.spells; means = is.means })
 ]

@@ -7,6 +7,7 @@ pub mod Appending
 pub mod Escapes
 pub mod Passed
 pub mod Contents
+pub mod Spans
 pub mod Quoting
 pub mod Collapsed
 pub mod CompactLaws

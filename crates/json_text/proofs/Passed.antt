@@ -1,7 +1,6 @@
 -- The longest stretch from an offset on whose bytes pass a test.
-use Rattle.std.proofs.Common.{◌≡◌, ℕ, suc, ◌+◌, ◌-◌, ◌≤◌, List, [], ◌∷◌, take, drop, length, Bool, true, sym, subst, inl, inr, arith, length-drop}
+use Rattle.std.proofs.Common.{◌≡◌, ℕ, ◌+◌, ◌-◌, ◌≤◌, List, [], ◌∷◌, take, drop, length, Bool, true, sym, subst, arith, length-drop, one-add}
 use Rattle.std.specs.List.{AllByRecursion, prefix_len}
-use Rattle.std.proofs.lemmas.Bool.{cases_Bool}
 use Rattle.std.proofs.lemmas.List.Sums.{prefix_len-le-length}
 
 pub passed_within : (p : ℕ → Bool) (bytes : List ℕ) (at end : ℕ) → at ≤ length bytes → end ≡ at + prefix_len p (drop at bytes) → (at ≤ end) × (end ≤ length bytes)
@@ -15,9 +14,4 @@ passed_all p P each bytes at end is =
   where
     front : (xs : List ℕ) → AllByRecursion P (take (prefix_len p xs) xs)
     front [] = tt
-    front (x ∷ xs) = elim (cases_Bool (p x)) [
-      | inl e ↦
-          let one : 1 + prefix_len p xs ≡ suc (prefix_len p xs) = omega arith in
-          rw (e, one) (each x e, front xs)
-      | inr e ↦ rw e tt
-    ]
+    front (x ∷ xs) = rw one-add (grind (arith, each x, front xs))

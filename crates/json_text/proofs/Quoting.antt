@@ -1,6 +1,5 @@
 -- Copying the bytes that stand for themselves in a quote, and joining texts by commas.
 use Rattle.std.proofs.Common.{◌≡◌, ◌<◌, ◌≤◌, ℕ, ◌+◌, List, [], ◌∷◌, ◌++◌, false, refl, sym, ap, ◌∙◌, inl, inr, ◌⊎◌, one-add, add-one, take_all, drop_of_length-le, subst, arith, flat_map, position, Some, None, get_or, take, drop, length, map, All, append_assoc, append-nil, drop-cons}
-use Rattle.std.proofs.lemmas.Bool.{cases_Bool}
 use Rattle.std.proofs.lemmas.Bool.Decides.{nat_tests}
 use Rattle.std.proofs.lemmas.List.{take_more, length-take-le, length-map, get_or-map}
 use Rattle.std.proofs.lemmas.List.Elements.{All-more}
@@ -16,10 +15,7 @@ plain_byte b h = grind (arith, nat_tests)
 plain_front : (xs : List ℕ) →
     flat_map quoted_byte xs ≡ take (position_or_len needs_escape xs) xs ++ flat_map quoted_byte (drop (position_or_len needs_escape xs) xs)
 plain_front [] = refl
-plain_front (x ∷ xs) = elim (cases_Bool (needs_escape x)) [
-  | inl e ↦ rw e refl
-  | inr e ↦ rw (e, one-add, plain_byte x e) (ap (λ rest. x ∷ rest) (plain_front xs))
-]
+plain_front (x ∷ xs) = rw one-add (grind (arith, plain_byte x, plain_front xs))
 
 -- where `position` finds none, and where it finds one
 pub quoted-None : (xs : List ℕ) → None ≡ position needs_escape xs → flat_map quoted_byte xs ≡ xs
@@ -30,14 +26,6 @@ pub quoted-Some : (xs : List ℕ) (k : ℕ) → Some k ≡ position needs_escape
 quoted-Some xs k h =
     let first : (k < length xs) × (k ≡ position_or_len needs_escape xs) = grind (arith, nat_tests) in
     (first.0, plain_front xs ∙ rw (← first.1) (rw (drop-cons xs k 0 first.0, add-one) refl))
-
--- one turn of the loop that quotes
-pub quoted-step : (out plain done rest left total : List ℕ) (k : ℕ) → Some k ≡ position needs_escape rest →
-    plain ≡ out ++ take k rest → done ≡ plain ++ quoted_byte (get_or rest k 0) → left ≡ drop (k + 1) rest →
-    out ++ flat_map quoted_byte rest ≡ total → done ++ flat_map quoted_byte left ≡ total
-quoted-step out plain done rest left total k found first second third before =
-    let all = (quoted-Some rest k found).1 in
-    rw (second, first, third) (simp append_assoc (ap (λ s. out ++ s) (sym all) ∙ before))
 
 -- one more text between commas
 pub join-push : (c : ℕ) (ts : List (List ℕ)) (t : List ℕ) → 0 < length ts →
@@ -67,18 +55,14 @@ pub record Written (i : ℕ) (out : List ℕ) (ms : List Member) : Type 0 where
 
 pub members-step : (ms : List Member) (m : Member) (i : ℕ) (out comma done : List ℕ) → i < length ms → m ≡ get_or ms i m → IsUtf8 m.0 →
     Written i out ms → ((0 < i) × (comma ≡ out ++ 44 ∷ [])) ⊎ ((i ≡ 0) × (comma ≡ out)) → done ≡ comma ++ member_text m → Written (i + 1) done ms
-members-step ms m i out comma done l at utf8 before between last =
-    let inside : i < length (map member_text ms) = rw length-map l in
-    record {
-      text = items-step (123 ∷ []) (map member_text ms) (member_text m) i out comma done inside
-          (ap member_text at ∙ sym (get_or-map member_text ms i m (member_text m) l)) before.text between last;
-      named = All-more (λ (m : Member). IsUtf8 m.0) ms i m l before.named (subst (λ (m : Member). IsUtf8 m.0) at utf8);
-    }
+members-step ms m i out comma done l at utf8 before between last = record {
+  text = items-step (123 ∷ []) (map member_text ms) (member_text m) i out comma done (rw length-map l)
+      (ap member_text at ∙ sym (get_or-map member_text ms i m (member_text m) l)) before.text between last;
+  named = All-more (λ (m : Member). IsUtf8 m.0) ms i m l before.named (subst (λ (m : Member). IsUtf8 m.0) at utf8);
+}
 
 pub object-written : (ms : List Member) (i : ℕ) (out done : List ℕ) → length ms ≤ i → out ≡ 123 ∷ join_with_byte 44 (take i (map member_text ms)) → done ≡ out ++ 125 ∷ [] → done ≡ object_text ms
 unfolding object_text
-object-written ms i out done all before last =
-    let enough : length (map member_text ms) ≤ i = rw length-map all in
-    rw (last, before, take_all i (map member_text ms) enough) refl
+object-written ms i out done all before last = rw (last, before, take_all i (map member_text ms) (rw length-map all)) refl
 
-pub ruleset quote_steps = (quoted-step, quoted-None, quoted-Some)
+pub ruleset quote_steps = (quoted-None, quoted-Some)

@@ -35,9 +35,6 @@ pub record Head (p : ℕ → Bool) (s : List ℕ) : Type 0 where
   pub parts : s ≡ first ∷ more
   pub begins : p first ≡ true
 
-pub more-Head : (p : ℕ → Bool) (s rest : List ℕ) → Head p s → Head p (s ++ rest)
-more-Head p s rest h = record { first = h.first; more = h.more ++ rest; parts = rw h.parts refl; begins = h.begins }
-
 pub number-Head : (s : List ℕ) → IsNumber s → Head begins_number s
 number-Head s n = let signed = n.signed in let counted = n.counted in rw n.spells (grind (arith, nat_tests))
 
@@ -79,8 +76,8 @@ Follows-Stops s (b ∷ bs) n h = h n
 scalar-once : (s u r t : List ℕ) → IsNumber s ⊎ IsWord s → IsNumber u ⊎ IsWord u → Follows s r → Follows u t → s ++ r ≡ u ++ t → (s ≡ u) × (r ≡ t)
 scalar-once s u r t (inl n) (inl m) before after e =
     run-once extends_number s u r t (number-extends s n) (number-extends u m) (Follows-Stops s r n before) (Follows-Stops u t m after) e
-scalar-once s u r t (inl n) (inr w) before after e = let h = number-Head s n in grind (arith, nat_tests)
-scalar-once s u r t (inr w) (inl n) before after e = let h = number-Head u n in grind (arith, nat_tests)
+scalar-once s u r t (inl n) (inr w) before after e = grind (arith, nat_tests, number-Head s n)
+scalar-once s u r t (inr w) (inl n) before after e = grind (arith, nat_tests, number-Head u n)
 scalar-once s u r t (inr w) (inr v) before after e = grind arith
 
 -- what follows a value in a container: white space and then a byte that no number goes on with
@@ -110,29 +107,23 @@ abbrev Ends : ℕ → Type 0
 Ends b = (is_space b ≡ false) × (extends_number b ≡ false)
 
 -- one value of a container with its label and the white space behind it, up to a byte that ends it
-item-once : (c : Container) (l m : Label) (v w : Tree) (blank other rest more : List ℕ) (b d : ℕ) → IsLabel c l → IsLabel c m → IsGood v → IsGood w →
-    is_blank blank ≡ true → is_blank other ≡ true → Ends b → Ends d →
+item-once : (c : Container) (l m : Label) (v w : Tree) (blank other rest more : List ℕ) (b d : ℕ) → AreGood c (last l v blank) → AreGood c (last m w other) → Ends b → Ends d →
     (Follows (spelling v) (blank ++ b ∷ rest) → Follows (spelling w) (other ++ d ∷ more) →
     spelling v ++ (blank ++ b ∷ rest) ≡ spelling w ++ (other ++ d ∷ more) → (v ≡ w) × (blank ++ b ∷ rest ≡ other ++ d ∷ more)) →
     label_spelling l ++ (spelling v ++ (blank ++ b ∷ rest)) ≡ label_spelling m ++ (spelling w ++ (other ++ d ∷ more)) →
     (l ≡ m) × (v ≡ w) × (blank ≡ other) × (b ∷ rest ≡ d ∷ more)
-item-once c l m v w blank other rest more b d kind kind' good fine space space' end end' once e =
-    let label = label-once c l m _ _ kind kind' (tree-Stops v _ good) (tree-Stops w _ fine) e in
-    let value = once (Follows-blank (spelling v) blank rest b space end.1) (Follows-blank (spelling w) other more d space' end'.1) label.1 in
-    let between = run-once is_space blank other (b ∷ rest) (d ∷ more) space space' end.0 end'.0 value.1 in
+item-once c l m v w blank other rest more b d good fine end end' once e =
+    let label = label-once c l m _ _ good.0 fine.0 (tree-Stops v _ good.1) (tree-Stops w _ fine.1) e in
+    let value = once (Follows-blank (spelling v) blank rest b good.2 end.1) (Follows-blank (spelling w) other more d fine.2 end'.1) label.1 in
+    let between = run-once is_space blank other (b ∷ rest) (d ∷ more) good.2 fine.2 end.0 end'.0 value.1 in
     (label.0, value.0, between.0, between.1)
 
 -- brackets
 closing-Ends : (c : Container) → Ends (closing c)
-closing-Ends array = (refl, refl)
-closing-Ends object = (refl, refl)
+closing-Ends c = grind (arith, nat_tests)
 
 pub closing-no-comma : (c : Container) → eqb (closing c) 44 ≡ false
-closing-no-comma array = refl
-closing-no-comma object = refl
-
-opening-same : (c d : Container) {s t : List ℕ} → opening c ∷ s ≡ opening d ∷ t → c ≡ d
-opening-same c d e = grind (arith, nat_tests)
+closing-no-comma c = grind (arith, nat_tests)
 
 -- some bytes, and then P; and white space, and then P
 pub record Front (Q P : List ℕ → Type 0) (w : List ℕ) : Type 0 where
@@ -148,14 +139,10 @@ Blank P w = Front (λ s. is_blank s ≡ true) P w
 -- the values of a container begin with white space and then with the first byte of a value
 label-Front : (c : Container) (l : Label) (v : Tree) (r : List ℕ) → IsLabel c l → IsGood v → Blank (Head begins_value) (label_spelling l ++ (spelling v ++ r))
 label-Front array (unnamed before) v r h good =
-    record { front = before; rest = spelling v ++ r; holds = h; spells = refl; follows = more-Head begins_value (spelling v) r (tree-Head v good) }
-label-Front object (named before name between after) v r h good = record {
-  front = before;
-  rest = 34 ∷ (flat_map piece_spelling name ++ 34 ∷ (between ++ 58 ∷ (after ++ (spelling v ++ r))));
-  holds = h.0;
-  spells = spread before name between after (spelling v ++ r);
-  follows = record { first = 34; more = _; parts = refl; begins = refl };
-}
+    let head = tree-Head v good in
+    record { front = before; rest = _; holds = h; spells = refl; follows = record { first = head.first; more = head.more ++ r; parts = rw head.parts refl; begins = head.begins } }
+label-Front object (named before name between after) v r h good =
+    record { front = before; rest = _; holds = h.0; spells = spread before name between after (spelling v ++ r); follows = record { first = 34; more = _; parts = refl; begins = refl } }
 label-Front c l v r h good = absurd h
 
 pub values-Front : (c : Container) (vs : Values) → AreGood c vs → Blank (Head begins_value) (values_spelling vs)
@@ -184,33 +171,29 @@ mutual
   tree-once (scalar a) (scalar b) r s good fine before after e = let both = scalar-once a b r s good fine before after e in (cc, both.1)
   tree-once (text ps) (text qs) r s good fine before after e = let both = pieces-once ps qs r s good fine (simp append_assoc at (tail-same e)) in (cc, both.1)
   tree-once (empty c blank) (empty d other) r s good fine before after e =
-      let same = opening-same c d e in
+      let same : c ≡ d = grind (arith, nat_tests) in
       let run = run-once is_space blank other (closing c ∷ r) (closing d ∷ s) good fine (closing-Ends c).0 (closing-Ends d).0 (simp append_assoc at (tail-same e)) in
       (cc, tail-same run.1)
   tree-once (empty c blank) (filled d vs) r s good fine before after e = absurd (no-mix c d blank vs r s good fine e)
   tree-once (filled c vs) (empty d blank) r s good fine before after e = absurd (no-mix d c blank vs s r fine good (sym e))
   tree-once (filled c vs) (filled d ws) r s good fine before after e =
-      let same = opening-same c d e in
+      let same : c ≡ d = grind (arith, nat_tests) in
       let both = values-once c vs ws r s good (rw same fine) (rw (← same) at (simp append_assoc at (tail-same e))) in
       (cc, both.1)
   tree-once t u r s good fine before after e = absurd (grind (arith, nat_tests, scalar-Head))
 
   values-once : (c : Container) (vs ws : Values) (r s : List ℕ) → AreGood c vs → AreGood c ws → values_spelling vs ++ closing c ∷ r ≡ values_spelling ws ++ closing c ∷ s → (vs ≡ ws) × (r ≡ s)
   values-once c (last l v blank) (last m w other) r s good fine e =
-      let all = item-once c l m v w blank other r s _ _ good.0 fine.0 good.1 fine.1 good.2 fine.2 (closing-Ends c) (closing-Ends c)
-      (tree-once v w _ _ good.1 fine.1) (simp append_assoc at e) in
+      let all = item-once c l m v w blank other r s _ _ good fine (closing-Ends c) (closing-Ends c) (tree-once v w _ _ good.1 fine.1) (simp append_assoc at e) in
       (cc, tail-same all.3)
   values-once c (last l v blank) (next m w other ws) r s good fine e =
-      let all = item-once c l m v w blank other _ _ _ _ good.0 fine.0 good.1 fine.1 good.2 fine.2 (closing-Ends c) (refl, refl)
-      (tree-once v w _ _ good.1 fine.1) (simp append_assoc at e) in
+      let all = item-once c l m v w blank other _ _ _ _ good (fine.0, fine.1, fine.2) (closing-Ends c) (refl, refl) (tree-once v w _ _ good.1 fine.1) (simp append_assoc at e) in
       absurd (heads-differ (closing c) 44 _ _ (closing-no-comma c) all.3)
   values-once c (next l v blank vs) (last m w other) r s good fine e =
-      let all = item-once c l m v w blank other _ _ _ _ good.0 fine.0 good.1 fine.1 good.2 fine.2 (refl, refl) (closing-Ends c)
-      (tree-once v w _ _ good.1 fine.1) (simp append_assoc at e) in
+      let all = item-once c l m v w blank other _ _ _ _ (good.0, good.1, good.2) fine (refl, refl) (closing-Ends c) (tree-once v w _ _ good.1 fine.1) (simp append_assoc at e) in
       absurd (heads-differ (closing c) 44 _ _ (closing-no-comma c) (sym all.3))
   values-once c (next l v blank vs) (next m w other ws) r s good fine e =
-      let all = item-once c l m v w blank other _ _ _ _ good.0 fine.0 good.1 fine.1 good.2 fine.2 (refl, refl) (refl, refl)
-      (tree-once v w _ _ good.1 fine.1) (simp append_assoc at e) in
+      let all = item-once c l m v w blank other _ _ _ _ (good.0, good.1, good.2) (fine.0, fine.1, fine.2) (refl, refl) (refl, refl) (tree-once v w _ _ good.1 fine.1) (simp append_assoc at e) in
       let rest = values-once c vs ws r s good.3 fine.3 (tail-same all.3) in
       (cc, rest.1)
 
@@ -219,8 +202,7 @@ pub Stands-once : {bytes a b r s : List ℕ} → Stands bytes a r → Stands byt
 Stands-once {bytes} {a} {b} {r} {s} x y =
     let t = x.reads.tree in
     let u = y.reads.tree in
-    let front = rw (← x.reads.spells) at x.parts in
-    let other = rw (← y.reads.spells) at y.parts in
-    let space = run-once is_space x.blank y.blank (spelling t ++ r) (spelling u ++ s) x.space y.space (tree-Stops t r x.reads.good) (tree-Stops u s y.reads.good) (sym front ∙ other) in
+    let space = run-once is_space x.blank y.blank (spelling t ++ r) (spelling u ++ s) x.space y.space (tree-Stops t r x.reads.good) (tree-Stops u s y.reads.good)
+    (rw (x.reads.spells, y.reads.spells) (sym x.parts ∙ y.parts)) in
     let tree = tree-once t u r s x.reads.good y.reads.good (rw (← x.reads.spells) at x.ends) (rw (← y.reads.spells) at y.ends) space.1 in
     (sym x.reads.means ∙ ap compact tree.0 ∙ y.reads.means, tree.1)

@@ -4,6 +4,7 @@ pub mod Characters
 pub mod Compact
 pub mod Members
 pub mod Parts
+pub mod Spans
 pub mod Stretches
 pub mod Tree
 pub mod Value

@@ -1,41 +1,33 @@
 //! The text of a string in a text that is known to be JSON.
 
-ghost use Rattle.std.specs.Prelude.{◌≡◌, ◌≢◌, ℕ, [], ◌∷◌, true, ◌+◌, ◌*◌, ◌^◌, ◌<◌, ◌≤◌, ◌-◌, List, ◌++◌, take, drop, length, slice_get, slice_index, Some, IfOk, OnOk, IfSome, IfNone, encode_utf8};
+ghost use Rattle.std.specs.Prelude.{◌≡◌, ◌≢◌, ℕ, [], ◌∷◌, true, ◌+◌, ◌*◌, ◌^◌, ◌<◌, ◌≤◌, List, ◌++◌, drop, length, slice_get, slice_index, Some, IfOk, OnOk, IfSome, IfNone, encode_utf8};
 ghost use Rattle.std.specs.List.{prefix_len, list_all};
 ghost use Rattle.json_text.specs.Characters;
 ghost use Rattle.json_text.specs.Characters.{is_hex, is_plain};
-ghost use Rattle.json_text.specs.Tree.{unit};
+ghost use Rattle.json_text.specs.Spans.{between};
+ghost use Rattle.json_text.specs.Tree.{unit, IsPiece};
 ghost use Rattle.json_text.specs.Compact.{lone, piece_value};
 ghost use Rattle.json_text.specs.Compact;
 ghost use Rattle.json_text.specs.Tree;
-ghost use Rattle.json_text.specs.Walk.{Quoted, Unread, Takes, StartsWithUnit};
+ghost use Rattle.json_text.specs.Walk.{Quoted, Unread, Takes, StartsWithUnit, unit_at};
 
 use crate::text::{Raw, Text};
 use std::alloc::{AllocError, Global};
 
 /// The text of the string at an offset of a value, and the offset after the string. Where no character is escaped, no
 /// byte is copied.
+#[inline(always)]
 pub fn text_at(alloc: Global, value: &Raw, at: usize) -> Result<(Text, usize), AllocError>
     requires { (text rest : List ℕ) × Quoted (drop at value.now) text rest }
     ensures found { IfOk result (λ found. (text rest : List ℕ) → Quoted (drop at value.now) text rest → (found.0 ≡ text) × (drop found.1 value.now ≡ rest)) }
     ensures within { IfOk result (λ found. (at < found.1) × (found.1 ≤ length value.now)) }
 {
     let bytes = value.as_bytes();
-    match plain_end(bytes, at) {
-        Some(end) => Ok((value.cut_text(at + 1, end)?, end + 1)),
-        None => content_of(alloc, bytes, at),
-    }
-}
-
-/// Where the closing quotation mark of the string at an offset stands, if no character in the string is escaped.
-fn plain_end(bytes: &[u8], at: usize) -> Option<usize>
-    requires { (text rest : List ℕ) × Quoted (drop at bytes.now) text rest }
-    ensures text { IfSome result (λ end. (text rest : List ℕ) → Quoted (drop at bytes.now) text rest
-        → (take (end - (at + 1)) (drop (at + 1) bytes.now) ≡ text) × (drop (end + 1) bytes.now ≡ rest)) }
-    ensures within { IfSome result (λ end. (at < end) × (end < length bytes.now)) }
-{
     let end = run_end(bytes, at + 1);
-    if bytes[end] == b'"' { Some(end) } else { None }
+    if bytes[end] == b'"' {
+        return Ok((value.cut_text(at + 1, end)?, end + 1));
+    }
+    content_of(alloc, bytes, at)
 }
 
 /// The text of the string at an offset, and the offset after the string.
@@ -62,11 +54,12 @@ pub fn run_end(bytes: &[u8], at: usize) -> usize
     ensures value { result ≡ at + prefix_len is_plain (drop at bytes.now) }
     ensures within { (at ≤ result) × (result ≤ length bytes.now) }
 {
-    let mut next = at;
-    while next < bytes.len() && is_plain(bytes[next]) {
-        next += 1;
+    for i in at..bytes.len() {
+        if !is_plain(bytes[i]) {
+            return i;
+        }
     }
-    next
+    bytes.len()
 }
 
 /// A byte that stands in a string as it is. Most are letters.
@@ -94,7 +87,10 @@ fn push_escape(out: &mut Vec<u8>, rest: &[u8]) -> Result<usize, AllocError>
     };
     let first = unit_of(*a, *b, *c, *d);
     if let Some(second) = second_unit(first, tail) {
-        push_character(out, 0x1_0000 + (first - 0xd800) * 1024 + (second - 0xdc00))?;
+        push_character(
+            out,
+            0x1_0000 + ((first - 0xd800) * 1024 + (second - 0xdc00)),
+        )?;
         return Ok(12);
     }
     push_character(out, first)?;
@@ -103,7 +99,7 @@ fn push_escape(out: &mut Vec<u8>, rest: &[u8]) -> Result<usize, AllocError>
 
 /// The low surrogate that follows, where the first unit is a high one.
 fn second_unit(first: u32, tail: &[u8]) -> Option<u32>
-    requires { (text after : List ℕ) × Unread tail.now text after }
+    requires { slice_index tail.now 0 ≡ 92 → slice_index tail.now 1 ≡ 117 → IsPiece (unit_at tail.now) }
     ensures found { IfSome result (λ second. (Compact.is_high first ≡ true) × (Compact.is_low second ≡ true) × StartsWithUnit tail.now second) }
     ensures none { IfNone result ((second : ℕ) → Compact.is_high first ≡ true → Compact.is_low second ≡ true → StartsWithUnit tail.now second → ⊥) }
 {
@@ -154,19 +150,19 @@ fn is_low(unit: u32) -> bool
     0xdc00 <= unit && unit < 0xe000
 }
 
-/// The character that a letter behind a `\` stands for.
+/// The character that a letter behind a `\` stands for, and 0 for a letter that may not stand there.
 fn letter_meaning(letter: u8) -> u8
-    requires { Tree.letter_meaning letter ≢ 0 }
     ensures value { result ≡ Tree.letter_meaning letter }
     ensures ascii { result < 128 }
 {
     match letter {
+        b'"' | b'\\' | b'/' => letter,
         b'b' => 0x08,
         b'f' => 0x0c,
         b'n' => b'\n',
         b'r' => b'\r',
         b't' => b'\t',
-        same => same,
+        _ => 0,
     }
 }
 

@@ -18,7 +18,10 @@ pub fn push_quote(out: &mut Vec<u8>, text: &Text) -> Result<(), AllocError>
     ensures utf8 { IsUtf8 text.now }
     ensures nests { IsCompact 0 (quote text.now) }
 {
-    push_quote_of(out, text.as_bytes())
+    match text.as_quote() {
+        Some(quote) => out.extend_from_slice(quote),
+        None => push_quote_of(out, text.as_bytes()),
+    }
 }
 
 /// Appends the quote of these characters. For want of memory nothing is appended.
@@ -58,6 +61,7 @@ fn push_quote_of(out: &mut Vec<u8>, text: &[u8]) -> Result<(), AllocError>
 }
 
 /// Appends the quote of a text of these bytes. After want of memory a part of it may stand there.
+#[tactic(auto, using(std::proofs::lemmas::Grind::common_steps), unfolding(crate::specs::Characters::quote))]
 fn push_quote_parts(out: &mut Vec<u8>, text: &[u8]) -> Result<(), AllocError>
     ensures ok { OnOk result (out.new.items ≡ out.old.items ++ quote text.now) }
     ensures kept { OnErr result (Extends out.old.items out.new.items) }

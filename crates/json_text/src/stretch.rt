@@ -1,7 +1,8 @@
 //! Stretches of bytes that are shared or fixed.
 
-ghost use Rattle.std.specs.Prelude.{◌≡◌, ◌+◌, ◌-◌, ◌≤◌, take, drop, length, IfOk};
-ghost use Rattle.json_text.specs.Stretches.{bytes_of};
+ghost use Rattle.std.specs.Prelude.{◌≡◌, ◌+◌, ◌≤◌, length, IfOk, IfSome};
+ghost use Rattle.json_text.specs.Characters.{quote};
+ghost use Rattle.json_text.specs.Spans.{between, bytes_at, StandsQuoted};
 
 use std::alloc::AllocError;
 use std::marker::Model;
@@ -22,11 +23,13 @@ impl Drop for Stretch {
 
 impl Model for Stretch {
     ghost use Rattle.std.specs.Prelude.{List, ℕ};
-    ghost use Rattle.json_text.specs.Stretches.{bytes_of};
+    ghost use Rattle.json_text.specs.Stretches.{bytes_of, IsHeld};
 
     ghost Value = { List ℕ };
 
     ghost view = { λ s. bytes_of s.held };
+
+    ghost invariant = { λ s. IsHeld s.held };
 }
 
 /// Where the bytes are.
@@ -34,6 +37,8 @@ impl Model for Stretch {
 enum Held {
     /// They are a part of bytes that others have parts of.
     Shared(Part),
+    /// They are such a part, with their quote around them.
+    Quoted(Part),
     /// They are bytes of the program itself.
     Fixed(&'static [u8]),
 }
@@ -47,11 +52,12 @@ struct Part {
 }
 
 impl Model for Part {
-    ghost use Rattle.std.specs.Prelude.{List, ℕ, ◌-◌, ◌≤◌, take, drop, length};
+    ghost use Rattle.std.specs.Prelude.{◌≤◌, length};
+    ghost use Rattle.json_text.specs.Spans.{Span};
 
-    ghost Value = { List ℕ };
+    ghost Value = { Span };
 
-    ghost view = { λ p. take (p.end - p.start) (drop p.start p.source.value.items) };
+    ghost view = { λ p. record { source = p.source.value.items; start = p.start; end = p.end } };
 
     ghost invariant = { λ p. (p.start ≤ p.end) × (p.end ≤ length p.source.value.items) };
 }
@@ -86,21 +92,23 @@ impl Stretch {
     }
 
     /// How many bytes there are, without a look at them.
+    #[inline(always)]
     pub(crate) fn len(&self) -> usize
         ensures { result ≡ length self.now }
     {
         match &self.held {
-            Held::Shared(part) => part.len(),
+            Held::Shared(part) | Held::Quoted(part) => part.len(),
             Held::Fixed(bytes) => bytes.len(),
         }
     }
 
     /// The bytes.
+    #[inline(always)]
     pub(crate) fn as_slice(&self) -> &[u8]
         ensures { result.now ≡ self.now }
     {
         match &self.held {
-            Held::Shared(part) => part.as_slice(),
+            Held::Shared(part) | Held::Quoted(part) => part.as_slice(),
             Held::Fixed(bytes) => bytes,
         }
     }
@@ -112,37 +120,70 @@ impl Stretch {
     {
         let held = match &self.held {
             Held::Shared(part) => Held::Shared(part.try_clone()?),
+            Held::Quoted(part) => Held::Quoted(part.try_clone()?),
             Held::Fixed(bytes) => Held::Fixed(bytes),
         };
         Ok(Stretch { held })
     }
 
     /// The bytes between two offsets. It takes no memory, and fails only as `try_clone` does.
+    #[tactic(auto, using(crate::proofs::Spans::span_steps))]
     pub(crate) fn cut(&self, start: usize, end: usize) -> Result<Stretch, AllocError>
         requires { (start ≤ end) × (end ≤ length self.now) }
-        ensures { IfOk result (λ stretch. stretch ≡ take (end - start) (drop start self.now)) }
+        ensures { IfOk result (λ stretch. stretch ≡ between self.now start end) }
     {
         let held = match &self.held {
-            Held::Shared(part) => Held::Shared(part.cut(start, end)?),
+            Held::Shared(part) | Held::Quoted(part) => Held::Shared(part.cut(start, end)?),
             Held::Fixed(bytes) => Held::Fixed(&bytes[start..end]),
         };
         Ok(Stretch { held })
+    }
+
+    /// The bytes between two offsets, with their quote around them. It takes no memory, and fails only as `try_clone` does.
+    #[tactic(auto, using(crate::proofs::Spans::span_steps))]
+    pub(crate) fn cut_quoted(&self, start: usize, end: usize) -> Result<Stretch, AllocError>
+        requires { StandsQuoted self.now start end }
+        ensures { IfOk result (λ stretch. stretch ≡ between self.now start end) }
+    {
+        let held = match &self.held {
+            Held::Shared(part) | Held::Quoted(part) => Held::Quoted(part.cut(start, end)?),
+            Held::Fixed(bytes) => Held::Fixed(&bytes[start..end]),
+        };
+        Ok(Stretch { held })
+    }
+
+    /// The quote of the bytes, where it stands around them.
+    pub(crate) fn as_quote(&self) -> Option<&[u8]>
+        ensures { IfSome result (λ bytes. bytes.now ≡ quote self.now) }
+    {
+        match &self.held {
+            Held::Quoted(part) => Some(part.around()),
+            Held::Shared(_) | Held::Fixed(_) => None,
+        }
     }
 }
 
 impl Part {
     /// How many bytes there are.
     fn len(&self) -> usize
-        ensures { result ≡ length self.now }
+        ensures { result ≡ length (bytes_at self.now) }
     {
         (self.end - self.start) as usize
     }
 
     /// The bytes.
     fn as_slice(&self) -> &[u8]
-        ensures { result.now ≡ self.now }
+        ensures { result.now ≡ bytes_at self.now }
     {
         &self.source.as_slice()[self.start as usize..self.end as usize]
+    }
+
+    /// The bytes, with the byte before them and the byte after them.
+    fn around(&self) -> &[u8]
+        requires { StandsQuoted self.now.source self.now.start self.now.end }
+        ensures { result.now ≡ quote (bytes_at self.now) }
+    {
+        &self.source.as_slice()[self.start as usize - 1..self.end as usize + 1]
     }
 
     /// The same part.
@@ -158,8 +199,8 @@ impl Part {
 
     /// The part between two offsets of this one.
     fn cut(&self, start: usize, end: usize) -> Result<Part, AllocError>
-        requires { (start ≤ end) × (end ≤ length self.now) }
-        ensures { IfOk result (λ part. part ≡ take (end - start) (drop start self.now)) }
+        requires { (start ≤ end) × (end ≤ length (bytes_at self.now)) }
+        ensures { IfOk result (λ part. part ≡ record { source = self.now.source; start = self.now.start + start; end = self.now.start + end }) }
     {
         Ok(Part {
             source: self.source.clone()?,

@@ -1,7 +1,9 @@
 //! Texts, and the compact texts of values.
 
-ghost use Rattle.std.specs.Prelude.{◌≡◌, ◌-◌, ◌≤◌, take, drop, length, IfOk, MatchOption};
+ghost use Rattle.std.specs.Prelude.{◌≡◌, ◌-◌, ◌≤◌, take, drop, length, IfOk, IfSome, MatchOption};
 ghost use Rattle.std.specs.Str.{IsUtf8};
+ghost use Rattle.json_text.specs.Characters.{quote};
+ghost use Rattle.json_text.specs.Spans.{between, StandsQuoted};
 ghost use Rattle.json_text.specs.Value.{IsCompact};
 
 use crate::stretch::Stretch;
@@ -100,6 +102,14 @@ impl Text {
         })
     }
 
+    /// Its quote, where that stands around it. No byte is looked at.
+    pub(crate) fn as_quote(&self) -> Option<&[u8]>
+        ensures value { IfSome result (λ bytes. bytes.now ≡ quote self.now) }
+        ensures utf8 { IsUtf8 self.now }
+    {
+        self.bytes.as_quote()
+    }
+
     /// The text with these bytes.
     pub(crate) fn from_utf8(bytes: Vec<u8>) -> Result<Text, AllocError>
         requires { IsUtf8 bytes.items }
@@ -140,6 +150,7 @@ impl Raw {
     }
 
     /// The value whose compact text stands between two offsets of this one's. No byte is copied.
+    #[inline(always)]
     pub fn cut(&self, start: usize, end: usize) -> Result<Raw, AllocError>
         requires within { (start ≤ end) × (end ≤ length self.now) }
         requires compact { IsCompact 128 (take (end - start) (drop start self.now)) }
@@ -150,14 +161,15 @@ impl Raw {
         })
     }
 
-    /// The text that stands between two offsets of the compact text. No byte is copied.
+    /// The text that stands between two offsets of the compact text, with its quote around it. No byte is copied.
+    #[inline(always)]
     pub(crate) fn cut_text(&self, start: usize, end: usize) -> Result<Text, AllocError>
-        requires within { (start ≤ end) × (end ≤ length self.now) }
-        requires utf8 { IsUtf8 (take (end - start) (drop start self.now)) }
-        ensures { IfOk result (λ text. text ≡ take (end - start) (drop start self.now)) }
+        requires quoted { StandsQuoted self.now start end }
+        requires utf8 { IsUtf8 (between self.now start end) }
+        ensures { IfOk result (λ text. text ≡ between self.now start end) }
     {
         Ok(Text {
-            bytes: self.bytes.cut(start, end)?,
+            bytes: self.bytes.cut_quoted(start, end)?,
         })
     }
 

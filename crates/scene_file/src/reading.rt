@@ -1,9 +1,10 @@
 //! Reading scenes.
 
-ghost use Rattle.std.specs.Prelude.{◌≡◌, ◌<◌, ◌≤◌, ℕ, List as Items, length, drop, Err, IfOk, MatchOption, option_copied, is_some};
+ghost use Rattle.std.specs.Prelude.{◌≡◌, ◌<◌, ◌≤◌, ℕ, List as Items, [], length, drop, Err, IfOk, MatchOption, option_copied, is_some};
 ghost use Rattle.std.specs.List.{list_all};
 ghost use Rattle.json_text.specs.Compact.{Member as Pair};
 ghost use Rattle.json_text.specs.Members.{pairs};
+ghost use Rattle.scene_json.specs.Walks.{AreLeft};
 ghost use Rattle.elem_read.specs.Elements.{AreRead, IsFirstFaulty};
 ghost use Rattle.elem_read.specs.declared.fault.ElemFault.{ElemFault};
 ghost use Rattle.scene_file.specs.Reading.{value_unless_null, loaded, HasItems, HasMembers, IsSceneOf, IsSceneFault, IsSceneAt, IsSceneFaultAt};
@@ -15,10 +16,10 @@ use crate::head::head_of;
 use crate::scene::Scene;
 use board_io::{List, Stop};
 use elem::Element;
-use elem_read::read_elements;
+use elem_read::read_array;
 use json_reader::scan;
 use json_text::{Member, Raw};
-use scene_json::{has_value, is_null, items, members, shaped, value_named};
+use scene_json::{Objects, has_value, is_null, members, shaped, value_named};
 use std::alloc::{AllocError, Global};
 use view::with_repaired_keys;
 
@@ -53,7 +54,7 @@ pub fn scene_of(alloc: Global, value: &Raw) -> Result<Scene, Stop<SceneFault>>
     if !has_value(&found, "type", "\"excalidraw\"") {
         return Err(Stop::Fault(SceneFault::NotScene));
     }
-    let Some(values) = items_given(alloc, &found, "elements")? else {
+    let Some(objects) = objects_given(&found, "elements") else {
         return Err(Stop::Fault(SceneFault::Elements));
     };
     let Some(settings) = members_given(alloc, &found, "appState")? else {
@@ -62,7 +63,7 @@ pub fn scene_of(alloc: Global, value: &Raw) -> Result<Scene, Stop<SceneFault>>
     let Some(entries) = members_given(alloc, &found, "files")? else {
         return Err(Stop::Fault(SceneFault::Files));
     };
-    let read = elements_of(alloc, &values)?;
+    let read = elements_of(alloc, objects)?;
     let elements = loaded(alloc, read.into_vec())?;
     Ok(Scene {
         head: head_of(alloc, &found, settings, entries)?,
@@ -80,19 +81,20 @@ fn given<'a>(members: &'a List<Member>, name: &str) -> Option<&'a Raw>
     }
 }
 
-/// The items of the array that is given under a name, none where it is missing. `None` where it is no array.
-fn items_given(
-    alloc: Global,
-    members: &List<Member>,
-    name: &str,
-) -> Result<Option<List<Raw>>, AllocError>
-    ensures { IfOk result (λ found. MatchOption found
+/// All items of the array that is given under a name, or `None` where it is missing. The outer `None` comes where it is no
+/// array.
+fn objects_given<'a>(members: &'a List<Member>, name: &str) -> Option<Option<Objects<'a>>>
+    ensures { MatchOption result
         ((values : Items (Items ℕ)) → HasItems (value_unless_null name.now (pairs members.now)) values → ⊥)
-        (HasItems (value_unless_null name.now (pairs members.now)))) }
+        (λ objects. (values : Items (Items ℕ)) × HasItems (value_unless_null name.now (pairs members.now)) values
+        × MatchOption objects (values ≡ []) (λ walk. AreLeft walk values)) }
 {
     match given(members, name) {
-        Some(value) => shaped(items(alloc, value)),
-        None => Ok(Some(List::new(alloc))),
+        Some(value) => match Objects::of(value) {
+            Some(objects) => Some(Some(objects)),
+            None => None,
+        },
+        None => Some(None),
     }
 }
 
@@ -112,13 +114,21 @@ fn members_given(
     }
 }
 
-/// The elements that the values are, in their order, or the first fault among them.
-fn elements_of(alloc: Global, values: &List<Raw>) -> Result<List<Element>, Stop<SceneFault>>
-    ensures read { IfOk result (AreRead values.now) }
+/// The elements that the items of an array are, in their order, or the first fault among them; none where it is missing.
+fn elements_of(
+    alloc: Global,
+    objects: Option<Objects<'_>>,
+) -> Result<List<Element>, Stop<SceneFault>>
+    ensures read { IfOk result (λ elements. (values : Items (Items ℕ)) → MatchOption objects.entry (values ≡ []) (λ walk. AreLeft walk values)
+        → AreRead values elements) }
     ensures fault { (fault : SceneFault) → result ≡ Err (Stop.Fault fault)
-        → (place : ℕ) × (why : ElemFault) × (fault ≡ SceneFault.Element place why) × IsFirstFaulty values.now place why }
+        → (values : Items (Items ℕ)) → MatchOption objects.entry (values ≡ []) (λ walk. AreLeft walk values)
+        → (place : ℕ) × (why : ElemFault) × (fault ≡ SceneFault.Element place why) × IsFirstFaulty values place why }
 {
-    match read_elements(alloc, values) {
+    let Some(objects) = objects else {
+        return Ok(List::new(alloc));
+    };
+    match read_array(alloc, objects) {
         Ok(elements) => Ok(elements),
         Err(Stop::Fault(faulty)) => {
             Err(Stop::Fault(SceneFault::Element(faulty.place, faulty.fault)))

@@ -1,25 +1,15 @@
 -- Where a string ends.
-use Rattle.std.proofs.Common.{◌≡◌, ℕ, suc, ◌+◌, ◌<◌, ◌≤◌, min, get_or, drop, drop-drop, drop-cons, drop_of_length-le, length-drop, List, [], ◌∷◌, ◌++◌, Bool, true, false, not, ◌&&◌, ◌==◌, if◌then◌else◌, length, flat_map, refl, sym, ap, ◌∙◌, append_assoc, arith}
+use Rattle.std.proofs.Common.{◌≡◌, ℕ, suc, ◌+◌, ◌<◌, ◌≤◌, min, get_or, drop, drop-drop, drop-cons, drop_of_length-le, length-drop, List, [], ◌∷◌, ◌++◌, Bool, true, false, not, ◌&&◌, ◌==◌, length, flat_map, refl, sym, ap, ◌∙◌, append_assoc, arith}
 use Rattle.std.specs.List.{list_all, AllByRecursion, prefix_len}
 use Rattle.std.specs.Char.{encode_utf8}
-use Rattle.std.proofs.lemmas.List.{append_cancel_right}
-use Rattle.std.proofs.lemmas.List.Sums.{prefix_len-le-length}
+use Rattle.std.proofs.lemmas.List.{get_or-drop}
+use Rattle.std.proofs.lemmas.List.Sums.{prefix_len-le-length, prefix_len_stops}
 use Rattle.std.proofs.lemmas.Bool.Decides.{nat_tests}
 use Rattle.json_text.specs.Characters.{is_hex, is_plain}
 use Rattle.json_text.specs.Tree.{Piece, bare, letter, unit, IsPiece, piece_spelling}
 use Rattle.scene_json.specs.Passes.{behind_string}
 use Rattle.json_text.proofs.Literals.{list_all-each}
 use Rattle.json_text.proofs.Strings.{plain-bare, hex-plain}
-
--- a string up to its end, of which these bytes are the rest
-abbrev pub string_front : Bool → List ℕ → List ℕ
-string_front escaped [] = []
-string_front escaped (b ∷ bs) =
-    b ∷ (if b == 34 && not escaped then [] else string_front (b == 92 && not escaped) bs)
-
-pub front-behind : (escaped : Bool) (bs : List ℕ) → string_front escaped bs ++ behind_string escaped bs ≡ bs
-front-behind escaped [] = refl
-front-behind escaped (b ∷ bs) = grind (arith, front-behind (b == 92 && not escaped) bs)
 
 pub length-behind_string : (escaped : Bool) (bs : List ℕ) → length (behind_string escaped bs) ≤ length bs
 length-behind_string escaped [] = omega arith
@@ -38,30 +28,18 @@ piece-behind (unit a b c d) bs h = plain-behind (a ∷ b ∷ c ∷ d ∷ []) bs 
 -- behind a string of good pieces stands what follows it
 pub pieces-behind : (ps : List Piece) (bs : List ℕ) → AllByRecursion IsPiece ps → behind_string false (flat_map piece_spelling ps ++ 34 ∷ bs) ≡ bs
 pieces-behind [] bs h = refl
-pieces-behind (p ∷ ps) bs h =
-    ap (behind_string false) (append_assoc (piece_spelling p) (flat_map piece_spelling ps) (34 ∷ bs))
-    ∙ piece-behind p (flat_map piece_spelling ps ++ 34 ∷ bs) h.0 ∙ pieces-behind ps bs h.1
-
-pub pieces-front : (ps : List Piece) (bs : List ℕ) → AllByRecursion IsPiece ps → string_front false (flat_map piece_spelling ps ++ 34 ∷ bs) ≡ flat_map piece_spelling ps ++ 34 ∷ []
-pieces-front ps bs h =
-    let front = string_front false (flat_map piece_spelling ps ++ 34 ∷ bs) in
-    append_cancel_right front (flat_map piece_spelling ps ++ 34 ∷ []) bs
-    (ap (λ x. front ++ x) (sym (pieces-behind ps bs h)) ∙ front-behind false (flat_map piece_spelling ps ++ 34 ∷ bs) ∙ sym (append_assoc (flat_map piece_spelling ps) (34 ∷ []) bs))
+pieces-behind (p ∷ ps) bs h = simp append_assoc (grind (arith, piece-behind p (flat_map piece_spelling ps ++ 34 ∷ bs), pieces-behind ps bs))
 
 -- a run of plain bytes at the front, which ends at the string's end or at an escape
 pub behind-run : (bs : List ℕ) → behind_string false (drop (prefix_len is_plain bs) bs) ≡ behind_string false bs
 behind-run [] = refl
 behind-run (b ∷ bs) = grind (arith, nat_tests, drop-drop (prefix_len is_plain bs) 1 (b ∷ bs), behind-run bs)
 
-pub run-stops : (bs : List ℕ) (b : ℕ) (others : List ℕ) → drop (prefix_len is_plain bs) bs ≡ b ∷ others → is_plain b ≡ false
-run-stops [] b others e = absurd (cc)
-run-stops (x ∷ bs) b others e = grind (arith, drop-drop (prefix_len is_plain bs) 1 (x ∷ bs), run-stops bs b others)
-
 -- Behind a run of plain bytes, what stands behind the string is still to come.
 pub record IsMarked (bytes : List ℕ) (next : ℕ) : Type 0 where
   pub within : next ≤ length bytes
   pub same : behind_string false (drop next bytes) ≡ behind_string false bytes
-  pub stops : (b : ℕ) (others : List ℕ) → drop next bytes ≡ b ∷ others → is_plain b ≡ false
+  pub stops : next < length bytes → is_plain (get_or bytes next 0) ≡ false
 
 pub marked-run : (bytes : List ℕ) (at end : ℕ) → at ≤ length bytes → behind_string false (drop at bytes) ≡ behind_string false bytes → end ≡ at + prefix_len is_plain (drop at bytes)
     → IsMarked bytes end
@@ -70,11 +48,11 @@ marked-run bytes at end low same is =
     record {
       within = omega (arith, is, prefix_len-le-length is_plain (drop at bytes), length-drop at bytes);
       same = ap (behind_string false) there ∙ behind-run (drop at bytes) ∙ same;
-      stops = λ b others e. run-stops (drop at bytes) b others (sym there ∙ e);
+      stops = λ low. rw (is, ← get_or-drop at bytes (prefix_len is_plain (drop at bytes)) 0) (prefix_len_stops is_plain (drop at bytes) 0 (omega (arith, length-drop at bytes)));
     }
 
-pub marked-past : (bytes : List ℕ) (next : ℕ) → IsMarked bytes next → length bytes ≤ next → [] ≡ behind_string false bytes
-marked-past bytes next marked past = ap (behind_string false) (sym (drop_of_length-le bytes past)) ∙ marked.same
+pub marked_past : (bytes : List ℕ) (next : ℕ) → IsMarked bytes next → length bytes ≤ next → [] ≡ behind_string false bytes
+marked_past bytes next marked past = ap (behind_string false) (sym (drop_of_length-le bytes past)) ∙ marked.same
 
 -- the byte behind a `\` plays no part
 passed : (bs : List ℕ) → behind_string false (drop 1 bs) ≡ behind_string false (92 ∷ bs)
@@ -82,13 +60,13 @@ passed [] = refl
 passed (b ∷ bs) = grind (arith, nat_tests)
 
 -- behind the escape, of which the bytes may break off
-pub marked-escape : (bytes : List ℕ) (next : ℕ) → IsMarked bytes next → next < length bytes → (get_or bytes next 0 ≡ 34 → ⊥) →
-    (k : ℕ) → k ≡ min (length bytes) (next + 2) → (k ≤ length bytes) × (behind_string false (drop k bytes) ≡ behind_string false bytes)
-marked-escape bytes next marked high other k is =
+pub marked-next : (bytes : List ℕ) (next k end : ℕ) → end ≡ k + prefix_len is_plain (drop k bytes) → k ≡ min (length bytes) (next + 2) →
+    IsMarked bytes next → next < length bytes → (get_or bytes next 0 ≡ 34 → ⊥) → IsMarked bytes end
+marked-next bytes next k end run is marked high other =
     let split = drop-cons bytes next 0 high in
-    let solid = marked.stops _ _ split in
+    let solid = marked.stops high in
     let slash : get_or bytes next 0 ≡ 92 = grind (arith, nat_tests) in
     let two : next + 2 ≡ suc next + 1 = omega arith in
     let all : behind_string false (drop (next + 2) bytes) ≡ behind_string false bytes =
     rw (two, ← drop-drop 1 (suc next) bytes) (passed (drop (suc next) bytes) ∙ ap (behind_string false) (sym (rw slash at split)) ∙ marked.same) in
-    (omega (arith, is), grind (arith, all, drop_of_length-le))
+    marked-run bytes k end (omega (arith, is)) (grind (arith, all, drop_of_length-le)) run

@@ -1,7 +1,6 @@
 -- Digits, and the number that they are in decimal.
-use Rattle.std.proofs.Common.{◌≡◌, ℕ, zero, suc, ◌+◌, ◌*◌, ◌-◌, ◌<◌, ◌≤◌, ◌^◌, List, length, get_or, take, decimal, sym, ◌∙◌, ap, arith}
+use Rattle.std.proofs.Common.{◌≡◌, ℕ, zero, suc, ◌+◌, ◌*◌, ◌-◌, ◌<◌, ◌≤◌, ◌^◌, List, length, get_or, take, take_all, decimal, sym, ◌∙◌, ap, arith}
 use Rattle.std.specs.Int.{IsInRange}
-use Rattle.std.specs.Char.{digit_value}
 use Rattle.std.specs.Str.Parse.{AllDigits, digits_value}
 use Rattle.std.proofs.lemmas.Str.{digit_value_digit}
 use Rattle.std.proofs.lemmas.Str.Parse.{IsNumeralModel, numerals_by_value, tells_digits, digit_at, digits_value-take-le}
@@ -13,23 +12,19 @@ own : IsNumeralModel (AllDigits 10) (digits_value 10)
 own = numerals_by_value (AllDigits 10) tells_digits
 
 -- digits without a leading zero are what `decimal` writes
-pub decimal_of_digits : (ds : List ℕ) (n : ℕ) → AllDigits 10 ds → 0 < length ds → (get_or ds 0 0 ≡ 48 → length ds ≡ 1) → digits_value 10 ds ≡ n → n < 2 ^ 64 → ds ≡ decimal n
-decimal_of_digits ds n digits some plain is small =
-    let fits : digits_value 10 ds < 2 ^ 64 = omega arith in
-    sym (decimal-digits_value own ds digits some plain fits) ∙ ap decimal is
+pub decimal_of_digits : (ds : List ℕ) (i n : ℕ) → length ds ≤ i → AllDigits 10 (take i ds) → 0 < length ds → (get_or ds 0 0 ≡ 48 → length ds ≡ 1) → digits_value 10 (take i ds) ≡ n → n ≤ 9007199254740991 → ds ≡ decimal n
+decimal_of_digits ds i n past digits some plain is small =
+    let all = take_all i ds past in
+    let fits : digits_value 10 ds < 2 ^ 64 = omega (arith, ap (digits_value 10) all) in
+    sym (decimal-digits_value own ds (rw all at digits) some plain fits) ∙ ap (λ xs. decimal (digits_value 10 xs)) (sym all) ∙ ap decimal is
 
 -- one more digit
 pub value_more : (ds : List ℕ) (i n : ℕ) → i < length ds → IsInRange 48 57 (get_or ds i 0) → digits_value 10 (take i ds) ≡ n → digits_value 10 (take (i + 1) ds) ≡ n * 10 + (get_or ds i 0 - 48)
 value_more ds i n within digit is =
-    let step = digits_value_more 10 ds i within in
-    let e : digit_value (get_or ds i 0) + 48 ≡ get_or ds i 0 = digit_value_digit (get_or ds i 0) digit in
-    omega arith
+    omega (arith, digits_value_more 10 ds i within, digit_value_digit (get_or ds i 0) digit)
 
 pub digits_step : (ds : List ℕ) (i : ℕ) → i < length ds → IsInRange 48 57 (get_or ds i 0) → AllDigits 10 (take i ds) → AllDigits 10 (take (i + 1) ds)
-digits_step ds i within digit digits =
-    let e : digit_value (get_or ds i 0) + 48 ≡ get_or ds i 0 = digit_value_digit (get_or ds i 0) digit in
-    let small : digit_value (get_or ds i 0) < 10 = omega arith in
-    digits_more 10 ds i within digits small
+digits_step ds i within digit digits = digits_more 10 ds i within digits (omega (arith, digit_value_digit (get_or ds i 0) digit))
 
 -- what `decimal` writes are digits, and each stretch at its front is at most the number
 pub digits_of_decimal : (ds : List ℕ) (n : ℕ) → n < 2 ^ 64 → ds ≡ decimal n → (0 < length ds) × AllDigits 10 ds
@@ -40,6 +35,9 @@ digit_of_decimal ds n i small is within = digit_at ds i (digits_of_decimal ds n 
 
 pub value_of_decimal : (ds : List ℕ) (n : ℕ) → n < 2 ^ 64 → ds ≡ decimal n → digits_value 10 ds ≡ n
 value_of_decimal ds n small is = ap (digits_value 10) is ∙ (decimal_is_IsNumeral n small).1
+
+pub only_decimal : (ds : List ℕ) (i whole n : ℕ) → length ds ≤ i → digits_value 10 (take i ds) ≡ whole → n ≤ 9007199254740991 → ds ≡ decimal n → whole ≡ n
+only_decimal ds i whole n past is small e = sym is ∙ ap (digits_value 10) (take_all i ds past) ∙ value_of_decimal ds n (omega arith) e
 
 pub front_of_decimal : (ds : List ℕ) (n i : ℕ) → n < 2 ^ 64 → ds ≡ decimal n → digits_value 10 (take i ds) ≤ n
 front_of_decimal ds n i small is =
@@ -52,4 +50,4 @@ first_of_decimal ds (suc n) small is several first =
     omega (arith, first_decimal (suc n) (omega arith) small, ap (λ (bs : List ℕ). get_or bs 0 0) is)
 
 -- what is known of digits that are read one by one
-pub ruleset decimal_steps = (decimal_of_digits, value_more, digits_step, digits_of_decimal, digit_of_decimal, value_of_decimal, front_of_decimal, first_of_decimal)
+pub ruleset decimal_steps = (decimal_of_digits, value_more, digits_step, digits_of_decimal, digit_of_decimal, value_of_decimal, only_decimal, front_of_decimal, first_of_decimal)

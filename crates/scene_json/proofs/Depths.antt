@@ -1,14 +1,14 @@
 -- How a pass over a text counts the brackets that are open at once.
-use Rattle.std.proofs.Common.{◌≡◌, ℕ, ◌+◌, ◌-◌, ◌≤◌, max, List, [], ◌∷◌, Bool, false, not, ◌&&◌, ◌==◌, if◌then◌else◌, cond, refl, sym, ap, ◌∙◌, append-nil, arith}
-use Rattle.std.specs.List.{count_by}
+use Rattle.std.proofs.Common.{◌≡◌, length, ℕ, ◌+◌, ◌-◌, ◌≤◌, max, List, [], ◌∷◌, Bool, false, not, ◌&&◌, ◌==◌, if◌then◌else◌, refl, sym, ap, ◌∙◌, append-nil, arith}
+use Rattle.std.proofs.lemmas.List.{nil_from_length}
 use Rattle.std.proofs.lemmas.Bool.Decides.{nat_tests}
-use Rattle.std.proofs.lemmas.List.Sums.{sum_by-cons}
 use Rattle.json_text.specs.Tree.{Tree, spelling, IsGood, depth}
 use Rattle.json_text.specs.Value.{IsCompact}
 use Rattle.json_text.specs.Characters.{is_opening, is_closing}
 use Rattle.json_text.specs.Walk.{Place, outside, inside}
 use Rattle.scene_json.specs.Passes.{behind_string}
-use Rattle.json_text.proofs.CompactLaws.{Value-deeper}
+use Rattle.json_text.proofs.CompactLaws.{Form, literal, quoted, listed, membered, Value-Form, Value-deeper, literal-compact, quote-compact}
+use Rattle.json_text.proofs.Forms.{array-starts, object-starts}
 use Rattle.scene_json.proofs.Behind.{length-behind_string}
 use Rattle.scene_json.proofs.Passing.{IsPass, tree-steps}
 
@@ -32,19 +32,6 @@ pub quote-step : (level most : ℕ) (bs : List ℕ) → level ≤ most → deepe
 quote-step level most bs h =
     grind (arith, inside-string false level (max most level) bs)
 
--- never more are open at once than there are bytes that look like a bracket which opens one
-pub deepest-counted : (place : Place) (level most : ℕ) (bs : List ℕ) → deepest place level most bs ≤ max most (level + count_by is_opening bs)
-deepest-counted place level most [] = omega arith
-deepest-counted outside level most (b ∷ bs) =
-    grind (
-      arith,
-      deepest-counted (if b == 34 then inside false else outside) (level_after b level) (max most (level_after b level)) bs,
-      sum_by-cons (λ x. cond (is_opening x) 1 0) b bs,
-    )
-deepest-counted (inside escaped) level most (b ∷ bs) =
-    let rest = deepest-counted (if b == 34 && not escaped then outside else inside (b == 92 && not escaped)) level most bs in
-    omega (arith, rest, sum_by-cons (λ x. cond (is_opening x) 1 0) b bs)
-
 -- the deepest place of a value's text
 pub deepest-depth : (t : Tree) → IsGood t → deepest outside 0 0 (spelling t) ≡ depth t
 deepest-depth t good =
@@ -55,17 +42,29 @@ deepest-depth t good =
       parts = λ level most bs h. grind (arith, nat_tests);
       others = λ b level most bs inert h. grind (arith, nat_tests);
     } in
-    let zero : depth t ≡ max 0 (0 + depth t) = omega arith in
-    ap (deepest outside 0 0) (sym (append-nil (spelling t))) ∙ tree-steps pass t 0 0 (depth t) [] good (omega arith) zero
+    ap (deepest outside 0 0) (sym (append-nil (spelling t))) ∙ tree-steps pass t 0 0 (depth t) [] good (omega arith) (omega arith)
 
--- a value with so few bytes that look like opening brackets nests no deeper
-pub counted-nests : (limit : ℕ) (text : List ℕ) → IsCompact 128 text → count_by is_opening text ≤ limit → IsCompact limit text
-counted-nests limit text v few =
-    let deep : depth v.tree ≡ deepest outside 0 0 text = sym (deepest-depth v.tree v.good) ∙ ap (deepest outside 0 0) v.spells in
-    record { tree = v.tree; good = v.good; shallow = omega (arith, deep, deepest-counted outside 0 0 text); spells = v.spells; means = v.means }
+-- at the end, the deepest place is as deep as each tree that spells the text
+pub depth-seen : (level most limit : ℕ) (rest text value : List ℕ) → length rest ≡ 0 → deepest outside level most rest ≡ deepest outside 0 0 text → text ≡ value → (v : IsCompact limit value) → most ≡ depth v.tree
+depth-seen level most limit rest text value none same is v =
+    sym (ap (deepest outside level most) (nil_from_length rest none)) ∙ same ∙ ap (deepest outside 0 0) (is ∙ sym v.spells) ∙ deepest-depth v.tree v.good
+
+pub depth_holds : (level most : ℕ) (rest text value : List ℕ) → length rest ≡ 0 → deepest outside level most rest ≡ deepest outside 0 0 text → text ≡ value → IsCompact 128 value → IsCompact most value
+depth_holds level most rest text value none same is v =
+    record { tree = v.tree; good = v.good; shallow = omega (arith, depth-seen level most 128 rest text value none same is v); spells = v.spells; means = v.means }
+
+-- a value that doesn't begin with an opening bracket nests at no depth
+pub scalar-nests : (limit : ℕ) (text : List ℕ) → IsCompact 128 text → ((byte : ℕ) (more : List ℕ) → text ≡ byte ∷ more → is_opening byte ≡ false) → IsCompact limit text
+scalar-nests limit text v opens = none (Value-Form v)
+  where
+    none : Form 128 text → IsCompact limit text
+    none (literal h) = literal-compact limit text h
+    none (quoted t u e) = rw e (quote-compact limit t u)
+    none (listed ts all some e) = let starts = array-starts ts in absurd (grind (arith, opens 91 starts.0 (e ∙ starts.1)))
+    none (membered ms are some e) = let starts = object-starts ms in absurd (grind (arith, opens 123 starts.0 (e ∙ starts.1)))
 
 -- what a pass that counts brackets goes by at a string
-pub ruleset depth_steps = (quote-step, length-behind_string)
+pub ruleset depth_steps = (quote-step, length-behind_string, depth_holds)
 
 -- what tells how deep a value nests
-pub ruleset nesting_steps = (counted-nests, Value-deeper)
+pub ruleset nesting_steps = (scalar-nests, Value-deeper)

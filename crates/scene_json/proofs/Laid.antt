@@ -3,7 +3,7 @@ use Rattle.std.proofs.Common.{◌≡◌, ℕ, zero, suc, ◌+◌, max, List, tru
 use Rattle.std.specs.List.{list_all}
 use Rattle.json_text.specs.Characters.{is_space}
 use Rattle.json_text.specs.Tree.{Container, array, object, Label, unnamed, named, IsLabel, Tree, scalar, text, empty, filled, Values, last, next, spelling, IsGood, AreGood, depth, values_depth}
-use Rattle.json_text.specs.Compact.{label_name, container_text, compact, members}
+use Rattle.json_text.specs.Compact.{container_text, compact, members}
 use Rattle.json_text.specs.Value.{Value}
 use Rattle.scene_json.specs.Layout.{line, label_laid_out, laid_out, values_laid_out}
 
@@ -16,10 +16,6 @@ label-good array (unnamed before) n good = line-blank n
 label-good object (named before name between after) n good = (line-blank n, good.1, refl, refl)
 label-good c l n good = absurd good
 
-label-name : (l : Label) (n : ℕ) → label_name (label_laid_out n l) ≡ label_name l
-label-name (unnamed before) n = refl
-label-name (named before name between after) n = refl
-
 -- the layout is as good and as deep, and has the same compact text
 mutual
   tree-laid : (t : Tree) (n : ℕ) → (IsGood t → IsGood (laid_out n t)) × (depth (laid_out n t) ≡ depth t) × (compact (laid_out n t) ≡ compact t)
@@ -31,11 +27,11 @@ mutual
   values-laid : (vs : Values) (n : ℕ) → ((c : Container) → AreGood c vs → AreGood c (values_laid_out n vs)) × (values_depth (values_laid_out n vs) ≡ values_depth vs) × (members (values_laid_out n vs) ≡ members vs)
   values-laid (last label value blank) n =
       let one = tree-laid value (n + 2) in
-      (λ c good. (label-good c label (n + 2) good.0, one.0 good.1, line-blank n), one.1, rw (label-name label (n + 2), one.2) refl)
+      (λ c good. (label-good c label (n + 2) good.0, one.0 good.1, line-blank n), one.1, grind (arith, one.2))
   values-laid (next label value blank values) n =
       let one = tree-laid value (n + 2) in
       let all = values-laid values n in
-      (λ c good. (label-good c label (n + 2) good.0, one.0 good.1, refl, all.0 c good.3), ap₂ max one.1 all.1, rw (label-name label (n + 2), one.2, all.2) refl)
+      (λ c good. (label-good c label (n + 2) good.0, one.0 good.1, refl, all.0 c good.3), ap₂ max one.1 all.1, grind (arith, one.2, all.2))
 
 -- what spells the layout of a tree of a value is a value with the same compact text
 pub laid-Value : (limit n : ℕ) (bytes laid s : List ℕ) → (v : Value limit bytes s) → laid ≡ spelling (laid_out n v.tree) → Value limit laid s

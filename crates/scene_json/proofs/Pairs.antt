@@ -25,9 +25,9 @@ pairs-AreMembers limit i ms all named distinct valued = record {
 pub AreMembers-distinct : (limit : ℕ) (ms : List Member) → AreMembers limit (pairs ms) → IsDistinct bytes_eq (map (λ m. m.name) ms)
 AreMembers-distinct limit ms are = subst (IsDistinct bytes_eq) (names-pairs ms) are.distinct
 
-values-recursion : (limit : ℕ) (ms : List Member) → AllByRecursion (λ (m : Pair). IsCompact limit m.1) (pairs ms) → AllByRecursion (λ (m : Member). IsCompact limit m.value) ms
-values-recursion limit [] each = tt
-values-recursion limit (m ∷ ms) each = (each.0, values-recursion limit ms each.1)
-
 pub AreMembers-values : (limit : ℕ) (ms : List Member) → AreMembers limit (pairs ms) → All (λ (m : Member). IsCompact limit m.value) ms
-AreMembers-values limit ms are = All-from_recursion (λ (m : Member). IsCompact limit m.value) ms (values-recursion limit ms are.valued)
+AreMembers-values limit ms are = All-from_recursion (λ (m : Member). IsCompact limit m.value) ms (each ms are.valued)
+  where
+    each : (ns : List Member) → AllByRecursion (λ (m : Pair). IsCompact limit m.1) (pairs ns) → AllByRecursion (λ (m : Member). IsCompact limit m.value) ns
+    each [] all = tt
+    each (n ∷ ns) all = (all.0, each ns all.1)

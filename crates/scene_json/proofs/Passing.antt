@@ -1,9 +1,9 @@
 -- What a pass that counts brackets makes of the text of a value.
-use Rattle.std.proofs.Common.{◌≡◌, ℕ, ◌+◌, ◌≤◌, max, List, [], ◌∷◌, ◌++◌, Bool, true, false, not, ◌&&◌, ◌==◌, flat_map, refl, sym, ap, ◌∙◌, append_assoc, arith}
-use Rattle.std.specs.List.{list_all, AllByRecursion}
+use Rattle.std.proofs.Common.{◌≡◌, ℕ, ◌+◌, ◌≤◌, max, List, [], ◌∷◌, ◌++◌, Bool, true, false, not, ◌&&◌, ◌==◌, refl, append_assoc, arith}
+use Rattle.std.specs.List.{list_all}
 use Rattle.std.proofs.lemmas.Bool.Decides.{nat_tests}
 use Rattle.json_text.specs.Characters.{is_space, is_opening, ends_value}
-use Rattle.json_text.specs.Tree.{Piece, IsPiece, piece_spelling, string_spelling, Container, array, object, opening, closing, Label, unnamed, named, IsLabel, label_spelling, Tree, scalar, text, empty, filled, Values, last, next, spelling, values_spelling, IsGood, AreGood, depth, values_depth}
+use Rattle.json_text.specs.Tree.{Container, array, object, opening, closing, Label, unnamed, named, IsLabel, label_spelling, Tree, scalar, text, empty, filled, Values, last, next, spelling, values_spelling, IsGood, AreGood, depth, values_depth}
 use Rattle.scene_json.specs.Passes.{behind_string}
 use Rattle.json_text.proofs.Literals.{is_part_of_literal, list_all-each, literal-plain}
 use Rattle.scene_json.proofs.Behind.{pieces-behind}
@@ -20,25 +20,13 @@ pub record IsPass (X : Type 0) (f : ℕ → ℕ → List ℕ → X) : Type 0 whe
   pub parts : (level most : ℕ) (bs : List ℕ) → level + 1 ≤ most → f (level + 1) most (44 ∷ bs) ≡ f (level + 1) most bs
   pub others : (b level most : ℕ) (bs : List ℕ) → is_inert b ≡ true → level ≤ most → f level most (b ∷ bs) ≡ f level most bs
 
-plain-inert : (b : ℕ) → is_part_of_literal b ≡ true → is_inert b ≡ true
-plain-inert b h = grind (arith, nat_tests)
-
-space-inert : (b : ℕ) → is_space b ≡ true → is_inert b ≡ true
-space-inert b h = grind (arith, nat_tests)
-
 module _ {X : Type 0} {f : ℕ → ℕ → List ℕ → X} (p : IsPass X f) where
   inert-steps : (xs : List ℕ) (level most : ℕ) (bs : List ℕ) → list_all is_inert xs ≡ true → level ≤ most → f level most (xs ++ bs) ≡ f level most bs
   inert-steps [] level most bs inert h = refl
   inert-steps (x ∷ xs) level most bs inert h = grind (arith, p.others x level most (xs ++ bs), inert-steps xs level most bs)
 
   blank-steps : (xs : List ℕ) (level most : ℕ) (bs : List ℕ) → list_all is_space xs ≡ true → level ≤ most → f level most (xs ++ bs) ≡ f level most bs
-  blank-steps xs level most bs blank h = inert-steps xs level most bs (list_all-each is_space is_inert space-inert xs blank) h
-
-  string-steps : (ps : List Piece) (level most : ℕ) (bs : List ℕ) → AllByRecursion IsPiece ps → level ≤ most → f level most (string_spelling ps ++ bs) ≡ f level most bs
-  string-steps ps level most bs good h =
-      ap (λ x. f level most (34 ∷ x)) (append_assoc (flat_map piece_spelling ps) (34 ∷ []) bs)
-      ∙ p.quotes level most (flat_map piece_spelling ps ++ 34 ∷ bs) h
-      ∙ ap (f level most) (pieces-behind ps bs good)
+  blank-steps xs level most bs blank h = inert-steps xs level most bs (list_all-each is_space is_inert (λ b h. grind (arith, nat_tests)) xs blank) h
 
   label-steps : (c : Container) (l : Label) (level most : ℕ) (bs : List ℕ) → IsLabel c l → level ≤ most → f level most (label_spelling l ++ bs) ≡ f level most bs
   label-steps array (unnamed before) level most bs good h = blank-steps before level most bs good h
@@ -50,13 +38,10 @@ module _ {X : Type 0} {f : ℕ → ℕ → List ℕ → X} (p : IsPass X f) wher
   mutual
     pub tree-steps : (t : Tree) (level most more : ℕ) (bs : List ℕ) → IsGood t → level ≤ most → more ≡ max most (level + depth t) → f level most (spelling t ++ bs) ≡ f level more bs
     tree-steps (scalar literal) level most more bs good h e =
-        let same : more ≡ most = omega arith in
-        inert-steps literal level most bs (list_all-each is_part_of_literal is_inert plain-inert literal (literal-plain literal good)) h ∙ ap (λ m. f level m bs) (sym same)
-    tree-steps (text pieces) level most more bs good h e =
-        let same : more ≡ most = omega arith in
-        string-steps pieces level most bs good h ∙ ap (λ m. f level m bs) (sym same)
+        let inert = list_all-each is_part_of_literal is_inert (λ b h. grind (arith, nat_tests)) literal (literal-plain literal good) in
+        grind (arith, inert-steps literal level most bs inert)
+    tree-steps (text pieces) level most more bs good h e = simp append_assoc (grind (arith, p.quotes, pieces-behind pieces bs))
     tree-steps (empty c blank) level most more bs good h e =
-        let same : more ≡ max most (level + 1) = omega arith in
         simp append_assoc (grind (arith, p.opens c, p.closes c, blank-steps))
     tree-steps (filled c values) level most more bs good h e =
         simp append_assoc (grind (arith, p.opens c, p.closes c, values-steps c values level (max most (level + 1)) more (closing c ∷ bs)))

@@ -17,9 +17,8 @@ quote-once text other utf8 is e =
 
 pub quotes-once : (texts others : List (List ℕ)) → AllByRecursion IsUtf8 texts → AllByRecursion IsUtf8 others → map quote texts ≡ map quote others → texts ≡ others
 quotes-once [] [] each all e = refl
-quotes-once [] (o ∷ os) each all e = cc
-quotes-once (t ∷ ts) [] each all e = cc
 quotes-once (t ∷ ts) (o ∷ os) each all e = grind (arith, quote-once t o, quotes-once ts os)
+quotes-once ts os each all e = cc
 
 pub quotes-compact : (texts : List (List ℕ)) → AllByRecursion IsUtf8 texts → AllByRecursion (IsCompact 127) (map quote texts)
 quotes-compact [] each = tt

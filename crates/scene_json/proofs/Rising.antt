@@ -45,24 +45,18 @@ put-at name m (n ∷ ns) = grind (
 )
 
 -- ---- what is found under the names of a list
-abbrev place : List ℕ → Option (List ℕ) → List Pair → List Pair
-place name None ms = ms
-place name (Some value) ms = put (name, value) ms
+abbrev Listed : List (List ℕ) → (List ℕ → Option (List ℕ)) → Type 0
+Listed names find = (members : List Pair) × HaveRisingNames members × ((name : List ℕ) → value_at name members ≡ (if list_any (bytes_eq name) names then find name else None))
 
-abbrev listed : List (List ℕ) → (List ℕ → Option (List ℕ)) → List Pair
-listed [] find = []
-listed (n ∷ names) find = place n (find n) (listed names find)
+added : (n : List ℕ) (names : List (List ℕ)) (find : List ℕ → Option (List ℕ)) (found : Option (List ℕ)) → find n ≡ found → Listed names find → Listed (n ∷ names) find
+added n names find None e r = (r.0, r.1, λ name. grind (arith, e, r.2 name, bytes_eq-true name n))
+added n names find (Some v) e r = (put (n, v) r.0, put-rising (n, v) r.0 r.1, λ name. grind (arith, e, r.2 name, put-at name (n, v) r.0, bytes_eq-true name n))
 
-listed-rising : (names : List (List ℕ)) (find : List ℕ → Option (List ℕ)) → HaveRisingNames (listed names find)
-listed-rising [] find = rising_none
-listed-rising (n ∷ names) find = grind (arith, listed-rising names find, λ (value : List ℕ). put-rising (n, value) (listed names find))
-
-listed-at : (names : List (List ℕ)) (find : List ℕ → Option (List ℕ)) (name : List ℕ) →
-    value_at name (listed names find) ≡ (if list_any (bytes_eq name) names then find name else None)
-listed-at [] find name = refl
-listed-at (n ∷ names) find name = grind (arith, listed-at names find name, bytes_eq-true name n, λ (value : List ℕ). put-at name (n, value) (listed names find))
+listed : (names : List (List ℕ)) (find : List ℕ → Option (List ℕ)) → Listed names find
+listed [] find = ([], rising_none, λ name. refl)
+listed (n ∷ names) find = added n names find (find n) refl (listed names find)
 
 -- Whatever is found under some names, and under no others, is the members of a list whose names rise.
 pub tabled : (names : List (List ℕ)) (find : List ℕ → Option (List ℕ)) → ((name : List ℕ) → list_any (bytes_eq name) names ≡ false → find name ≡ None)
     → (members : List Pair) × HaveRisingNames members × ((name : List ℕ) → value_at name members ≡ find name)
-tabled names find others = (listed names find, listed-rising names find, λ name. grind (arith, listed-at names find name, others name))
+tabled names find others = let r = listed names find in (r.0, r.1, λ name. grind (arith, r.2 name, others name))

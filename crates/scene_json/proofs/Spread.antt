@@ -1,68 +1,61 @@
 -- How a pass over a text lays it out.
-use Rattle.std.proofs.Common.{◌≡◌, ℕ, zero, suc, ◌+◌, ◌<◌, List, [], ◌∷◌, ◌++◌, Bool, true, false, not, ◌&&◌, ◌==◌, eqb, take, drop, flat_map, refl, sym, ap, subst, ◌∙◌, append-nil, append_assoc, arith}
-use Rattle.std.specs.List.{list_all, AllByRecursion}
+use Rattle.std.proofs.Common.{◌≡◌, ℕ, zero, suc, ◌+◌, ◌*◌, eqb, length, ◌<◌, List, [], ◌∷◌, ◌++◌, Bool, true, false, take, drop, flat_map, refl, sym, ap, ◌∙◌, append-nil, append_assoc, one-add, arith}
+use Rattle.std.specs.List.{list_all, AllByRecursion, prefix_len}
+use Rattle.std.specs.Char.{encode_utf8}
 use Rattle.std.proofs.lemmas.List.{take-append-drop}
+use Rattle.std.proofs.lemmas.List.{nil_from_length, replicate-append-replicate}
+use Rattle.std.proofs.lemmas.Bool.{eqb-true}
 use Rattle.std.proofs.lemmas.Bool.Decides.{nat_tests}
-use Rattle.json_text.specs.Characters.{is_space, is_plain, is_opening, is_closing}
-use Rattle.json_text.specs.Tree.{Piece, IsPiece, piece_spelling, string_spelling, Container, array, object, opening, closing, Label, unnamed, named, IsLabel, label_spelling, Tree, scalar, text, empty, filled, Values, last, next, spelling, values_spelling, IsGood, AreGood}
-use Rattle.json_text.specs.Walk.{Place, outside, inside}
+use Rattle.json_text.specs.Characters.{is_space, is_hex, is_plain, is_closing}
+use Rattle.json_text.specs.Tree.{Piece, bare, letter, unit, IsPiece, piece_spelling, string_spelling, Container, array, object, opening, closing, Label, unnamed, named, IsLabel, label_spelling, Tree, scalar, text, empty, filled, Values, last, next, spelling, values_spelling, IsGood, AreGood}
+use Rattle.json_text.specs.Walk.{outside, inside}
 use Rattle.scene_json.specs.Layout.{line, label_laid_out, laid_out, values_laid_out}
-use Rattle.scene_json.specs.Lines.{Standing, layout, layout_from}
-use Rattle.scene_json.specs.Passes.{behind_string, spaces_from, put_before, put_behind}
-use Rattle.json_text.proofs.Literals.{is_part_of_literal, literal-plain}
+use Rattle.scene_json.specs.Lines.{IsLaidOutSoFar, Standing, layout, layout_from}
+use Rattle.json_text.proofs.Literals.{is_part_of_literal, list_all-each, literal-plain}
+use Rattle.json_text.proofs.Strings.{plain-bare, hex-plain}
 use Rattle.json_text.proofs.Reading.{begins_value, begins-no-space, values-Front, regroup-last}
-use Rattle.scene_json.proofs.Behind.{string_front, pieces-front, pieces-behind}
-
--- a string is kept
-inside-string : (escaped first : Bool) (spaces : ℕ) (bs : List ℕ) → layout (inside escaped) first spaces bs ≡ string_front escaped bs ++ layout outside first spaces (behind_string escaped bs)
-inside-string escaped first spaces [] = refl
-inside-string escaped first spaces (b ∷ bs) = grind (arith, inside-string (b == 92 && not escaped) first spaces bs)
-
--- white space is left out
-pub space-step : (first : Bool) (spaces b : ℕ) (bs : List ℕ) → is_space b ≡ true → layout outside first spaces (b ∷ bs) ≡ layout outside first spaces bs
-space-step first spaces b bs space = grind (arith, nat_tests)
-
--- a byte that is no white space and begins no string
-pub byte-step : (first : Bool) (spaces b : ℕ) (bs : List ℕ) → is_space b ≡ false → eqb b 34 ≡ false → layout outside first spaces (b ∷ bs) ≡ put_before first spaces b ++ (b ∷ (put_behind (spaces_from first spaces b) b ++ layout outside (is_opening b) (spaces_from first spaces b) bs))
-byte-step first spaces b bs space quote =
-    rw (space, quote) (append_assoc (put_before first spaces b) (b ∷ put_behind (spaces_from first spaces b) b) _)
-
-pub quote-step : (first : Bool) (spaces : ℕ) (bs : List ℕ) → layout outside first spaces (34 ∷ bs) ≡ put_before first spaces 34 ++ (34 ∷ (string_front false bs ++ layout outside false (spaces_from first spaces 34) (behind_string false bs)))
-quote-step first spaces bs =
-    append_assoc (put_before first spaces 34) (34 ∷ []) (layout (inside false) false (spaces_from first spaces 34) bs)
-    ∙ ap (λ x. put_before first spaces 34 ++ (34 ∷ x)) (inside-string false false (spaces_from first spaces 34) bs)
 
 -- plain characters of a string are copied
-pub run-steps : (xs : List ℕ) (first : Bool) (spaces : ℕ) (bs : List ℕ) → AllByRecursion (λ b. is_plain b ≡ true) xs → layout (inside false) first spaces (xs ++ bs) ≡ xs ++ layout (inside false) first spaces bs
+run-steps : (xs : List ℕ) (first : Bool) (spaces : ℕ) (bs : List ℕ) → list_all is_plain xs ≡ true → layout (inside false) first spaces (xs ++ bs) ≡ xs ++ layout (inside false) first spaces bs
 run-steps [] first spaces bs h = refl
 run-steps (x ∷ xs) first spaces bs h = grind (arith, nat_tests, run-steps xs first spaces bs)
 
+pub run_plain : (bs : List ℕ) (n : ℕ) → n ≡ 0 + prefix_len is_plain bs → list_all is_plain (take n bs) ≡ true
+run_plain bs n e = let same : n ≡ prefix_len is_plain bs = omega arith in rw same (front bs)
+  where
+    front : (xs : List ℕ) → list_all is_plain (take (prefix_len is_plain xs) xs) ≡ true
+    front [] = refl
+    front (x ∷ xs) = rw one-add (grind (arith, front xs))
+
 -- a part of a text of plain characters is copied, and the layout goes on behind it
-pub run-from : (s : Standing) (n : ℕ) (bytes behind more was copied : List ℕ) → AllByRecursion (λ b. is_plain b ≡ true) (take n bytes) → (0 < n → s.place ≡ inside false)
+pub run_from : (s : Standing) (n : ℕ) (bytes behind more was copied : List ℕ) → list_all is_plain (take n bytes) ≡ true → (0 < n → s.place ≡ inside false)
     → behind ≡ drop n bytes → copied ≡ was ++ take n bytes → copied ++ layout_from s (behind ++ more) ≡ was ++ layout_from s (bytes ++ more)
-run-from s zero bytes behind more was copied plain quoted left copies = rw (left, copies, append-nil was) refl
-run-from s (suc n) bytes behind more was copied plain quoted left copies =
+run_from s zero bytes behind more was copied plain quoted left copies = rw (left, copies, append-nil was) refl
+run_from s (suc n) bytes behind more was copied plain quoted left copies =
     let run = take (suc n) bytes in
     let whole : run ++ (behind ++ more) ≡ bytes ++ more = sym (append_assoc run behind more) ∙ ap (λ x. x ++ more) (ap (λ x. run ++ x) left ∙ take-append-drop (suc n) bytes) in
-    let P : Place → Type 0 = λ place. run ++ layout place s.first s.spaces (behind ++ more) ≡ layout place s.first s.spaces (run ++ (behind ++ more)) in
-    let here : run ++ layout_from s (behind ++ more) ≡ layout_from s (run ++ (behind ++ more)) =
-    subst P (sym (quoted (omega arith))) (sym (run-steps run s.first s.spaces (behind ++ more) plain)) in
-    ap (λ x. x ++ layout_from s (behind ++ more)) copies ∙ append_assoc was run (layout_from s (behind ++ more)) ∙ ap (λ x. was ++ x) (here ∙ ap (layout_from s) whole)
-
-plain-step : (spaces b : ℕ) (bs : List ℕ) → is_part_of_literal b ≡ true → layout outside false spaces (b ∷ bs) ≡ b ∷ layout outside false spaces bs
-plain-step spaces b bs plain = grind (arith, nat_tests)
+    rw (copies, ← whole, quoted (omega arith)) (simp append_assoc (ap (λ x. was ++ x) (sym (run-steps run s.first s.spaces (behind ++ more) plain))))
 
 plain-steps : (xs : List ℕ) (spaces : ℕ) (bs : List ℕ) → list_all is_part_of_literal xs ≡ true → layout outside false spaces (xs ++ bs) ≡ xs ++ layout outside false spaces bs
 plain-steps [] spaces bs h = refl
-plain-steps (x ∷ xs) spaces bs h = grind (arith, plain-step spaces x (xs ++ bs), plain-steps xs spaces bs)
+plain-steps (x ∷ xs) spaces bs h = grind (arith, nat_tests, plain-steps xs spaces bs)
 
+-- white space is left out
 blank-steps : (xs : List ℕ) (first : Bool) (spaces : ℕ) (bs : List ℕ) → list_all is_space xs ≡ true → layout outside first spaces (xs ++ bs) ≡ layout outside first spaces bs
 blank-steps [] first spaces bs h = refl
-blank-steps (x ∷ xs) first spaces bs h = grind (arith, space-step first spaces x (xs ++ bs), blank-steps xs first spaces bs)
+blank-steps (x ∷ xs) first spaces bs h = grind (arith, nat_tests, blank-steps xs first spaces bs)
 
+piece-steps : (p : Piece) (spaces : ℕ) (bs : List ℕ) → IsPiece p → layout (inside false) false spaces (piece_spelling p ++ bs) ≡ piece_spelling p ++ layout (inside false) false spaces bs
+piece-steps (bare c) spaces bs h = run-steps (encode_utf8 c) false spaces bs (plain-bare c h.2 h.3)
+piece-steps (letter b) spaces bs h = grind (arith, nat_tests)
+piece-steps (unit a b c d) spaces bs h =
+    ap (λ x. 92 ∷ 117 ∷ x) (run-steps (a ∷ b ∷ c ∷ d ∷ []) false spaces bs (list_all-each is_hex is_plain hex-plain (a ∷ b ∷ c ∷ d ∷ []) h))
+
+-- a string is copied
 string-steps : (ps : List Piece) (spaces : ℕ) (bs : List ℕ) → AllByRecursion IsPiece ps →
-    layout outside false spaces (34 ∷ (flat_map piece_spelling ps ++ 34 ∷ bs)) ≡ 34 ∷ (flat_map piece_spelling ps ++ 34 ∷ layout outside false spaces bs)
-string-steps ps spaces bs good = quote-step false spaces (flat_map piece_spelling ps ++ 34 ∷ bs) ∙ rw (pieces-front ps bs good, pieces-behind ps bs good) (simp append_assoc)
+    layout (inside false) false spaces (flat_map piece_spelling ps ++ 34 ∷ bs) ≡ flat_map piece_spelling ps ++ 34 ∷ layout outside false spaces bs
+string-steps [] spaces bs good = refl
+string-steps (p ∷ ps) spaces bs good = simp append_assoc (grind (arith, piece-steps p spaces (flat_map piece_spelling ps ++ 34 ∷ bs), string-steps ps spaces bs))
 
 opening-step : (c : Container) (spaces : ℕ) (bs : List ℕ) → layout outside false spaces (opening c ∷ bs) ≡ opening c ∷ layout outside true spaces bs
 opening-step array spaces bs = refl
@@ -73,56 +66,59 @@ empty-step array spaces bs = refl
 empty-step object spaces bs = refl
 
 closing-step : (c : Container) (spaces : ℕ) (bs : List ℕ) → layout outside false (spaces + 2) (closing c ∷ bs) ≡ line spaces ++ (closing c ∷ layout outside false spaces bs)
-closing-step c spaces bs = grind (arith, byte-step false (spaces + 2) 93 bs, byte-step false (spaces + 2) 125 bs)
-
-comma-step : (spaces : ℕ) (bs : List ℕ) → layout outside false spaces (44 ∷ bs) ≡ 44 ∷ (line spaces ++ layout outside false spaces bs)
-comma-step spaces bs = byte-step false spaces 44 bs refl refl
-
-colon-step : (spaces : ℕ) (bs : List ℕ) → layout outside false spaces (58 ∷ bs) ≡ 58 ∷ 32 ∷ layout outside false spaces bs
-colon-step spaces bs = byte-step false spaces 58 bs refl refl
+closing-step c spaces bs = grind (arith, λ (b : ℕ). append_assoc (line spaces) (b ∷ []) (layout outside false spaces bs))
 
 -- a label on its line
 label-steps : (c : Container) (l : Label) (spaces : ℕ) (bs : List ℕ) → IsLabel c l → line spaces ++ layout outside false spaces (label_spelling l ++ bs) ≡ label_spelling (label_laid_out spaces l) ++ layout outside false spaces bs
 label-steps array (unnamed before) spaces bs good = ap (λ x. line spaces ++ x) (blank-steps before false spaces bs good)
 label-steps object (named before name between after) spaces bs good =
     let passed : layout outside false spaces (label_spelling (named before name between after) ++ bs) ≡ string_spelling name ++ (58 ∷ 32 ∷ layout outside false spaces bs) =
-    simp append_assoc (grind (arith, blank-steps, string-steps, colon-step)) in
+    simp append_assoc (grind (arith, blank-steps, string-steps)) in
     ap (λ x. line spaces ++ x) passed ∙ sym (regroup-last (line spaces) (string_spelling name) (58 ∷ 32 ∷ []) (layout outside false spaces bs))
 label-steps c l spaces bs good = absurd good
 
-no-closing : (b : ℕ) → begins_value b ≡ true → is_closing b ≡ false
-no-closing b h = grind (arith, nat_tests)
-
 -- behind an opening bracket a line begins there
-first-step : (spaces b : ℕ) (bs : List ℕ) → is_space b ≡ false → is_closing b ≡ false → layout outside true spaces (b ∷ bs) ≡ line (spaces + 2) ++ layout outside false (spaces + 2) (b ∷ bs)
-first-step spaces b bs solid closes = rw (solid, closes) (append_assoc (line (spaces + 2)) _ _)
+first-step : (spaces b : ℕ) (bs : List ℕ) → begins_value b ≡ true → layout outside true spaces (b ∷ bs) ≡ line (spaces + 2) ++ layout outside false (spaces + 2) (b ∷ bs)
+first-step spaces b bs begins =
+    let solid = begins-no-space b begins in
+    let closes : is_closing b ≡ false = grind (arith, nat_tests) in
+    rw (solid, closes) (append_assoc (line (spaces + 2)) _ _)
 
 values-line : (c : Container) (vs : Values) (spaces : ℕ) (bs : List ℕ) → AreGood c vs → layout outside true spaces (values_spelling vs ++ bs) ≡ line (spaces + 2) ++ layout outside false (spaces + 2) (values_spelling vs ++ bs)
 values-line c vs spaces bs good =
     let f = values-Front c vs good in
     let h = f.follows in
-    let e : values_spelling vs ++ bs ≡ f.front ++ (h.first ∷ (h.more ++ bs)) =
-    ap (λ x. x ++ bs) (f.spells ∙ ap (λ x. f.front ++ x) h.parts) ∙ append_assoc f.front (h.first ∷ h.more) bs in
-    rw e (blank-steps f.front true spaces (h.first ∷ (h.more ++ bs)) f.holds
-    ∙ first-step spaces h.first (h.more ++ bs) (begins-no-space h.first h.begins) (no-closing h.first h.begins)
-    ∙ ap (λ x. line (spaces + 2) ++ x) (sym (blank-steps f.front false (spaces + 2) (h.first ∷ (h.more ++ bs)) f.holds)))
+    rw (f.spells, h.parts) (simp append_assoc (grind (arith, blank-steps f.front, first-step spaces h.first (h.more ++ bs))))
 
 -- the pass lays out a value, and what follows as if it stood alone
 mutual
   tree-steps : (t : Tree) (spaces : ℕ) (bs : List ℕ) → IsGood t → layout outside false spaces (spelling t ++ bs) ≡ spelling (laid_out spaces t) ++ layout outside false spaces bs
   tree-steps (scalar literal) spaces bs good = plain-steps literal spaces bs (literal-plain literal good)
-  tree-steps (text pieces) spaces bs good = simp append_assoc (string-steps pieces spaces bs good)
-  tree-steps (empty c blank) spaces bs good =
-      opening-step c spaces _ ∙ ap (λ x. opening c ∷ x) (simp append_assoc (blank-steps blank true spaces (closing c ∷ bs) good ∙ empty-step c spaces bs))
-  tree-steps (filled c values) spaces bs good =
-      opening-step c spaces _ ∙ ap (λ x. opening c ∷ x) (simp append_assoc (values-line c values spaces (closing c ∷ bs) good ∙ values-steps c values spaces bs good))
+  tree-steps (text pieces) spaces bs good = ap (λ x. 34 ∷ x) (simp append_assoc (string-steps pieces spaces bs good))
+  tree-steps (empty c blank) spaces bs good = rw (opening-step c spaces) (simp append_assoc (grind (arith, blank-steps blank true spaces, empty-step c)))
+  tree-steps (filled c values) spaces bs good = rw (opening-step c spaces) (simp append_assoc (grind (arith, values-line c values spaces, values-steps c values spaces)))
 
   values-steps : (c : Container) (vs : Values) (spaces : ℕ) (bs : List ℕ) → AreGood c vs → line (spaces + 2) ++ layout outside false (spaces + 2) (values_spelling vs ++ closing c ∷ bs) ≡ values_spelling (values_laid_out spaces vs) ++ closing c ∷ layout outside false spaces bs
   values-steps c (last label value blank) spaces bs good =
       simp append_assoc (grind (arith, label-steps c label (spaces + 2), tree-steps value (spaces + 2), blank-steps, closing-step c))
   values-steps c (next label value blank values) spaces bs good =
-      simp append_assoc (grind (arith, label-steps c label (spaces + 2), tree-steps value (spaces + 2), blank-steps, comma-step, values-steps c values))
+      simp append_assoc (grind (arith, label-steps c label (spaces + 2), tree-steps value (spaces + 2), blank-steps, values-steps c values))
 
-pub layout-tree : (spaces : ℕ) (t : Tree) → IsGood t → layout outside false spaces (spelling t) ≡ spelling (laid_out spaces t)
-layout-tree spaces t good =
-    ap (layout outside false spaces) (sym (append-nil (spelling t))) ∙ tree-steps t spaces [] good ∙ append-nil (spelling (laid_out spaces t))
+pub laid_none : (s : Standing) → s ≡ record { place = outside; first = false; spaces = 0 } → IsLaidOutSoFar s [] []
+laid_none s is = rw is (record {
+  goes_on = λ tree rest good spells.
+      sym (append-nil (spelling (laid_out 0 tree))) ∙ sym (tree-steps tree 0 [] good) ∙ ap (layout outside false 0) (append-nil (spelling tree) ∙ spells);
+})
+
+pub laid_on : (s after : Standing) (text piece was now rest : List ℕ) → true ≡ eqb (length rest) 0 → ((more : List ℕ) → now ++ layout_from after (rest ++ more) ≡ was ++ layout_from s (piece ++ more))
+    → IsLaidOutSoFar s text was → IsLaidOutSoFar after (text ++ piece) now
+laid_on s after front piece was now rest none made so_far = record {
+  goes_on = λ tree more good spells. so_far.goes_on tree (piece ++ more) good (spells ∙ append_assoc front piece more)
+      ∙ sym (made more) ∙ ap (λ x. now ++ layout_from after (x ++ more)) (nil_from_length rest (eqb-true _ 0 (sym none)));
+}
+
+-- two more spaces
+pub line_more : (level : ℕ) (old out done : List ℕ) → out ≡ old ++ line (2 * level) → done ≡ out ++ 32 ∷ 32 ∷ [] → done ≡ old ++ line (2 * (level + 1))
+line_more level old out done before written =
+    let e : 2 * level + 2 ≡ 2 * (level + 1) = omega arith in
+    written ∙ rw (before, ← e) (append_assoc old (line (2 * level)) (32 ∷ 32 ∷ []) ∙ ap (λ x. old ++ 10 ∷ x) (replicate-append-replicate (2 * level) 2 32))

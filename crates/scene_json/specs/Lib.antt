@@ -3,3 +3,4 @@ pub mod Lines
 pub mod Named
 pub mod Passes
 pub mod TheOne
+pub mod Walks

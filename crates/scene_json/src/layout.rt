@@ -1,7 +1,7 @@
 //! The layout of a value for readers.
 
 ghost use Rattle.std.specs.Prelude.{◌≡◌, ◌-◌, ◌*◌, ◌<◌, ◌≤◌, ℕ, List as Items, [], ◌∷◌, ◌++◌, true, false, take, length, IfOk, OnOk, OnErr};
-ghost use Rattle.std.specs.List.{AllByRecursion};
+ghost use Rattle.std.specs.List.{list_all};
 ghost use Rattle.json_text.specs.Appending.{Extends};
 ghost use Rattle.json_text.specs.Characters.{is_plain, is_closing};
 ghost use Rattle.json_text.specs.Walk.{inside};
@@ -54,6 +54,7 @@ impl Model for Lines {
 
 impl Lines {
     /// Behind no piece.
+    #[tactic(auto, using(crate::proofs::Spread::laid_none))]
     pub fn new() -> Lines
         ensures { IsLaidOutSoFar result [] [] }
     {
@@ -94,7 +95,7 @@ impl Lines {
     }
 
     /// Appends the layout of the next piece. After want of memory a part of it may stand there.
-    #[tactic(auto, using(json_text::proofs::Appending::extends_same, json_text::proofs::Appending::extends_by, json_text::proofs::Appending::extends_then))]
+    #[tactic(auto, using(json_text::proofs::Appending::extends_same, json_text::proofs::Appending::extends_by, json_text::proofs::Appending::extends_then, crate::proofs::Spread::laid_on))]
     fn push_all(&mut self, out: &mut Vec<u8>, piece: &[u8]) -> Result<(), AllocError>
         ensures ok { OnOk result ((text : Items ℕ) → IsLaidOutSoFar self.old text out.old.items
             → IsLaidOutSoFar self.new (text ++ piece.now) out.new.items) }
@@ -109,7 +110,7 @@ impl Lines {
 
     /// Appends the layout of the plain characters of a string that stand at the front, and of the byte behind them, and
     /// gives what follows.
-    #[tactic(auto, using(json_text::proofs::Appending::extends_same, json_text::proofs::Appending::extends_by, json_text::proofs::Appending::extends_then))]
+    #[tactic(auto, using(json_text::proofs::Appending::extends_same, json_text::proofs::Appending::extends_by, json_text::proofs::Appending::extends_then, crate::proofs::Spread::run_from))]
     fn push_next<'a>(&mut self, out: &mut Vec<u8>, bytes: &'a [u8]) -> Result<&'a [u8], AllocError>
         ensures appended { IfOk result (λ rest. (more : Items ℕ) → out.new.items ++ layout_from self.new (rest.now ++ more)
             ≡ out.old.items ++ layout_from self.old (bytes.now ++ more)) }
@@ -126,8 +127,9 @@ impl Lines {
     }
 
     /// How many bytes at the front are plain characters of a string.
+    #[tactic(auto, using(crate::proofs::Spread::run_plain))]
     fn run_length(&self, bytes: &[u8]) -> usize
-        ensures plain { AllByRecursion (λ b. is_plain b ≡ true) (take result bytes.now) }
+        ensures plain { list_all is_plain (take result bytes.now) ≡ true }
         ensures within { result ≤ length bytes.now }
         ensures quoted { 0 < result → self.now.place ≡ inside false }
     {
@@ -196,7 +198,7 @@ fn part(out: &mut Vec<u8>, level: u64, byte: u8) -> Result<(), AllocError>
 }
 
 /// Begins a line with two spaces for each level.
-#[tactic(auto, using(json_text::proofs::Appending::extends_same, json_text::proofs::Appending::extends_by, json_text::proofs::Appending::extends_then))]
+#[tactic(auto, using(json_text::proofs::Appending::extends_same, json_text::proofs::Appending::extends_by, json_text::proofs::Appending::extends_then, crate::proofs::Spread::line_more))]
 fn push_line(out: &mut Vec<u8>, level: u64) -> Result<(), AllocError>
     ensures written { OnOk result (out.new.items ≡ out.old.items ++ line (2 * level)) }
     ensures kept { OnErr result (Extends out.old.items out.new.items) }

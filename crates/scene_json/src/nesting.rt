@@ -1,7 +1,6 @@
 //! How deep a value is.
 
-ghost use Rattle.std.specs.Prelude.{◌≡◌, ◌↔◌, ℕ, ◌≤◌, false, IsTrue};
-ghost use Rattle.std.specs.List.{count_by};
+ghost use Rattle.std.specs.Prelude.{◌≡◌, ◌↔◌, ℕ, List as Items, ◌∷◌, ◌≤◌, false, IsTrue};
 ghost use Rattle.json_text.specs.Value.{IsCompact};
 ghost use Rattle.json_text.specs.Characters.{is_opening};
 ghost use Rattle.scene_json.specs.Passes.{behind_string};
@@ -37,15 +36,17 @@ pub fn depth_of(value: &Raw) -> u64
 pub fn nests_at_most(value: &Raw, limit: u64) -> bool
     ensures { IsTrue result ↔ IsCompact limit value.now }
 {
-    let bytes = value.as_bytes();
-    opened(bytes) <= limit || depth_of(value) <= limit
+    !is_container(value.as_bytes()) || depth_of(value) <= limit
 }
 
-/// How many bytes look like a bracket that opens a container, those in strings among them.
-fn opened(bytes: &[u8]) -> u64
-    ensures { result ≡ count_by is_opening bytes.now }
+/// Whether the first byte opens a container.
+fn is_container(bytes: &[u8]) -> bool
+    ensures { result ≡ false → (byte : ℕ) (more : Items ℕ) → bytes.now ≡ byte ∷ more → is_opening byte ≡ false }
 {
-    bytes.iter().filter(|byte| opens(**byte)).count() as u64
+    match bytes.split_first() {
+        Some((byte, _more)) => opens(*byte),
+        None => false,
+    }
 }
 
 /// Whether the byte opens a container.
@@ -56,6 +57,7 @@ pub(crate) fn opens(byte: u8) -> bool
 }
 
 /// What stands behind the string that these bytes are the rest of.
+#[tactic(auto, using(crate::proofs::Behind::marked_past))]
 pub(crate) fn after_string(bytes: &[u8]) -> &[u8]
     ensures { result.now ≡ behind_string false bytes.now }
 {

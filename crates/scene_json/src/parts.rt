@@ -1,6 +1,6 @@
 //! Taking values apart.
 
-ghost use Rattle.std.specs.Prelude.{◌≡◌, ◌≢◌, ◌-◌, ◌≤◌, ℕ, List as Items, ◌∷◌, length, take, drop, false, IsTrue, IfOk};
+ghost use Rattle.std.specs.Prelude.{◌≡◌, ◌≢◌, ◌-◌, ◌<◌, ◌≤◌, ◌^◌, ℕ, List as Items, [], ◌∷◌, ◌++◌, length, take, drop, false, IsTrue, IfOk, IfSome, MatchOption};
 ghost use Rattle.std.specs.Str.{IsUtf8};
 ghost use Rattle.std.specs.List.{AllByRecursion};
 ghost use Rattle.json_text.specs.Characters.{quote, ends_value};
@@ -9,11 +9,13 @@ ghost use Rattle.json_text.specs.Members.{pairs};
 ghost use Rattle.json_text.specs.Parts.{AreMembers};
 ghost use Rattle.json_text.specs.Value.{IsCompact};
 ghost use Rattle.scene_json.specs.Passes.{Compacted};
+ghost use Rattle.scene_json.specs.Walks.{AreLeft, IsTakenApart};
 
 use crate::nesting::after_string;
 use board_io::{List, Stop};
 use json_text::{Member, Raw, Text, text_at};
 use std::alloc::{AllocError, Global};
+use std::marker::Model;
 
 /// The value is of another form.
 #[derive(Clone, Copy, Debug, PartialEq, Eq)]
@@ -90,38 +92,125 @@ pub fn members(alloc: Global, value: &Raw) -> Result<List<Member>, Stop<Shape>>
     ensures only { IfOk result (λ found. (others : Items Pair) → AreMembers 127 others → value.now ≡ object_text others → pairs found ≡ others) }
     ensures shape { result ≡ Err (Stop.Fault (record {})) → (others : Items Pair) → value.now ≢ object_text others }
 {
-    let bytes = value.as_bytes();
-    if !begins_with(bytes, b'{') {
+    if !begins_with(value.as_bytes(), b'{') {
         return Err(Stop::Fault(Shape));
     }
-    let (_bracket, rest) = bytes.split_at(1);
-    if begins_with(rest, b'}') {
-        return Ok(List::new(alloc));
-    }
-    Ok(List::from_vec(members_from(alloc, value)?))
+    let (found, _end) = members_at(alloc, value, 0)?;
+    Ok(found)
 }
 
-/// The members of an object that has some.
-fn members_from(alloc: Global, value: &Raw) -> Result<Vec<Member>, AllocError>
-    requires { (first : Pair) × (more : Items Pair) × AreMembers 127 (first ∷ more) × (value.now ≡ object_text (first ∷ more)) }
-    ensures { IfOk result (λ found. (all : Items Pair) → AreMembers 127 all → value.now ≡ object_text all → pairs found.items ≡ all) }
+/// The members of the object at an offset, and the offset after it.
+fn members_at(alloc: Global, value: &Raw, at: usize) -> Result<(List<Member>, usize), AllocError>
+    requires { (all : Items Pair) × (rest : Items ℕ) × AreMembers 127 all × (drop at value.now ≡ object_text all ++ rest) }
+    ensures found { IfOk result (λ found. (all : Items Pair) (rest : Items ℕ) → AreMembers 127 all → drop at value.now ≡ object_text all ++ rest
+        → (pairs found.0 ≡ all) × (drop found.1 value.now ≡ rest)) }
+    ensures within { IfOk result (λ found. (at < found.1) × (found.1 ≤ length value.now)) }
+{
+    let bytes = value.as_bytes();
+    if bytes[at + 1] == b'}' {
+        return Ok((List::new(alloc), at + 2));
+    }
+    let (found, end) = members_from(alloc, value, at)?;
+    Ok((List::from_vec(found), end))
+}
+
+/// The members of the object at an offset, which has some, and the offset after it.
+fn members_from(
+    alloc: Global,
+    value: &Raw,
+    start: usize,
+) -> Result<(Vec<Member>, usize), AllocError>
+    requires { (first : Pair) × (more : Items Pair) × (rest : Items ℕ) × AreMembers 127 (first ∷ more) × (drop start value.now ≡ object_text (first ∷ more) ++ rest) }
+    ensures found { IfOk result (λ found. (all : Items Pair) (rest : Items ℕ) → AreMembers 127 all → drop start value.now ≡ object_text all ++ rest
+        → (pairs found.0.items ≡ all) × (drop found.1 value.now ≡ rest)) }
+    ensures within { IfOk result (λ found. (start < found.1) × (found.1 ≤ length value.now)) }
 {
     let bytes = value.as_bytes();
     let mut found = Vec::with_capacity(alloc, FEW)?;
-    let mut at = 1;
+    let mut at = start + 1;
     loop {
         let (name, colon) = text_at(alloc, value, at)?;
         let end = next_end(bytes, colon + 1);
         let value = value.cut(colon + 1, end)?;
         found.push(Member { name, value })?;
         if bytes[end] == b'}' {
-            return Ok(found);
+            return Ok((found, end + 1));
         }
         at = end + 1;
     }
 }
 
+/// A walk over the items of an array, in which each object is taken apart as it comes.
+#[derive(Drop)]
+pub struct Objects<'a> {
+    array: &'a Raw,
+    at: usize,
+}
+
+impl<'a> Model for Objects<'a> {
+    ghost use Rattle.std.specs.Prelude.{ℕ, List, length, ◌≤◌};
+    ghost use Rattle.scene_json.specs.Walks.{Walk, AreLeft};
+
+    ghost Value = { Walk };
+
+    ghost view = { λ o. record { array = o.array.now; at = o.at } };
+
+    ghost invariant = { λ o. (o.at ≤ length o.array.now) × (left : List (List ℕ)) × AreLeft (record { array = o.array.now; at = o.at }) left };
+}
+
+impl<'a> Objects<'a> {
+    /// All items of an array are left. `None` comes exactly where the value is no array.
+    pub fn of(array: &'a Raw) -> Option<Objects<'a>>
+        ensures { MatchOption result ((others : Items (Items ℕ)) → array.now ≢ array_text others)
+            (λ walk. (all : Items (Items ℕ)) × (array.now ≡ array_text all) × AreLeft walk all) }
+    {
+        let bytes = array.as_bytes();
+        if !begins_with(bytes, b'[') {
+            return None;
+        }
+        if bytes[1] == b']' {
+            return Some(Objects { array, at: 2 });
+        }
+        Some(Objects { array, at: 1 })
+    }
+
+    /// The members of the next item, or `None` where it is no object. The outer `None` comes exactly where no item is left.
+    pub fn next(&mut self, alloc: Global) -> Result<Option<Option<List<Member>>>, AllocError>
+        ensures next { IfOk result (λ found. (left : Items (Items ℕ)) → AreLeft self.old left → MatchOption found (left ≡ [])
+            (λ next. (item : Items ℕ) × (others : Items (Items ℕ)) × (left ≡ item ∷ others) × AreLeft self.new others × IsTakenApart item next)) }
+        ensures taken { IfOk result (λ found. IfSome found (λ next. (item : Items ℕ) × IsTakenApart item next)) }
+        ensures passed { IfOk result (λ found. IfSome found (λ next. (self.old.at < self.new.at) × (self.new.at < 2 ^ 64))) }
+    {
+        if self.at == self.array.as_bytes().len() {
+            return Ok(None);
+        }
+        let (item, end) = item_at(alloc, self.array, self.at)?;
+        self.at = end + 1;
+        Ok(Some(item))
+    }
+}
+
+/// The members of the item at an offset, or `None` where it is no object, and the offset after it.
+fn item_at(
+    alloc: Global,
+    array: &Raw,
+    at: usize,
+) -> Result<(Option<List<Member>>, usize), AllocError>
+    requires { (item rest : Items ℕ) × Compacted (drop at array.now) item rest }
+    ensures item { IfOk result (λ found. (item rest : Items ℕ) → Compacted (drop at array.now) item rest
+        → IsTakenApart item found.0 × (drop found.1 array.now ≡ rest)) }
+    ensures within { IfOk result (λ found. (at ≤ found.1) × (found.1 ≤ length array.now)) }
+{
+    let bytes = array.as_bytes();
+    if bytes[at] == b'{' {
+        let (members, end) = members_at(alloc, array, at)?;
+        return Ok((Some(members), end));
+    }
+    Ok((None, next_end(bytes, at)))
+}
+
 /// The offset after the compact text that stands at an offset.
+#[inline(always)]
 fn next_end(bytes: &[u8], at: usize) -> usize
     requires { at ≤ length bytes.now }
     ensures within { (at ≤ result) × (result ≤ length bytes.now) }

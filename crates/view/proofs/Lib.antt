@@ -5,5 +5,6 @@ pub mod Originals
 pub mod SceneOrder
 pub mod SettledLaws
 pub mod ShownLaws
+mod SpotLaws
 pub mod StampLaws
 pub mod StepLaws

@@ -26,7 +26,7 @@ use Rattle.view.specs.Shown.{is_live, live_elements, place_less, comes_before, i
 use Rattle.links.proofs.Members.{map-map}
 use Rattle.view.specs.Settled.{settled, unsettled, AreSettled}
 use Rattle.view.proofs.SettledLaws.{map-less, unsettled-settled, settled-are, settled-again}
-use Rattle.view.proofs.InOrder.{in_order-only, in_order-permuted}
+use Rattle.view.proofs.InOrder.{in_order-only, in_order-permuted, HaveDistinctIds-permuted}
 use Rattle.view.proofs.SceneOrder.{scene_order, IsPermutation-in_scene_order, in_scene_order-is}
 
 -- ---- ids that rise
@@ -65,6 +65,9 @@ distinct_from_rising low (key ∷ keys) h =
 
 pub HaveDistinctIds-rising : (es : List ElementValue) → are_rising (ids_of es) ≡ true → HaveDistinctIds es
 HaveDistinctIds-rising es h = distinct_from_rising None (ids_of es) h
+
+pub live-distinct : (stored live : List ElementValue) → live ≡ live_elements stored → are_rising (ids_of stored) ≡ true → HaveDistinctIds live
+live-distinct stored live is h = rw is (HaveDistinctIds-rising (live_elements stored) (live_elements-rise stored h))
 
 -- ---- elements with new keys
 ids_of-keyed : (es : List ElementValue) (keys : List (List ℕ)) → length keys ≡ length es → ids_of (keyed es keys) ≡ ids_of es
@@ -208,6 +211,18 @@ shown-is live h =
       others = subst₂ IsPermutation (map-map unsettled without_index live) (map-map unsettled without_index (placed live) ∙ sym (same_part without_index live)) others;
       stay_live = λ all. list_all-of is_live (shown live) ∙ (ap (list_all (λ (b : Bool). b)) (same_part is_live live) ∙ (sym (list_all-of is_live (placed live)) ∙ is.stay_live all));
     }
+
+pub keyed-distinct : (es : List ElementValue) → HaveDistinctIds es → HaveKeysOrNone es → HaveDistinctIds (keyed es (repaired (map index_of es)))
+keyed-distinct es apart h =
+    subst (IsDistinct bytes_eq) (sym (ids_of-keyed es (repaired (map index_of es)) ((repaired-law (map index_of es) h).count ∙ length-map es index_of))) apart
+
+-- what is shown of the elements, where they stand in scene order
+pub shown-ordered : (live ordered : List ElementValue) → ordered ≡ in_scene_order live → settled (keyed ordered (repaired (map index_of ordered))) ≡ shown live
+unfolding shown placed
+shown-ordered live ordered h = ap (λ es. settled (keyed es (repaired (map index_of es)))) h
+
+pub ordered-distinct : (live ordered : List ElementValue) → ordered ≡ in_scene_order live → HaveDistinctIds live → HaveDistinctIds ordered
+ordered-distinct live ordered h apart = rw h (HaveDistinctIds-permuted live (in_scene_order live) (IsPermutation-in_scene_order live) apart)
 
 pub placed-distinct : (live : List ElementValue) → HaveDistinctIds live → HaveKeysOrNone live → HaveDistinctIds (placed live)
 placed-distinct live apart h =

@@ -1,5 +1,5 @@
 -- Elements that are told by where they stand in a store. This project's own.
-use Rattle.std.specs.Prelude.{List, map}
+use Rattle.std.specs.Prelude.{◌≡◌, ℕ, List, Some, All, map, slice_get}
 use Rattle.elem.specs.ElementValue.{ElementValue}
 use Rattle.view.specs.declared.order.Spot.{Spot}
 
@@ -8,3 +8,14 @@ element_at spot = spot.element.now
 
 abbrev pub elements_of : List Spot → List ElementValue
 elements_of spots = map element_at spots
+
+-- where the elements stand in their store
+abbrev pub indices_of : List Spot → List ℕ
+indices_of spots = map (λ (spot : Spot). spot.at) spots
+
+-- At the index of the spot its element is stored, and so for each spot.
+abbrev pub IsSpotIn : List ElementValue → Spot → Type 0
+IsSpotIn stored spot = slice_get stored spot.at ≡ Some (element_at spot)
+
+abbrev pub AreSpotsIn : List ElementValue → List Spot → Type 0
+AreSpotsIn stored spots = All (IsSpotIn stored) spots

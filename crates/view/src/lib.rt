@@ -8,4 +8,4 @@ pub mod steps;
 mod view;
 
 pub use keys::with_repaired_keys;
-pub use view::{View, shown_elements, view_of};
+pub use view::{View, into_shown, shown_elements, view_of};

@@ -1,6 +1,6 @@
 //! Elements in scene order.
 
-ghost use Rattle.std.specs.Prelude.{◌≡◌, OnOk};
+ghost use Rattle.std.specs.Prelude.{◌≡◌, OnOk, IsPermutation};
 ghost use Rattle.std.specs.Ordering.{is_lt};
 ghost use Rattle.elem.specs.Order.{HaveDistinctIds};
 ghost use Rattle.view.specs.Shown.{comes_before, in_scene_order};
@@ -20,7 +20,8 @@ pub(crate) struct Spot<'a> {
 /// Sorts elements of distinct ids by index, none last, and then by id. The elements themselves stay where they are.
 pub(crate) fn sort(spots: &mut Vec<Spot<'_>>) -> Result<(), AllocError>
     requires { HaveDistinctIds (elements_of spots.old.items) }
-    ensures { OnOk result (elements_of spots.new.items ≡ in_scene_order (elements_of spots.old.items)) }
+    ensures sorted { OnOk result (elements_of spots.new.items ≡ in_scene_order (elements_of spots.old.items)) }
+    ensures permutation { IsPermutation spots.old.items spots.new.items }
 {
     spots.sort_by(|spot, other| scene_order(spot.element, other.element))
 }

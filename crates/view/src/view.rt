@@ -1,13 +1,14 @@
 //! The view of a board.
 
-ghost use Rattle.std.specs.Prelude.{◌≡◌, List as Items, true, length, map, Some, All, IfOk, IfSome, IsPermutation, bytes_eq, IsTrue, option_copied};
+ghost use Rattle.std.specs.Prelude.{◌≡◌, ◌≢◌, List as Items, true, length, filter_map, map, slice_get, Some, All, AllPairs, IfOk, IfSome, IsPermutation, bytes_eq, IsTrue, option_copied};
 ghost use Rattle.frac_keys.specs.Rising.{are_rising};
+ghost use Rattle.index_repair.specs.Repair.{repaired};
 ghost use Rattle.elem.specs.ElementValue.{ElementValue};
 ghost use Rattle.elem_store.specs.Updates.{element_of, ids_of};
-ghost use Rattle.view.specs.Settled.{AreSettled};
+ghost use Rattle.view.specs.Settled.{settled, AreSettled};
 ghost use Rattle.elem.specs.Order.{HaveDistinctIds};
-ghost use Rattle.view.specs.Spots.{elements_of};
-ghost use Rattle.view.specs.Shown.{as_stored, is_live, live_elements, placed, shown, HaveKeysOrNone, HaveRisingKeys, IsSceneOrder, bare};
+ghost use Rattle.view.specs.Spots.{elements_of, indices_of, AreSpotsIn};
+ghost use Rattle.view.specs.Shown.{as_stored, in_scene_order, index_of, is_live, keyed, live_elements, shown, HaveKeysOrNone, HaveRisingKeys, IsSceneOrder, bare};
 
 use crate::keys::with_repaired_keys;
 use crate::order::{Spot, sort};
@@ -93,9 +94,53 @@ pub fn shown_elements(alloc: Global, store: &Store) -> Result<List<Element>, All
     Ok(elements)
 }
 
+/// The same of a store that is given up: the elements are moved out of it, and the others are dropped. Fails only for
+/// want of memory.
+pub fn into_shown(alloc: Global, store: Store) -> Result<List<Element>, AllocError>
+    ensures exact { IfOk result (λ elements. elements ≡ shown (live_elements store.elements)) }
+    ensures keys { IfOk result HaveRisingKeys }
+    ensures settled { IfOk result AreSettled }
+{
+    let ordered = ordered_of(alloc, store)?;
+    let elements = settled_of(alloc, ordered)?;
+    Ok(elements)
+}
+
+/// The live elements of a store in scene order, moved out of it.
+fn ordered_of(alloc: Global, store: Store) -> Result<Vec<Element>, AllocError>
+    ensures exact { IfOk result (λ ordered. ordered.items ≡ in_scene_order (live_elements store.elements)) }
+    ensures live { IfOk result (λ _. HaveDistinctIds (live_elements store.elements)) }
+{
+    let order = order_of(alloc, &store)?;
+    store.into_elements_at(alloc, order.as_slice())
+}
+
+/// Where the live elements of a store stand in it, in scene order.
+fn order_of(alloc: Global, store: &Store) -> Result<Vec<usize>, AllocError>
+    ensures exact { IfOk result (λ order. filter_map (slice_get store.now.elements) order.items ≡ in_scene_order (live_elements store.now.elements)) }
+    ensures distinct { IfOk result (λ order. AllPairs (λ i j. i ≢ j) order.items) }
+    ensures live { IfOk result (λ _. HaveDistinctIds (live_elements store.now.elements)) }
+{
+    let mut live = live_of(alloc, store)?;
+    sort(&mut live)?;
+    indices_of(alloc, &live)
+}
+
+/// Where the elements at the spots stand in their store.
+fn indices_of(alloc: Global, spots: &Vec<Spot<'_>>) -> Result<Vec<usize>, AllocError>
+    ensures { IfOk result (λ indices. indices.items ≡ indices_of spots.now.items) }
+{
+    let mut indices = Vec::with_capacity(alloc, spots.len())?;
+    for spot in spots {
+        indices.push(spot.at)?;
+    }
+    Ok(indices)
+}
+
 /// The live elements of a store, in the order of their ids.
 fn live_of(alloc: Global, store: &Store) -> Result<Vec<Spot<'_>>, AllocError>
     ensures exact { IfOk result (λ live. elements_of live.items ≡ live_elements store.now.elements) }
+    ensures stored { IfOk result (λ live. AreSpotsIn store.now.elements live.items) }
     ensures ordered { IfOk result (λ _. are_rising (ids_of store.now.elements) ≡ true) }
 {
     store.tell();
@@ -117,29 +162,38 @@ fn is_live(e: &Element) -> bool
     !e.deleted
 }
 
-/// What is shown of the live elements: they are placed, and then texts, arrows, frames and groups are settled.
-#[tactic(auto, unfolding(crate::specs::Shown::shown, crate::specs::Settled::settled))]
+/// What is shown of the live elements; the spots are then in scene order.
 fn shown_of(alloc: Global, live: &mut Vec<Spot<'_>>) -> Result<List<Element>, AllocError>
     requires { HaveDistinctIds (elements_of live.old.items) }
     ensures exact { IfOk result (λ new. new ≡ shown (elements_of live.old.items)) }
     ensures keys { IfOk result (λ _. HaveKeysOrNone (elements_of live.old.items)) }
 {
-    let elements = placed_of(alloc, live)?;
+    sort(live)?;
+    let elements = copied(alloc, live)?;
+    settled_of(alloc, elements)
+}
+
+/// What is shown of elements in scene order: they get repaired keys, and then texts, arrows, frames and groups are settled.
+#[tactic(auto, unfolding(crate::specs::Settled::settled))]
+fn settled_of(alloc: Global, ordered: Vec<Element>) -> Result<List<Element>, AllocError>
+    requires { HaveDistinctIds ordered.items }
+    ensures exact { IfOk result (λ new. new ≡ settled (keyed ordered.items (repaired (map index_of ordered.items)))) }
+    ensures keys { IfOk result (λ _. HaveKeysOrNone ordered.items) }
+{
+    let elements = keyed_of(alloc, ordered)?;
     let elements = settle_texts(alloc, elements)?;
     let elements = settle_arrows(alloc, elements)?;
     let elements = settle_frames(alloc, elements)?;
     settle_groups(alloc, elements)
 }
 
-/// The elements in scene order, with repaired keys; the spots are then in that order.
-fn placed_of(alloc: Global, live: &mut Vec<Spot<'_>>) -> Result<List<Element>, AllocError>
-    requires { HaveDistinctIds (elements_of live.old.items) }
-    ensures exact { IfOk result (λ new. new ≡ placed (elements_of live.old.items)) }
+/// The elements in their order, with repaired keys.
+fn keyed_of(alloc: Global, elements: Vec<Element>) -> Result<List<Element>, AllocError>
+    requires { HaveDistinctIds elements.items }
+    ensures exact { IfOk result (λ new. new ≡ keyed elements.items (repaired (map index_of elements.items))) }
     ensures distinct { IfOk result HaveDistinctIds }
-    ensures keys { IfOk result (λ _. HaveKeysOrNone (elements_of live.old.items)) }
+    ensures keys { IfOk result (λ _. HaveKeysOrNone elements.items) }
 {
-    sort(live)?;
-    let elements = copied(alloc, live)?;
     Ok(List::from_vec(with_repaired_keys(alloc, elements)?))
 }
 

@@ -1,86 +1,12 @@
--- The value is an object, not a selection, shallow, and its restored members say an element or have a first fault.
-use Rattle.std.proofs.Common.{◌≡◌, Ok, Err, ap, subst, ◌∙◌, lit≤}
-use Rattle.std.proofs.lemmas.Bool.{both_ways}
-use Rattle.std.proofs.lemmas.Result.{IfOk-at_ok, err_from_is_err_and}
-use Rattle.json_text.specs.Characters.{quote}
-use Rattle.json_text.specs.Members.{pairs}
-use Rattle.scene_json.proofs.Pairs.{AreMembers-distinct}
-use Rattle.elem_read.specs.Reading.{IsFaultIn}
-use Rattle.elem_read.specs.declared.fault.ElemFault.TheVariants.{Depth}
-use Rattle.elem_read.proofs.NoSelections.{is-object, selection, no_selection, given-nest, kind-stays, element-in, fault-in}
-use Rattle.elem_read.proofs.Parts.{stop-same}
-use Rattle.elem_read.proofs.Whole.{whole}
+use Rattle.std.proofs.Common.{◌≡◌, Ok, ap, ◌∙◌}
+use Rattle.std.proofs.lemmas.Result.{IfOk-at_ok}
+use Rattle.elem_read.proofs.NoSelections.{taken-apart}
 use Rattle.elem_read.proofs.reading.read_element.Goals as goal
 
-pub returns-then-has_value-clause-read : goal.returns-then-has_value-clause-read
-unfolding quote
-returns-then-has_value-clause-read c =
-    let value = c.args.value.now in
-    let found : c.members.result ≡ Ok c.in-Some.given = c.shaped.ensures.found c.in-Some.given (c.in_ok-given.was ∙ ap Ok c.in-Some.is) in
-    let object = is-object value (pairs c.in-Some.given) (IfOk-at_ok _ found c.members.ensures.spelled) (IfOk-at_ok _ found c.members.ensures.kept) in
-    selection value (pairs c.in-Some.given) object (c.has_value.ensures.0 c.if-has_value.true)
-
-pub returns-then-not-nests_at_most-clause-fault : goal.returns-then-not-nests_at_most-clause-fault
-unfolding quote
-returns-then-not-nests_at_most-clause-fault c = λ fault e.
-    let value = c.args.value.now in
-    let found : c.members.result ≡ Ok c.in-Some.given = c.shaped.ensures.found c.in-Some.given (c.in_ok-given.was ∙ ap Ok c.in-Some.is) in
-    let object = is-object value (pairs c.in-Some.given) (IfOk-at_ok _ found c.members.ensures.spelled) (IfOk-at_ok _ found c.members.ensures.kept) in
-    let draws = no_selection value (pairs c.in-Some.given) object (λ e. both_ways _ c.if-has_value.false (c.has_value.ensures.1 e)) in
-    let same : Depth ≡ fault = cc in
-    subst (IsFaultIn value) same (record {
-      members = pairs c.in-Some.given;
-      no_selection = draws;
-      deep = λ shallow. both_ways _ c.if-not-nests_at_most.true (c.nests_at_most.ensures.1 shallow);
-    })
-
-pub into_restored-requires : goal.into_restored-requires
-into_restored-requires c =
-    let found : c.members.result ≡ Ok c.in-Some.given = c.shaped.ensures.found c.in-Some.given (c.in_ok-given.was ∙ ap Ok c.in-Some.is) in
-    AreMembers-distinct 127 c.in-Some.given (IfOk-at_ok _ found c.members.ensures.kept)
-
-pub element_of-requires-clause-kept : goal.element_of-requires-clause-kept
-unfolding quote
-element_of-requires-clause-kept c =
-    kind-stays (pairs c.in-Some.given) (pairs c.in_ok-restored.restored) c.in_ok-restored.ensures.restored (λ e. both_ways _ c.if-has_value.false (c.has_value.ensures.1 e))
-
-pub element_of-requires-clause-nest : goal.element_of-requires-clause-nest
-element_of-requires-clause-nest c =
-    let value = c.args.value.now in
-    let found : c.members.result ≡ Ok c.in-Some.given = c.shaped.ensures.found c.in-Some.given (c.in_ok-given.was ∙ ap Ok c.in-Some.is) in
-    let object = is-object value (pairs c.in-Some.given) (IfOk-at_ok _ found c.members.ensures.spelled) (IfOk-at_ok _ found c.members.ensures.kept) in
-    let shallow = c.nests_at_most.ensures.0 c.if-not-nests_at_most.false in
-    c.in_ok-restored.ensures.nests 119 (lit≤ tt) (given-nest value c.in-Some.given object shallow)
-
-pub returns-in_err-element-clause-fault : goal.returns-in_err-element-clause-fault
-unfolding quote
-returns-in_err-element-clause-fault c =
-    let value = c.args.value.now in
-    let found : c.members.result ≡ Ok c.in-Some.given = c.shaped.ensures.found c.in-Some.given (c.in_ok-given.was ∙ ap Ok c.in-Some.is) in
-    let object = is-object value (pairs c.in-Some.given) (IfOk-at_ok _ found c.members.ensures.spelled) (IfOk-at_ok _ found c.members.ensures.kept) in
-    let draws = no_selection value (pairs c.in-Some.given) object (λ e. both_ways _ c.if-has_value.false (c.has_value.ensures.1 e)) in
-    let shallow = c.nests_at_most.ensures.0 c.if-not-nests_at_most.false in
-    let p = err_from_is_err_and c.from_residual-in_err-element.result c.from_residual-in_err-element.ensures.1 in
-    rw (p.1, p.2) (λ fault e. fault-in value (pairs c.in-Some.given) (pairs c.in_ok-restored.restored) fault draws shallow c.in_ok-restored.ensures.restored
-    (c.in_err-element.ensures.fault fault (ap Err (stop-same _ _ _ e))))
-
-pub returns-clause-read : goal.returns-clause-read
-unfolding quote
-returns-clause-read c =
-    let value = c.args.value.now in
-    let found : c.members.result ≡ Ok c.in-Some.given = c.shaped.ensures.found c.in-Some.given (c.in_ok-given.was ∙ ap Ok c.in-Some.is) in
-    let object = is-object value (pairs c.in-Some.given) (IfOk-at_ok _ found c.members.ensures.spelled) (IfOk-at_ok _ found c.members.ensures.kept) in
-    let draws = no_selection value (pairs c.in-Some.given) object (λ e. both_ways _ c.if-has_value.false (c.has_value.ensures.1 e)) in
-    let shallow = c.nests_at_most.ensures.0 c.if-not-nests_at_most.false in
-    element-in value (pairs c.in-Some.given) (pairs c.in_ok-restored.restored) c.in_ok-element.element draws shallow c.in_ok-restored.ensures.restored c.in_ok-element.ensures.says
-
-pub returns-clause-whole : goal.returns-clause-whole
-unfolding quote
-returns-clause-whole c =
-    let value = c.args.value.now in
-    let found : c.members.result ≡ Ok c.in-Some.given = c.shaped.ensures.found c.in-Some.given (c.in_ok-given.was ∙ ap Ok c.in-Some.is) in
-    let object = is-object value (pairs c.in-Some.given) (IfOk-at_ok _ found c.members.ensures.spelled) (IfOk-at_ok _ found c.members.ensures.kept) in
-    let draws = no_selection value (pairs c.in-Some.given) object (λ e. both_ways _ c.if-has_value.false (c.has_value.ensures.1 e)) in
-    let shallow = c.nests_at_most.ensures.0 c.if-not-nests_at_most.false in
-    whole value c.in_ok-element.element
-    (element-in value (pairs c.in-Some.given) (pairs c.in_ok-restored.restored) c.in_ok-element.element draws shallow c.in_ok-restored.ensures.restored c.in_ok-element.ensures.says)
+pub read_members-requires : goal.read_members-requires
+read_members-requires c = (
+  c.args.value.now,
+  taken-apart c.args.value.now c.in_ok-taken.taken
+      (λ ms e. let found : c.members.result ≡ Ok ms = c.shaped.ensures.found ms (c.in_ok-taken.was ∙ ap Ok e) in (IfOk-at_ok _ found c.members.ensures.kept, IfOk-at_ok _ found c.members.ensures.spelled))
+      (λ e. c.members.ensures.shape (c.shaped.ensures.none (c.in_ok-taken.was ∙ ap Ok e))),
+)

@@ -1,9 +1,7 @@
-use Rattle.std.proofs.Common.{◌≡◌, map, take}
-use Rattle.std.specs.List.{join_with_byte}
-use Rattle.json_reader.specs.Drafts.{pair_text}
+use Rattle.std.proofs.Common.{◌≡◌, take}
 use Rattle.json_reader.specs.Places.{entries}
+use Rattle.json_reader.proofs.Drafting.{commas}
 use Rattle.json_reader.proofs.collapsing.text_of.Given as goal
 
--- the members before i are written
-abbrev pub invariant-loop-i : goal.invariant-loop-i
-invariant-loop-i l = l.text.items ≡ join_with_byte 44 (take l.i (map pair_text (entries l.bytes l.places)))
+abbrev pub invariant-loop-place : goal.invariant-loop-place
+invariant-loop-place l = l.text.items ≡ commas (entries l.bytes (take l.place-index l.places))

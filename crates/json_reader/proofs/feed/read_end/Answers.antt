@@ -2,7 +2,7 @@ use Rattle.std.proofs.Common.{◌≤◌, [], length, arith, append-nil, sym, sub
 use Rattle.std.proofs.lemmas.List.{drop_all}
 use Rattle.std.proofs.lemmas.Result.{IfOk-weaker}
 use Rattle.json_text.specs.Value.{Stands}
-use Rattle.json_reader.proofs.Pieces.{ran-through, late-ended, late-refused}
+use Rattle.json_reader.proofs.Feeds.{ran-through, late-ended, late-refused}
 use Rattle.json_reader.proofs.feed.read_end.Goals as goal
 
 pub unreachable-requires : goal.unreachable-requires

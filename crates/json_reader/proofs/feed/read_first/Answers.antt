@@ -2,8 +2,7 @@ use Rattle.std.proofs.Common.{◌≡◌, ◌+◌, ◌-◌, ◌++◌, length, dro
 use Rattle.std.proofs.lemmas.List.{drop-drop}
 use Rattle.json_reader.specs.Feeding.{behind_space}
 use Rattle.json_reader.specs.Runs.{IsKept}
-use Rattle.json_reader.proofs.Feeds.{first-bytes, kept-begun}
-use Rattle.json_reader.proofs.Pieces.{kept-through, ended-in, refused-in}
+use Rattle.json_reader.proofs.Feeds.{first-bytes, kept-begun, kept-through, ended-in, refused-in}
 use Rattle.json_reader.proofs.feed.read_first.Goals as goal
 
 pub returns-in_ok-extend_from_slice-in-Through-clause-fed : goal.returns-in_ok-extend_from_slice-in-Through-clause-fed

@@ -1,7 +1,6 @@
 use Rattle.std.proofs.Common.{◌≡◌, ◌-◌, length, arith, length-append, refl, sym, ap, subst, ◌∙◌}
 use Rattle.json_reader.specs.Runs.{IsKept}
-use Rattle.json_reader.proofs.Feeds.{behind-on}
-use Rattle.json_reader.proofs.Pieces.{kept-through, ended-in, refused-in, late-ended, late-refused, behind-kept}
+use Rattle.json_reader.proofs.Feeds.{behind-on, kept-through, ended-in, refused-in, late-ended, late-refused, behind-kept}
 use Rattle.json_reader.proofs.feed.read_more.Goals as goal
 
 pub overflow_sub-result : goal.overflow_sub-result

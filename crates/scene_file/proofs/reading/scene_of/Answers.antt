@@ -19,6 +19,16 @@ returns-then-not-has_value-clause-fault c = λ fault e.
     let object = is-object value (pairs c.in-Some.found) (IfOk-at_ok _ found c.members.ensures.spelled) (IfOk-at_ok _ found c.members.ensures.kept) in
     subst (IsSceneFault value) (fault-same _ NotScene fault e) (pairs c.in-Some.found, object, λ kind. both_ways _ refl (c.if-not-has_value.ensures.1 kind.1))
 
+pub returns-in_default-objects_given-clause-fault : goal.returns-in_default-objects_given-clause-fault
+unfolding quote
+returns-in_default-objects_given-clause-fault c = λ fault e.
+    let value = c.args.value.now in
+    let found : c.members.result ≡ Ok c.in-Some.found = c.shaped.ensures.found c.in-Some.found (c.in_ok-found.was ∙ ap Ok c.in-Some.is) in
+    let object = is-object value (pairs c.in-Some.found) (IfOk-at_ok _ found c.members.ensures.spelled) (IfOk-at_ok _ found c.members.ensures.kept) in
+    let kind = is-scene (pairs c.in-Some.found) (c.if-not-has_value.ensures.0 refl) in
+    let lacks = MatchOption-at_none _ _ c.in_default-objects_given.is c.objects_given.ensures in
+    subst (IsSceneFault value) (fault-same _ Elements fault e) (pairs c.in-Some.found, object, kind, lacks)
+
 pub returns-in_default-2-clause-fault : goal.returns-in_default-2-clause-fault
 unfolding quote
 returns-in_default-2-clause-fault c = λ fault e.
@@ -26,9 +36,10 @@ returns-in_default-2-clause-fault c = λ fault e.
     let found : c.members.result ≡ Ok c.in-Some.found = c.shaped.ensures.found c.in-Some.found (c.in_ok-found.was ∙ ap Ok c.in-Some.is) in
     let object = is-object value (pairs c.in-Some.found) (IfOk-at_ok _ found c.members.ensures.spelled) (IfOk-at_ok _ found c.members.ensures.kept) in
     let kind = is-scene (pairs c.in-Some.found) (c.if-not-has_value.ensures.0 refl) in
-    let none : c.in_ok-values.field-0 ≡ None = cc in
-    let lacks = MatchOption-at_none _ _ none c.in_ok-values.ensures in
-    subst (IsSceneFault value) (fault-same _ Elements fault e) (pairs c.in-Some.found, object, kind, lacks)
+    let items = MatchOption-at_some _ _ c.in-Some-objects_given.objects c.in-Some-objects_given.is c.objects_given.ensures in
+    let none : c.in_ok-settings.field-0 ≡ None = cc in
+    let lacks = MatchOption-at_none _ _ none c.in_ok-settings.ensures in
+    subst (IsSceneFault value) (fault-same _ AppState fault e) (pairs c.in-Some.found, object, kind, (items.0, items.1), lacks)
 
 pub returns-in_default-3-clause-fault : goal.returns-in_default-3-clause-fault
 unfolding quote
@@ -37,23 +48,11 @@ returns-in_default-3-clause-fault c = λ fault e.
     let found : c.members.result ≡ Ok c.in-Some.found = c.shaped.ensures.found c.in-Some.found (c.in_ok-found.was ∙ ap Ok c.in-Some.is) in
     let object = is-object value (pairs c.in-Some.found) (IfOk-at_ok _ found c.members.ensures.spelled) (IfOk-at_ok _ found c.members.ensures.kept) in
     let kind = is-scene (pairs c.in-Some.found) (c.if-not-has_value.ensures.0 refl) in
-    let items = MatchOption-at_some _ _ c.in-Some-2.values c.in-Some-2.is c.in_ok-values.ensures in
-    let none : c.in_ok-settings.field-0 ≡ None = cc in
-    let lacks = MatchOption-at_none _ _ none c.in_ok-settings.ensures in
-    subst (IsSceneFault value) (fault-same _ AppState fault e) (pairs c.in-Some.found, object, kind, (c.in-Some-2.values, items), lacks)
-
-pub returns-in_default-4-clause-fault : goal.returns-in_default-4-clause-fault
-unfolding quote
-returns-in_default-4-clause-fault c = λ fault e.
-    let value = c.args.value.now in
-    let found : c.members.result ≡ Ok c.in-Some.found = c.shaped.ensures.found c.in-Some.found (c.in_ok-found.was ∙ ap Ok c.in-Some.is) in
-    let object = is-object value (pairs c.in-Some.found) (IfOk-at_ok _ found c.members.ensures.spelled) (IfOk-at_ok _ found c.members.ensures.kept) in
-    let kind = is-scene (pairs c.in-Some.found) (c.if-not-has_value.ensures.0 refl) in
-    let items = MatchOption-at_some _ _ c.in-Some-2.values c.in-Some-2.is c.in_ok-values.ensures in
-    let settings = MatchOption-at_some _ _ c.in-Some-3.settings c.in-Some-3.is c.in_ok-settings.ensures in
+    let items = MatchOption-at_some _ _ c.in-Some-objects_given.objects c.in-Some-objects_given.is c.objects_given.ensures in
+    let settings = MatchOption-at_some _ _ c.in-Some-2.settings c.in-Some-2.is c.in_ok-settings.ensures in
     let none : c.in_ok-entries.field-0 ≡ None = cc in
     let lacks = MatchOption-at_none _ _ none c.in_ok-entries.ensures in
-    subst (IsSceneFault value) (fault-same _ Files fault e) (pairs c.in-Some.found, object, kind, (c.in-Some-2.values, items), (pairs c.in-Some-3.settings, settings), lacks)
+    subst (IsSceneFault value) (fault-same _ Files fault e) (pairs c.in-Some.found, object, kind, (items.0, items.1), (pairs c.in-Some-2.settings, settings), lacks)
 
 pub returns-in_err-read-clause-fault : goal.returns-in_err-read-clause-fault
 unfolding quote
@@ -62,14 +61,14 @@ returns-in_err-read-clause-fault c =
     let found : c.members.result ≡ Ok c.in-Some.found = c.shaped.ensures.found c.in-Some.found (c.in_ok-found.was ∙ ap Ok c.in-Some.is) in
     let object = is-object value (pairs c.in-Some.found) (IfOk-at_ok _ found c.members.ensures.spelled) (IfOk-at_ok _ found c.members.ensures.kept) in
     let kind = is-scene (pairs c.in-Some.found) (c.if-not-has_value.ensures.0 refl) in
-    let items = MatchOption-at_some _ _ c.in-Some-2.values c.in-Some-2.is c.in_ok-values.ensures in
-    let settings = MatchOption-at_some _ _ c.in-Some-3.settings c.in-Some-3.is c.in_ok-settings.ensures in
-    let entries = MatchOption-at_some _ _ c.in-Some-4.entries c.in-Some-4.is c.in_ok-entries.ensures in
+    let items = MatchOption-at_some _ _ c.in-Some-objects_given.objects c.in-Some-objects_given.is c.objects_given.ensures in
+    let settings = MatchOption-at_some _ _ c.in-Some-2.settings c.in-Some-2.is c.in_ok-settings.ensures in
+    let entries = MatchOption-at_some _ _ c.in-Some-3.entries c.in-Some-3.is c.in_ok-entries.ensures in
     let p = err_from_is_err_and c.from_residual-in_err-read.result c.from_residual-in_err-read.ensures.1 in
     rw (p.1, p.2) (λ fault e.
-    let told = c.in_err-read.ensures.fault fault (ap Err (stop-same _ _ _ e)) in
+    let told = c.in_err-read.ensures.fault fault (ap Err (stop-same _ _ _ e)) items.0 items.2 in
     subst (IsSceneFault value) (sym told.2)
-    (pairs c.in-Some.found, object, kind, (c.in-Some-2.values, items, told.3), (pairs c.in-Some-3.settings, settings), (pairs c.in-Some-4.entries, entries)))
+    (pairs c.in-Some.found, object, kind, (items.0, items.1, told.3), (pairs c.in-Some-2.settings, settings), (pairs c.in-Some-3.entries, entries)))
 
 pub returns-clause-scene : goal.returns-clause-scene
 unfolding quote
@@ -78,15 +77,15 @@ returns-clause-scene c =
     let found : c.members.result ≡ Ok c.in-Some.found = c.shaped.ensures.found c.in-Some.found (c.in_ok-found.was ∙ ap Ok c.in-Some.is) in
     let object = is-object value (pairs c.in-Some.found) (IfOk-at_ok _ found c.members.ensures.spelled) (IfOk-at_ok _ found c.members.ensures.kept) in
     let kind = is-scene (pairs c.in-Some.found) (c.if-not-has_value.ensures.0 refl) in
-    let items = MatchOption-at_some _ _ c.in-Some-2.values c.in-Some-2.is c.in_ok-values.ensures in
+    let items = MatchOption-at_some _ _ c.in-Some-objects_given.objects c.in-Some-objects_given.is c.objects_given.ensures in
     record {
       members = pairs c.in-Some.found;
       object = object;
       kind = kind;
       head = c.in_ok-head_of.ensures;
-      values = c.in-Some-2.values;
-      items = items;
+      values = items.0;
+      items = items.1;
       elements = c.in_ok-read.read;
-      read = c.in_ok-read.ensures.read;
+      read = c.in_ok-read.ensures.read items.0 items.2;
       are_loaded = c.from_vec.ensures ∙ (c.in_ok-elements.ensures ∙ ap loaded c.into_vec.ensures);
     }

@@ -40,9 +40,7 @@ pub from_compact-requires : goal.from_compact-requires
 from_compact-requires c = rw (written c) (compact c 127 c.requires.values)
 
 pub returns-clause-text : goal.returns-clause-text
-returns-clause-text c =
-    let done = (goal.at.returns-clause-text c).In_ok-push-3 in
-    IfOk-weaker c.from_compact.result _ (λ raw. raw ≡ object_text (pairs c.args.members.now)) (λ raw same. same ∙ written done) c.from_compact.ensures
+returns-clause-text c = rw (← written (goal.at.returns-clause-text c).In_ok-push-3) c.from_compact.ensures
 
 pub returns-clause-nests : goal.returns-clause-nests
 returns-clause-nests c = λ limit each.

@@ -21,22 +21,22 @@ returns-then-bytes-end-eq93 c =
     λ all compact e.
     let l = c.loop-found.invariant.left all compact (c.as_bytes-bytes.ensures.value ∙ e) in
     let found = c.next_end-end.ensures.end l.item _ (IsLeft-Compacted l) in
-    let here = after-here array c.as_bytes-bytes.result.now c.next_end-end.result _ found.0 in
+    let here = after-here array [] c.as_bytes-bytes.result.now c.next_end-end.result _ found.0 in
     c.in_ok-push.ensures.items
     ∙ ap (λ (item : List ℕ). c.loop-found.found.items ++ item ∷ []) (cut (goal.at.returns-then-bytes-end-eq93 c).In_ok-cut ∙ found.1)
-    ∙ IsLeft-end l (here.1 ∙ ap (λ (b : ℕ). b ∷ drop (c.next_end-end.result + 1) c.as_bytes-bytes.result.now) c.if-bytes-end-eq93.true)
+    ∙ (IsLeft-end l (here.1 ∙ ap (λ (b : ℕ). b ∷ drop (c.next_end-end.result + 1) c.as_bytes-bytes.result.now) c.if-bytes-end-eq93.true)).0
 
 pub loop-found-preserved : goal.loop-found-preserved
 loop-found-preserved c =
     let first = c.loop-found.invariant.left (c.requires.0 ∷ c.requires.1) c.requires.2 (c.as_bytes-bytes.ensures.value ∙ c.requires.3) in
     let ends = c.next_end-end.ensures.end first.item _ (IsLeft-Compacted first) in
-    let after = after-here array c.as_bytes-bytes.result.now c.next_end-end.result _ ends.0 in
+    let after = after-here array [] c.as_bytes-bytes.result.now c.next_end-end.result _ ends.0 in
     record {
       within = omega (arith, after.0);
       left = λ all compact e.
           let l = c.loop-found.invariant.left all compact e in
           let found = c.next_end-end.ensures.end l.item _ (IsLeft-Compacted l) in
-          let here = after-here array c.as_bytes-bytes.result.now c.next_end-end.result _ found.0 in
+          let here = after-here array [] c.as_bytes-bytes.result.now c.next_end-end.result _ found.0 in
           let pushed = c.in_ok-push.ensures.items ∙ ap (λ (item : List ℕ). c.loop-found.found.items ++ item ∷ []) (cut (goal.at.loop-found-preserved c).In_ok-cut ∙ found.1) in
           rw pushed (IsLeft-next l here.1 c.if-bytes-end-eq93.false);
     }

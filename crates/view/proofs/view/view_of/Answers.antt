@@ -1,11 +1,11 @@
 use Rattle.std.proofs.Common.{◌≡◌, subst, sym, ap, ◌∙◌}
 use Rattle.view.specs.Shown.{live_elements, all_as_stored, shown, HaveKeysOrNone, IsView}
 use Rattle.view.proofs.Originals.{all_as_stored-live}
-use Rattle.view.proofs.ShownLaws.{HaveDistinctIds-rising, live_elements-live, live_elements-rise}
+use Rattle.view.proofs.ShownLaws.{live-distinct, live_elements-live, live_elements-rise}
 use Rattle.view.proofs.view.view_of.Goals as goal
 
 pub shown_of-requires : goal.shown_of-requires
-shown_of-requires c = rw c.in_ok-live.ensures.exact (HaveDistinctIds-rising (live_elements c.args.store.now.elements) (live_elements-rise c.args.store.now.elements c.in_ok-live.ensures.ordered))
+shown_of-requires c = live-distinct c.args.store.now.elements _ c.in_ok-live.ensures.exact c.in_ok-live.ensures.ordered
 
 exact : (c : goal.In_ok-originals) → c.in_ok-shown.shown ≡ shown (live_elements c.args.store.now.elements)
 exact c = c.in_ok-shown.ensures.exact ∙ ap shown c.in_ok-live.ensures.exact

@@ -1,16 +1,13 @@
-use Rattle.std.proofs.Common.{◌≡◌, ◌≤◌, ℕ, suc, List, length, drop, get_or, drop-cons, arith, inl, inr, sym, subst, ◌∙◌}
+use Rattle.std.proofs.Common.{◌≡◌, ◌≤◌, ℕ, List, length, drop, drop-cons, arith, sym, subst, ◌∙◌}
 use Rattle.json_text.specs.Value.{Stands}
 use Rattle.json_reader.specs.Runs.{EndsBefore}
 use Rattle.json_reader.specs.Writing.{HasRead, EndsIn}
 use Rattle.json_reader.specs.declared.machine.Machine.{Machine}
 use Rattle.json_reader.specs.declared.writing.Writer.{Writer}
 use Rattle.json_reader.proofs.Written.{has-ended}
-use Rattle.json_reader.proofs.Feeds.{ended-found}
+use Rattle.json_reader.proofs.Feeds.{ended-found, over_before}
 use Rattle.json_reader.proofs.reader.Reader.read.Goals as goal
 use Rattle.json_reader.proofs.reader.Reader.read.Goals.{In-Ended, Then-is_over}
-
-pub loop-next-init : goal.loop-next-init
-loop-next-init c = (omega arith, c.requires.1.high, λ at read. read)
 
 pub loop-next-preserved : goal.loop-next-preserved
 loop-next-preserved c =
@@ -23,11 +20,11 @@ before : (c : In-Ended) → EndsBefore c.loop-next.machine.mode c.loop-next.mach
 before c =
     let next = c.loop-next.next in
     let bytes = c.args.bytes.now in
-    inr (get_or bytes next 0, drop (suc next) bytes, drop-cons bytes next 0 c.loop-next-test.true, c.in-Ended.ensures.0)
+    rw (drop-cons bytes next 0 c.loop-next-test.true) c.in-Ended.ensures.0
 
 -- nothing more is waited for
 over : (c : Then-is_over) → EndsBefore c.loop-next.machine.mode c.loop-next.machine.brackets (drop c.loop-next.next c.args.bytes.now)
-over c = inl (sym c.is_over.ensures ∙ c.if-is_over.true)
+over c = over_before c.loop-next.machine.mode c.loop-next.machine.brackets (sym c.is_over.ensures ∙ c.if-is_over.true) (drop c.loop-next.next c.args.bytes.now)
 
 -- a value stands there, and what is given is it
 module _ (bytes : List ℕ) (at next : ℕ) (machine : Machine) (writer : Writer) (read : HasRead bytes at next machine writer)
