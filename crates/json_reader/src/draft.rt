@@ -94,6 +94,20 @@ impl Draft {
         Ok(())
     }
 
+    /// Appends these bytes, which may be many. Behind a single byte, as the outermost object has it, they stay where they
+    /// are.
+    pub(crate) fn append(&mut self, bytes: Vec<u8>) -> Result<(), AllocError>
+        ensures { OnOk result (self.new ≡ grown self.old bytes.items) }
+    {
+        let [first] = self.text.as_slice() else {
+            return self.extend(bytes.as_slice());
+        };
+        let mut whole = bytes;
+        whole.insert(0, *first)?;
+        self.text = whole;
+        Ok(())
+    }
+
     /// Appends the quote of a text.
     pub(crate) fn push_quote(&mut self, text: &Text) -> Result<(), AllocError>
         ensures { OnOk result (self.new ≡ grown self.old (quote text.now)) }

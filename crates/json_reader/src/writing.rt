@@ -298,7 +298,7 @@ impl Writer {
         };
         let inner = replace(&mut self.here, outer);
         let text = inner.close(alloc)?;
-        self.here.extend(text.as_slice())?;
+        self.here.append(text)?;
         Ok(())
     }
 
