@@ -14,7 +14,7 @@ use Rattle.json_text.proofs.CompactLaws.{Value-Form, Value-deeper}
 use Rattle.json_text.proofs.Forms.{form-quoted}
 use Rattle.json_text.proofs.Reading.{tree-Head, first-same, tail-same, Stands-once}
 use Rattle.json_text.proofs.Strings.{heads-differ}
-use Rattle.scene_json.proofs.ItemsLeft.{after_item, items-split}
+use Rattle.scene_json.proofs.ItemsLeft.{behind_item, behind-split}
 use Rattle.elem.specs.declared.parts.Binding.{Binding}
 use Rattle.elem.specs.Facts.{IsBinding, names}
 use Rattle.elem.specs.Texts.{truth_text, text_or_null, binding_text}
@@ -161,14 +161,14 @@ value-split v w r s (inr (t, p)) (inr (u, q)) f g e =
 
 -- ---- members of an object
 abbrev after : List Pair → List ℕ
-after ms = after_item object (map member_text ms)
+after ms = behind_item object [] (map member_text ms)
 
 follows-after : (v : List ℕ) (ms : List Pair) → Follows v (after ms)
 follows-after v [] = λ _. refl
 follows-after v (m ∷ ms) = λ _. refl
 
 split : (m : Pair) (ms : List Pair) → join_with_byte 44 (map member_text (m ∷ ms)) ++ 125 ∷ [] ≡ quote m.0 ++ (58 ∷ (m.1 ++ after ms))
-split m ms = items-split object (member_text m) (map member_text ms) ∙ append_assoc (quote m.0) (58 ∷ m.1) (after ms)
+split m ms = behind-split object [] (member_text m) (map member_text ms) ∙ append_assoc (quote m.0) (58 ∷ m.1) (after ms)
 
 quoted-open : (t r : List ℕ) → quote t ++ r ≡ 125 ∷ [] → ⊥
 unfolding quote

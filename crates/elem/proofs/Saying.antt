@@ -22,7 +22,7 @@ use Rattle.json_text.specs.declared.text.Member.{Member}
 use Rattle.scene_json.specs.Named.{value_at}
 use Rattle.json_text.proofs.Collapsed.{bytes_eq-true}
 use Rattle.json_text.proofs.CompactLaws.{Value-deeper, quote-compact, literal-compact, array-compact, object-compact}
-use Rattle.json_text.proofs.Numbers.{decimal-number}
+use Rattle.json_text.proofs.Reading.{decimal-number}
 use Rattle.scene_json.proofs.Lookups.{distinct_moved, same_moved}
 use Rattle.scene_json.proofs.Pairs.{names-pairs}
 use Rattle.frac_keys.specs.Keys.{is_key}

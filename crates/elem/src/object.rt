@@ -27,6 +27,7 @@ pub(crate) fn push_below<'a>(
         → IsBegun before first out.old.items → IsBegun before (first ++ pairs (members_below name.now members.now)) out.new.items) }
     ensures left { IfOk result (λ left. left.now ≡ members_not_below name.now members.now) }
     ensures named { OnOk result (All (λ m. IsUtf8 m.name) (members_below name.now members.now)) }
+    ensures utf8 { IsUtf8 name.now }
     ensures kept { Extends out.old.items out.new.items }
 {
     let (below, left) = members.split_at(count_below(members, name));
@@ -83,6 +84,16 @@ pub(crate) fn begin_member(out: &mut Vec<u8>, start: usize, name: &str) -> Resul
     push_quoted(out, name)?;
     out.push(b':')?;
     Ok(())
+}
+
+/// Begins a member in an object that begins at an offset, where the name's quote and the colon behind it are these bytes.
+#[tactic(auto, using(crate::proofs::Appending::extends_same, crate::proofs::Appending::extends_by, crate::proofs::Appending::extends_then))]
+pub(crate) fn begin_quoted(out: &mut Vec<u8>, start: usize, head: &[u8]) -> Result<(), AllocError>
+    ensures text { OnOk result (out.new.items ≡ (out.old.items ++ mark start out.old.items ∷ []) ++ head.now) }
+    ensures kept { OnErr result (Extends out.old.items out.new.items) }
+{
+    push_mark(out, start)?;
+    out.extend_from_slice(head)
 }
 
 /// Appends what stands before a member of an object that begins at an offset: `{` before the first, and else a comma.

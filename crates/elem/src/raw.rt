@@ -14,7 +14,7 @@ ghost use Rattle.elem.specs.Texts.{binding_text, header_members, element_members
 
 use crate::element::Element;
 use crate::header::{Header, headers_of};
-use crate::object::{begin_member, push_below, push_members};
+use crate::object::{begin_member, begin_quoted, push_below, push_members};
 use crate::parts::Binding;
 use crate::values::{
     push_key, push_kind, push_listing, push_null, push_text, push_texts, push_truth,
@@ -102,10 +102,10 @@ fn push_header(
 ) -> Result<(), AllocError>
     ensures begun { OnOk result ((before : Items ℕ) (members : Items Pair) → start ≡ length before
         → IsBegun before members out.old.items → IsBegun before (members ++ header_pair e.now header ∷ []) out.new.items) }
-    ensures sound { OnOk result (IsUtf8 (header_name header) × IsCompact 119 (header_value e.now header)) }
+    ensures nests { OnOk result (IsCompact 119 (header_value e.now header)) }
     ensures kept { OnErr result (Extends out.old.items out.new.items) }
 {
-    begin_member(out, start, header.name())?;
+    begin_quoted(out, start, header.head())?;
     push_value(out, e, header)
 }
 

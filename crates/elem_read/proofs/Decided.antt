@@ -13,7 +13,7 @@ use Rattle.json_text.specs.declared.text.Member.{Member}
 use Rattle.scene_json.specs.Named.{value_at, HaveRisingNames}
 use Rattle.json_text.proofs.Collapsed.{bytes_eq-true, bytes_eq-same}
 use Rattle.json_text.proofs.CompactLaws.{Value-deeper}
-use Rattle.json_text.proofs.Decided.{string-or-not, array-or-not, object-or-not}
+use Rattle.json_text.proofs.Forms.{string-or-not, array-or-not, object-or-not}
 use Rattle.scene_json.proofs.Rising.{tabled}
 use Rattle.frac_keys.specs.Keys.{is_key}
 use Rattle.elem.specs.declared.kind.Kind.{Kind}

@@ -12,7 +12,7 @@ use Rattle.scene_json.specs.TheOne.{IsTheOne}
 use Rattle.json_text.proofs.Collapsed.{bytes_eq-true, bytes_eq-same, bytes_eq-apart}
 use Rattle.json_text.specs.declared.text.Member.{Member}
 use Rattle.json_text.proofs.CompactLaws.{Value-deeper}
-use Rattle.json_text.proofs.Decided.{object-or-not, nests-or-not}
+use Rattle.json_text.proofs.Forms.{object-or-not, nests-or-not}
 use Rattle.scene_json.proofs.Rising.{tabled}
 use Rattle.restore_table.specs.Restored.{AreRestored, HasOldListing, filled, filled_at, listing_at, listing_name, old_name}
 use Rattle.restore_table.specs.Table.{defaults}

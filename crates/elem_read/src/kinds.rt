@@ -5,7 +5,7 @@ ghost use Rattle.std.specs.List.{list_any};
 ghost use Rattle.json_text.specs.Members.{pairs};
 ghost use Rattle.scene_json.specs.Named.{value_at};
 ghost use Rattle.elem.specs.Facts as facts;
-ghost use Rattle.elem.specs.Facts.{IsKind, own_names};
+ghost use Rattle.elem.specs.Facts.{IsKind, header_names, own_names};
 ghost use Rattle.elem.specs.Forms.{IsText, IsKindName};
 ghost use Rattle.elem.specs.Said.{is_named};
 ghost use Rattle.elem.specs.Texts.{kind_name};
@@ -18,22 +18,7 @@ use crate::forms::text;
 use board_io::{List, Stop};
 use elem::Kind;
 use json_text::{Member, Text};
-use scene_json::is_one_of;
 use std::alloc::Global;
-
-/// The header members that all kinds have.
-const HEADER_NAMES: [&str; 10] = [
-    "id",
-    "type",
-    "version",
-    "versionNonce",
-    "updated",
-    "isDeleted",
-    "index",
-    "groupIds",
-    "frameId",
-    "boundElements",
-];
 
 /// The kind, which isn't `selection`.
 pub(crate) fn kind(alloc: Global, members: &List<Member>) -> Result<Kind, Stop<ElemFault>>
@@ -125,7 +110,27 @@ pub(crate) fn others(members: List<Member>, kind: &Kind) -> List<Member>
 fn is_header(kind: &Kind, name: &Text) -> bool
     ensures { result ≡ facts.is_header kind.now name.now }
 {
-    is_one_of(name, &HEADER_NAMES) || is_own(kind, name.as_bytes())
+    is_common(name.as_bytes()) || is_own(kind, name.as_bytes())
+}
+
+/// Whether all kinds have a header member of this name. The first letter tells most names apart.
+fn is_common(name: &[u8]) -> bool
+    ensures { result ≡ list_any (bytes_eq name.now) header_names }
+{
+    match name {
+        [b'b', ..] => name == b"boundElements".as_slice(),
+        [b'f', ..] => name == b"frameId".as_slice(),
+        [b'g', ..] => name == b"groupIds".as_slice(),
+        [b'i', ..] => {
+            name == b"id".as_slice()
+                || name == b"index".as_slice()
+                || name == b"isDeleted".as_slice()
+        }
+        [b't', ..] => name == b"type".as_slice(),
+        [b'u', ..] => name == b"updated".as_slice(),
+        [b'v', ..] => name == b"version".as_slice() || name == b"versionNonce".as_slice(),
+        _ => false,
+    }
 }
 
 /// Whether the kind alone has a header member of this name.

@@ -18,7 +18,7 @@ use Rattle.frac_keys.specs.Rising.{are_rising}
 use Rattle.elem.specs.ElementValue.{ElementValue}
 use Rattle.elem.specs.Order.{beats}
 use Rattle.elem_store.specs.Updates.{element_of, ids_of, is_taken, HasTaken}
-use Rattle.elem_store.specs.Places.{elements_at, order_at, AreInOrder, IsAt, IsGapFor}
+use Rattle.elem_store.specs.Places.{elements_at, order_at, AreInOrder, IsAt, IsBetween, IsGapFor}
 use Rattle.elem_store.proofs.Rising.{earlier_less, less-less, less-other}
 use Rattle.elem_store.proofs.Edits.{element-at, is_taken-at, HasTaken-set, HasTaken-not, HasTaken-insert}
 
@@ -115,42 +115,57 @@ module _ (elements : List ElementValue) (places : List ℕ) (o : AreInOrder elem
       let rise = searchable_from_sorted nat_list_cmp_total (λ (e : ElementValue). e.id) among id sorted i j x.0 le (rw count l) in
       subst₂ (λ a b. ordering_index a ≤ ordering_index b) (sym (order_at-index i n x.0 (omega arith))) (sym (order_at-index j n x.0 l)) rise
 
-  -- what is found at the middle of the places is so before it, or from it on
-  pub less-before : (m : ℕ) → m < length places → order_at elements id (get_or places m 0) ≡ Less → (k d : ℕ) → k < m + 1 → order_at elements id (get_or places k d) ≡ Less
-  less-before m l less k d n =
-      let rise = comparisons_rise k m 0 (omega arith) l in
-      ap (order_at elements id) (get_or_default places k d 0 (omega arith))
-      ∙ least (order_at elements id (get_or places k 0)) (omega (arith, ap ordering_index less))
+  -- what a search finds of a place at an index is so of those before it, or from it on, or ends the search at it
+  module _ (m place : ℕ) (here : slice_get places m ≡ Some place) where
+    order_here : (c : Ordering) → order_at elements id place ≡ c → ordering_index (order_at elements id (get_or places m 0)) ≡ ordering_index c
+    order_here c found = ap ordering_index (ap (order_at elements id) (get_or_from_slice_get places m place 0 here) ∙ found)
 
-  pub greater-from : (m : ℕ) → m < length places → order_at elements id (get_or places m 0) ≡ Greater → (k d : ℕ) → m ≤ k → k < length places → order_at elements id (get_or places k d) ≡ Greater
-  greater-from m l greater k d n o =
-      let rise = comparisons_rise m k 0 n o in
-      ap (order_at elements id) (get_or_default places k d 0 o)
-      ∙ greatest (order_at elements id (get_or places k 0)) (omega (arith, ap ordering_index greater))
+    pub between-less : (low high next : ℕ) → next ≡ m + 1 → IsBetween elements places id low high → order_at elements id place ≡ Less → IsBetween elements places id next high
+    between-less low high next behind between found =
+        let l = slice_get_within places m place here in
+        record {
+          low_within = omega arith;
+          high_within = between.high_within;
+          less = λ k d n.
+              ap (order_at elements id) (get_or_default places k d 0 (omega arith))
+              ∙ least (order_at elements id (get_or places k 0)) (omega (arith, comparisons_rise k m 0 (omega arith) l, order_here Less found));
+          greater = between.greater;
+        }
 
-  -- a search by id ends at the id, or at the gap for it
-  pub searched-found : (i : ℕ) → i < length places → order_at elements id (get_or places i 0) ≡ Equal → IsAt (elements_at elements places) id i
-  searched-found i l equal =
-      let x = some_within elements (get_or places i 0) (o.within i 0 l) in
-      let among = elements_at elements places in
-      let within : i < length among = rw (length-at elements places o.within) l in
-      rw (slice_get-get_or among i x.0 within) (exact_bytes (get_or among i x.0).id id (sym (order_at-index i 0 x.0 l) ∙ equal))
+    pub between-greater : (low high : ℕ) → IsBetween elements places id low high → order_at elements id place ≡ Greater → IsBetween elements places id low m
+    between-greater low high between found = record {
+      low_within = between.low_within;
+      high_within = omega (arith, slice_get_within places m place here);
+      less = between.less;
+      greater = λ k d n o.
+          ap (order_at elements id) (get_or_default places k d 0 o)
+          ∙ greatest (order_at elements id (get_or places k 0)) (omega (arith, comparisons_rise m k 0 n o, order_here Greater found));
+    }
+
+    pub searched-found : order_at elements id place ≡ Equal → IsAt (elements_at elements places) id m
+    searched-found found =
+        let l = slice_get_within places m place here in
+        let among = elements_at elements places in
+        let x = some_within elements (get_or places m 0) (o.within m 0 l) in
+        let same = ap (order_at elements id) (get_or_from_slice_get places m place 0 here) in
+        rw (slice_get-get_or among m x.0 (rw (length-at elements places o.within) l)) (exact_bytes (get_or among m x.0).id id (sym (order_at-index m 0 x.0 l) ∙ same ∙ found))
 
   greater-less : (a b : List ℕ) → slice_cmp nat_cmp a b ≡ Greater → bytes_less b a ≡ true
   greater-less a b h = ap is_lt (nat_list_cmp_total.antisymm b a ∙ ap ordering_reverse h)
 
-  pub searched-gap : (i : ℕ) → i ≤ length places → ((k d : ℕ) → k < i → order_at elements id (get_or places k d) ≡ Less) → ((k d : ℕ) → i ≤ k → k < length places → order_at elements id (get_or places k d) ≡ Greater) → IsGapFor (elements_at elements places) id i
-  searched-gap i le less greater =
+  -- where no place is between the bounds, they are the gap for the id
+  pub searched-gap : (low high : ℕ) → high ≤ low → IsBetween elements places id low high → IsGapFor (elements_at elements places) id low
+  searched-gap low high none between =
       let among = elements_at elements places in
       let count = length-at elements places o.within in
       record {
-        in_range = rw count le;
+        in_range = rw count between.low_within;
         less_before = λ k d l.
-            let m : k < i = omega (arith, length-take i among) in
-            rw (get_or-take i among k d m) (ap is_lt (sym (order_at-index k 0 d (omega arith)) ∙ less k 0 m));
+            let m : k < low = omega (arith, length-take low among) in
+            rw (get_or-take low among k d m) (ap is_lt (sym (order_at-index k 0 d (omega (arith, between.low_within))) ∙ between.less k 0 m));
         greater_after = λ k d l.
-            let m : i + k < length places = omega (arith, length-drop i among) in
-            rw (get_or-drop i among k d) (greater-less (get_or among (i + k) d).id id (sym (order_at-index (i + k) 0 d m) ∙ greater (i + k) 0 (omega arith) m));
+            let m : low + k < length places = omega (arith, length-drop low among) in
+            rw (get_or-drop low among k d) (greater-less (get_or among (low + k) d).id id (sym (order_at-index (low + k) 0 d m) ∙ between.greater (low + k) 0 (omega arith) m));
       }
 
 -- what an element added at the end of the list is among them

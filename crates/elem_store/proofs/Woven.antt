@@ -6,8 +6,9 @@ use Rattle.std.proofs.lemmas.List.{get_or_default, get_or_append_left, get_or_at
 use Rattle.std.proofs.lemmas.List.Edits.{length-insert, insert-append_left}
 use Rattle.std.proofs.lemmas.List.Elements.{All-head, All-tail, All-cons, All-take, All-drop, All-append}
 use Rattle.std.proofs.lemmas.List.Sorted.{IsNonDecreasingBy-insert}
+use Rattle.std.proofs.lemmas.Option.{slice_get-get_or}
 use Rattle.elem_store.specs.declared.indexed.Late.{Late}
-use Rattle.elem_store.specs.Indexed.{woven, AreGaps, AreBefore}
+use Rattle.elem_store.specs.Indexed.{woven, AreAside, AreGaps, AreBefore}
 
 abbrev pub AllWithin : ℕ → List Late → Type 0
 AllWithin count late = All (λ (l : Late). l.gap ≤ count) late
@@ -160,6 +161,22 @@ module _ (late : List Late) (i j : ℕ) (at : AreBefore late i j) (count : ℕ) 
   settled-read settled same other =
       get-settled settled late i j (rw same gaps.within) gaps.rising at.in_range at.before
       (λ k d m n. let ne = other d (omega arith) in omega (arith, at.after j d (omega arith) (omega arith), gaps.rising j k d m n, at.bounded))
+
+-- a late place stands behind the settled ones of its gap and the late ones before it
+pub late-at : (settled : List ℕ) (late : List Late) (j : ℕ) (l : Late) → AreGaps (length settled) late → j < length late → l ≡ get_or late j l → slice_get (woven settled late) (l.gap + j) ≡ Some l.place
+late-at settled late j l gaps m here =
+    let gap = ap (λ (x : Late). x.gap) here in
+    get-late settled late (l.gap + j) j l gaps.within m
+    (λ k d n. omega (arith, gap, gaps.rising k j l (omega arith) m, ap (λ (x : Late). x.gap) (get_or_default late k d l (omega arith))))
+    (omega arith)
+    ∙ ap (λ (x : Late). Some x.place) (sym here)
+
+-- a settled place that no late one is beside stands behind the late ones before it
+pub settled-at : (settled : List ℕ) (late : List Late) (j low high i place : ℕ) → AreGaps (length settled) late → AreAside late j j low high → low ≤ i + j → i + j < high → i < length settled → place ≡ get_or settled i place → slice_get (woven settled late) (i + j) ≡ Some place
+settled-at settled late j low high i place gaps aside after before l here =
+    let same : i + j - j ≡ i = omega arith in
+    get-settled settled late (i + j) j gaps.within gaps.rising aside.in_range (λ k d n. omega (arith, aside.before k d n)) (λ k d n m. omega (arith, aside.after k d n m))
+    ∙ ap (slice_get settled) same ∙ slice_get-get_or settled i place l ∙ ap Some (sym here)
 
 -- one more late place stands at the index that it was put at
 pub woven-put : (settled : List ℕ) (late : List Late) (i j place : ℕ) → AreBefore late i j → AreGaps (length settled) late → i ≤ length settled + length late → woven settled (insert late j (record { gap = i - j; place = place })) ≡ insert (woven settled late) i place

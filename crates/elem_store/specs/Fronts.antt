@@ -1,5 +1,5 @@
 -- How ids are told apart by their first bytes. This project's own.
-use Rattle.std.specs.Prelude.{ℕ, suc, zero, ◌+◌, ◌-◌, List, [], ◌∷◌, drop, slice_index_or}
+use Rattle.std.specs.Prelude.{ℕ, suc, zero, List, [], ◌∷◌, drop, slice_index_or}
 use Rattle.elem.specs.ElementValue.{ElementValue}
 
 -- so many first bytes, and zeros where there are fewer

@@ -26,6 +26,13 @@ pub record AreBefore (late : List Late) (i j : ℕ) : Type 0 where
   pub before : (k : ℕ) (d : Late) → k < j → (slice_index_or late k d).gap + k < i
   pub after : (k : ℕ) (d : Late) → j ≤ k → k < length late → i ≤ (slice_index_or late k d).gap + k
 
+-- From one index of all to another one come none of the late places, but those from one of them to another one.
+pub record AreAside (late : List Late) (first last low high : ℕ) : Type 0 where
+  pub order : first ≤ last
+  pub in_range : last ≤ length late
+  pub before : (k : ℕ) (d : Late) → k < first → (slice_index_or late k d).gap + k < low
+  pub after : (k : ℕ) (d : Late) → last ≤ k → k < length late → high ≤ (slice_index_or late k d).gap + k
+
 -- The place was put among the late ones, behind those that stand before the index.
 pub record HasPutLate (old : List Late) (i place : ℕ) (new : List Late) : Type 0 where
   pub index : ℕ

@@ -4,7 +4,7 @@ use Rattle.std.specs.Cmp.Lexicographic.{slice_cmp}
 use Rattle.std.specs.Option.{option_and_then, option_map_or}
 use Rattle.std.specs.Ordering.{nat_cmp}
 use Rattle.std.specs.declared.cmp.Ordering.{Ordering}
-use Rattle.std.specs.declared.cmp.Ordering.TheVariants.{Less}
+use Rattle.std.specs.declared.cmp.Ordering.TheVariants.{Less, Greater}
 use Rattle.frac_keys.specs.Keys.{bytes_less}
 use Rattle.frac_keys.specs.Rising.{are_rising}
 use Rattle.elem.specs.ElementValue.{ElementValue}
@@ -33,6 +33,13 @@ pub record IsKept (list : List ElementValue) (places : List ℕ) : Type 0 where
 -- how the id of the element at a place compares with an id
 abbrev pub order_at : List ElementValue → List ℕ → ℕ → Ordering
 order_at elements id place = option_map_or (λ (e : ElementValue). slice_cmp nat_cmp e.id id) (slice_get elements place) Less
+
+-- The ids at the places before the one index are less than an id, and those from the other index on are greater.
+pub record IsBetween (elements : List ElementValue) (places : List ℕ) (id : List ℕ) (low high : ℕ) : Type 0 where
+  pub low_within : low ≤ length places
+  pub high_within : high ≤ length places
+  pub less : (k d : ℕ) → k < low → order_at elements id (slice_index_or places k d) ≡ Less
+  pub greater : (k d : ℕ) → high ≤ k → k < length places → order_at elements id (slice_index_or places k d) ≡ Greater
 
 -- the element at the index has the id
 abbrev pub IsAt : List ElementValue → List ℕ → ℕ → Type 0

@@ -12,9 +12,9 @@ const MOST_LATE: usize = 1024;
 
 /// A place that came lately, and how many of the settled ones stand before it.
 #[derive(Clone, Copy)]
-struct Late {
-    gap: usize,
-    place: usize,
+pub(crate) struct Late {
+    pub(crate) gap: usize,
+    pub(crate) place: usize,
 }
 
 /// Places in an order. Most of them are settled in one list; those that came lately stand beside it in a short one, so a
@@ -62,6 +62,14 @@ impl Places {
         ensures { result ≡ slice_get self.now.places i }
     {
         read(&self.settled, &self.late, i)
+    }
+
+    /// The settled places and the late ones.
+    pub(crate) fn parts(&self) -> (&Vec<usize>, &Vec<Late>)
+        ensures places { self.now.places ≡ woven result.0.now.items result.1.now.items }
+        ensures gaps { AreGaps (vec_len result.0.now) result.1.now.items }
+    {
+        (&self.settled, &self.late)
     }
 
     /// Makes room for this many more. The places stay, also for want of memory.

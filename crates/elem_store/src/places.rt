@@ -1,16 +1,24 @@
 //! Elements as they came, and their places in the order of their ids.
 
-ghost use Rattle.std.specs.Prelude.{◌≡◌, ◌+◌, ◌<◌, ◌≤◌, ◌≢◌, [], ◌∷◌, ◌++◌, length, insert, slice_index, slice_index_or, slice_set, if◌then◌else◌, filter_map, slice_get, AllPairs, IfOk, IfErr, OnOk, IsOk};
+ghost use Rattle.std.specs.Prelude.{◌≡◌, ◌+◌, ◌<◌, ◌≤◌, ◌≢◌, [], ◌∷◌, ◌++◌, length, insert, slice_index, slice_index_or, slice_set, if◌then◌else◌, filter_map, slice_get, vec_len, AllPairs, IfOk, IfErr, OnOk, IsOk};
 ghost use Rattle.elem.specs.Order as order;
 ghost use Rattle.elem_store.specs.Fronts.{front_of};
-ghost use Rattle.elem_store.specs.Places.{elements_at, order_at, slot_at, with_empty_at, AreInOrder, IsAt, IsGapFor};
+ghost use Rattle.elem_store.specs.Indexed.{woven, AreAside, AreGaps};
+ghost use Rattle.elem_store.specs.Places.{elements_at, slot_at, with_empty_at, AreInOrder, IsAt, IsBetween, IsGapFor};
 
-use crate::indexed::Places;
+use crate::indexed::{Late, Places};
 use crate::shelf::{Front, Shelf, front_of};
 use elem::{Element, beats};
 use json_text::Text;
 use std::alloc::{AllocError, Global};
 use std::cmp::Ordering;
+
+/// The settled places from one index of them to another, with so many late ones before each.
+struct Stretch {
+    late: usize,
+    from: usize,
+    to: usize,
+}
 
 /// The index of the place at which the element of this id is, or the index that its place would have.
 pub(crate) fn find_place(elements: &Shelf, places: &Places, id: &Text) -> Result<usize, usize>
@@ -18,27 +26,83 @@ pub(crate) fn find_place(elements: &Shelf, places: &Places, id: &Text) -> Result
     ensures found { IfOk result (IsAt (elements_at elements.now.items places.now.places) id.now) }
     ensures absent { IfErr result (IsGapFor (elements_at elements.now.items places.now.places) id.now) }
 {
-    let front = front_of(id.as_bytes());
-    let mut low = 0;
-    let mut high = places.len();
+    let (settled, late) = places.parts();
+    find_among(elements, settled, late, id, front_of(id.as_bytes()))
+}
+
+/// The same, among the settled places with the late ones, by the id and its front. The late ones are searched first, and
+/// then the settled ones between two of them alone.
+fn find_among(
+    elements: &Shelf,
+    settled: &Vec<usize>,
+    late: &Vec<Late>,
+    id: &Text,
+    front: Front,
+) -> Result<usize, usize>
+    requires gaps { AreGaps (vec_len settled.now) late.now.items }
+    requires in_order { AreInOrder elements.now.items (woven settled.now.items late.now.items) }
+    requires front { front ≡ front_of id.now }
+    ensures found { IfOk result (IsAt (elements_at elements.now.items (woven settled.now.items late.now.items)) id.now) }
+    ensures absent { IfErr result (IsGapFor (elements_at elements.now.items (woven settled.now.items late.now.items)) id.now) }
+{
+    let (before, from, to) = match find_late(elements, settled, late, id, front) {
+        Ok(i) => return Ok(i),
+        Err(Stretch { late, from, to }) => (late, from, to),
+    };
+    let mut low = from;
+    let mut high = to;
     while low < high {
         let middle = low + (high - low) / 2;
-        match order_at(elements, places, middle, id, front) {
+        match elements.order_at(settled[middle], id, front) {
             Ordering::Less => low = middle + 1,
-            Ordering::Equal => return Ok(middle),
+            Ordering::Equal => return Ok(middle + before),
             Ordering::Greater => high = middle,
         }
     }
-    Err(low)
+    Err(low + before)
 }
 
-/// How the id of the element at the place of an index compares with another id, whose front this is.
-fn order_at(elements: &Shelf, places: &Places, i: usize, id: &Text, front: Front) -> Ordering
-    requires within { i < length places.now.places }
+/// The index of the late place at which the element of this id is, or the stretch of settled places that its place would
+/// be among.
+fn find_late(
+    elements: &Shelf,
+    settled: &Vec<usize>,
+    late: &Vec<Late>,
+    id: &Text,
+    front: Front,
+) -> Result<usize, Stretch>
+    requires gaps { AreGaps (vec_len settled.now) late.now.items }
+    requires in_order { AreInOrder elements.now.items (woven settled.now.items late.now.items) }
     requires front { front ≡ front_of id.now }
-    ensures { result ≡ order_at elements.now.items id.now (slice_index places.now.places i) }
+    ensures found { IfOk result (IsAt (elements_at elements.now.items (woven settled.now.items late.now.items)) id.now) }
+    ensures between { IfErr result (λ s. IsBetween elements.now.items (woven settled.now.items late.now.items) id.now (s.from + s.late) (s.to + s.late)) }
+    ensures aside { IfErr result (λ s. AreAside late.now.items s.late s.late (s.from + s.late) (s.to + s.late)) }
+    ensures within { IfErr result (λ s. s.to ≤ vec_len settled.now) }
 {
-    elements.order_at(places.get(i).unwrap(), id, front)
+    let mut from = 0;
+    let mut to = settled.len();
+    let mut first = 0;
+    let mut last = late.len();
+    while first < last {
+        let middle = first + (last - first) / 2;
+        let Late { gap, place } = late[middle];
+        match elements.order_at(place, id, front) {
+            Ordering::Less => {
+                from = gap;
+                first = middle + 1;
+            }
+            Ordering::Equal => return Ok(gap + middle),
+            Ordering::Greater => {
+                to = gap;
+                last = middle;
+            }
+        }
+    }
+    Err(Stretch {
+        late: first,
+        from,
+        to,
+    })
 }
 
 /// Puts the element at this place if it beats the one there, and tells whether it does.

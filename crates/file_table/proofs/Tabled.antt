@@ -15,7 +15,7 @@ use Rattle.json_text.specs.Parts.{AreMembers, names_of}
 use Rattle.json_text.specs.Value.{IsCompact}
 use Rattle.scene_json.specs.Named.{value_at}
 use Rattle.json_text.proofs.CompactLaws.{Value-deeper}
-use Rattle.json_text.proofs.Decided.{string-or-not, object-or-not}
+use Rattle.json_text.proofs.Forms.{string-or-not, object-or-not}
 use Rattle.scene_json.proofs.Rising.{tabled}
 use Rattle.elem.proofs.Once.{object-once, quote-once}
 use Rattle.file_table.specs.Picture.{IsDataUrl, HasUrl, HasData, IsPictureSize}

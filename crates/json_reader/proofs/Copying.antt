@@ -1,16 +1,13 @@
 -- The writer's bytes that aren't copied yet.
-use Rattle.std.proofs.Common.{◌≡◌, ap₂, take-append-drop, drop-drop, ℕ, ◌+◌, ◌-◌, ◌<◌, ◌≤◌, List, [], ◌∷◌, ◌++◌, Bool, true, false, length, take, drop, get_or, refl, sym, ap, subst, ◌∙◌, arith, append_assoc, append-nil, length-append}
+use Rattle.std.proofs.Common.{◌≡◌, ℕ, ◌+◌, ◌-◌, ◌<◌, ◌≤◌, List, [], ◌∷◌, ◌++◌, true, false, length, take, drop, get_or, refl, sym, ap, subst, ◌∙◌, arith, append_assoc, append-nil, length-append}
 use Rattle.json_text.specs.Characters.{is_space, quote}
 use Rattle.std.proofs.lemmas.List.{same_from_push}
 use Rattle.json_text.specs.Walk.{inside, Quoted}
 use Rattle.json_text.specs.Tree.{string_spelling}
 use Rattle.json_reader.specs.Drafts.{Drafted, grown}
-use Rattle.json_reader.specs.Writing.{deed, AreAlike, ground_of, Ready, stretch, writing_at, copied, Fits, HasPut, Can}
-use Rattle.json_reader.specs.declared.writing.Deed.TheVariants.{Finish}
-use Rattle.json_reader.specs.declared.writing.Writer.{Writer}
+use Rattle.json_reader.specs.Writing.{Writer, deed, AreAlike, ground_of, Ready, stretch, writing_at, copied, Fits, HasPut, Can, Finish}
 use Rattle.json_reader.proofs.Outcomes.{parted, one_more, stretch_more}
-use Rattle.json_reader.proofs.QuotedNames.{quoted-once}
-use Rattle.json_reader.proofs.Ready.{stretch-quoted, stretch-appended, stretch-dropped}
+use Rattle.json_reader.proofs.Ready.{quoted-once, stretch-quoted, stretch-appended, stretch-dropped}
 
 pub stretch_none : (bytes : List ℕ) (k : ℕ) → stretch bytes k k ≡ []
 stretch_none bytes k = let none : k - k ≡ 0 = omega arith in ap (λ n. take n (drop k bytes)) none
@@ -30,12 +27,6 @@ module _ (bytes : List ℕ) (next : ℕ) (w : Writer) (high : next < length byte
     begun : w.start ≤ next
     begun = rw quoted at fits.to
 
-    abbrev Puts : Writer → Type 0
-    Puts new = HasPut (deed (inside w.escaped) w.here.level byte) bytes next w new
-
-    pub in_string : stretch bytes w.start (next + 1) ≡ stretch bytes w.start next ++ byte ∷ []
-    in_string = one_more bytes w.start next begun high
-
     -- the string that ends
     ended : (writing_at bytes next w).string ++ byte ∷ [] ≡ stretch bytes w.start (next + 1)
     ended = rw quoted (sym (one_more bytes w.start next begun high))
@@ -43,7 +34,8 @@ module _ (bytes : List ℕ) (next : ℕ) (w : Writer) (high : next < length byte
     past : w.start ≤ next + 1
     past = omega (arith, begun)
 
-    pub finished : w.escaped ≡ false → byte ≡ 34 → w.escapes ≡ false → Can (deed (inside w.escaped) w.here.level byte) (writing_at bytes next w) byte → Puts (record w { quoted = false })
+    pub finished : w.escaped ≡ false → byte ≡ 34 → w.escapes ≡ false → Can (deed (inside w.escaped) w.here.level byte) (writing_at bytes next w) byte
+        → HasPut (deed (inside w.escaped) w.here.level byte) bytes next w (record w { quoted = false })
     finished plain end bare can =
         let is : deed (inside w.escaped) w.here.level byte ≡ Finish = rw (plain, end) refl in
         let whole = subst (λ d. Can d (writing_at bytes next w) byte) is can in
@@ -64,19 +56,11 @@ module _ (bytes : List ℕ) (next : ℕ) (w : Writer) (high : next < length byte
           means = is.means;
         }
 
-  -- ---- outside strings
-  module _ (apart : w.quoted ≡ false) where
-    from_low : w.from ≤ next
-    from_low = rw apart at fits.from
-
-    pub on : stretch bytes w.from (next + 1) ≡ stretch bytes w.from next ++ byte ∷ []
-    on = one_more bytes w.from next from_low high
-
 -- the byte stands in a string
-pub ruleset string_steps = (in_string, finished)
+pub ruleset string_steps = (one_more, finished)
 
 -- the byte is copied later
-pub ruleset later_steps = (on, append_assoc, length-append, stretch_none)
+pub ruleset later_steps = (one_more, append_assoc, length-append, stretch_none)
 
 pub ruleset shut_steps = (alone, same_from_push)
 

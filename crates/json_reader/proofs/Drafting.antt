@@ -6,8 +6,7 @@ use Rattle.std.proofs.lemmas.List.Elements.{All-push}
 use Rattle.std.proofs.Math.Seq.{take-append_seam}
 use Rattle.json_text.specs.Compact.{Member, collapsed}
 use Rattle.json_reader.specs.Drafts.{Drafted, fresh, grown, named, parted, closed, pair_text, pairs_text, placed_to, IsWhole}
-use Rattle.json_reader.specs.Places.{cut, entry, entries, IsPlaced, AreWithin}
-use Rattle.json_reader.specs.declared.collapsing.Place.{Place}
+use Rattle.json_reader.specs.Places.{cut, entry, entries, IsPlaced, AreWithin, Place}
 
 -- what stands between two others
 cut-there : (a b c : List ℕ) (start end : ℕ) → start ≡ length a → end ≡ length (a ++ b) → cut (a ++ (b ++ c)) (record { start = start; end = end }) ≡ b
@@ -28,6 +27,8 @@ pub commas_popped : (ms : List Member) (text : List ℕ) (size : ℕ) → text �
 commas_popped [] text size is all = rw is (take_all (size - 1) [] (omega arith))
 commas_popped (m ∷ ms) text size is all =
     rw (is, commas-pairs m ms) (take_at (pairs_text (m ∷ ms)) (44 ∷ []) (size - 1) (omega (arith, ap length (is ∙ commas-pairs m ms), length-append (pairs_text (m ∷ ms)) (44 ∷ []))))
+
+pub ruleset text_steps = (commas_popped, take_all)
 
 -- These members are written, each with a comma behind it, and stand there whatever is written behind them.
 pub record IsRow (done : List Member) (d : Drafted) : Type 0 where

@@ -1,60 +1,242 @@
--- A text has at most one first fault.
-use Rattle.std.proofs.Common.{◌≡◌, ℕ, zero, suc, ◌+◌, ◌-◌, ◌<◌, ◌≤◌, List, [], ◌∷◌, ◌++◌, length, take, drop, true, Some, sym, ap, subst, ◌∙◌, inl, inr, arith, length-append, length-drop}
-use Rattle.std.specs.Prelude.{slice_get}
-use Rattle.std.specs.Char.{IsScalar, encode_utf8}
-use Rattle.std.proofs.lemmas.Bool.{cases_order}
+-- Which the first fault is, and where; and that a text has at most one.
+use Rattle.std.proofs.Common.{take-suc, ◌≡◌, ◌⊎◌, ℕ, suc, ◌+◌, ◌-◌, ◌<◌, ◌≤◌, List, [], ◌∷◌, ◌++◌, length, get_or, take, drop, replicate, true, false, Option, Some, None, is_none, refl, sym, ap, subst, ◌∙◌, inl, inr, arith, take-append-drop, nat_le, length-append, length-drop, slice_get, encode_utf8, take-take, drop_at, length-take-le}
+use Rattle.std.specs.Char.{IsScalar}
+use Rattle.std.proofs.lemmas.Bool.{cond_both, cases_lt, false≢true, and_parts}
+use Rattle.std.proofs.lemmas.Str.{encode_ascii}
+use Rattle.std.proofs.lemmas.Option.{slice_get-get_or, slice_get_within, get_or_from_slice_get}
 use Rattle.std.proofs.lemmas.Bool.Decides.{nat_tests}
-use Rattle.std.proofs.lemmas.List.{drop-drop}
-use Rattle.json_text.specs.Value.{Begins, IsUnfinished, IsTooDeepBracket, IsBrokenOff, IsStray, IsBadUtf8}
+use lib.Utf8.{low_scalar}
+use Rattle.json_text.specs.Value.{Begins, IsLongest, IsInString, IsUnfinished, IsTooDeepBracket, IsStray, IsBrokenOff, IsBadUtf8}
 use Rattle.json_reader.specs.Faults.{IsJsonFault}
-use Rattle.json_reader.specs.Machine.{JsonFault, Syntax, Depth, Utf8, Tail, One, Bracket, Sequence, Mode, Quoted, state, refused, step, tail_fits}
-use Rattle.json_reader.proofs.Sequences.{Completes}
-use Rattle.json_reader.proofs.Machines.{run-append}
-use Rattle.json_reader.proofs.Steps.{led_high}
-use Rattle.json_reader.proofs.Moves.{IsOutside}
-use Rattle.json_reader.proofs.ValueRuns.{begins_runs, begins_less, take_one}
-use Rattle.json_reader.proofs.Places.{IsSequence, longest_one, unfinished_cut, unfinished_sequence, not_inside, stray_some}
+use Rattle.json_reader.specs.Machine.{Syntax, Depth, Utf8, Tail, Bracket, Square, Curly, Role, Place, Plain, Sequence, Mode, Quoted, Move, Open, Outcome, state, refused, top, step, moved, opens, tail_led, tail_length, is_stray, stray_fault, bracket_fault, fault_of, JsonFault, One}
+use Rattle.json_text.proofs.Reading.{append-none}
+use Rattle.json_reader.proofs.Sequences.{Completes, IsChar, char_led, led_char}
+use Rattle.json_reader.proofs.Steps.{run, start, run-append, lead_char, led_high}
+use Rattle.json_reader.proofs.ValueRuns.{tail_closed, begins_runs, runs_begins, begins_less, refused_stays, was_state}
+use Rattle.json_reader.proofs.Moves.{OnState, on_applied, HasCome, Keeps, Kept, kept, run_keeps, IsOutside, high_moved, IsWithin, run_more, run_within, deep_opens, opens_deeper, string_shut, IsInside, no_escape, some_escape}
 
--- ---- where a sequence begins that is broken off
-fits_low : (tail : Tail) (b : ℕ) → tail_fits tail b ≡ true → b < 192
-fits_low One b e = grind (arith, nat_tests)
-fits_low tail b e = grind (arith, nat_tests)
+-- the machine is inside a sequence of which so many bytes have come
+abbrev InSequence : ℕ → Mode → Type 0
+InSequence come (Quoted r (Sequence n tail)) = come + tail_length tail ≡ n
+InSequence come m = ⊥
 
--- the bytes of a sequence behind its first are below 192
-completes_low : (more next : List ℕ) (tail : Tail) (k x : ℕ) (rest : List ℕ) → Completes (more ++ next) tail → drop k more ≡ x ∷ rest → x < 192
-completes_low [] next tail k x rest c e = absurd (omega (arith, length-drop {A = ℕ} k [], ap length e))
-completes_low (y ∷ more) next tail zero x rest c e = let same : y ≡ x = cc in subst (λ b. b < 192) same (fits_low tail y c.0)
-completes_low (y ∷ more) next One (suc k) x rest c e = absurd (omega (arith, ap length c.1, length-append more next, ap length e, length-drop k more))
-completes_low (y ∷ more) next tail (suc k) x rest c e = completes_low more next _ k x rest c.1 e
+in_once : (a b : ℕ) (m : Mode) → InSequence a m → InSequence b m → a ≡ b
+in_once a b (Quoted r (Sequence n tail)) p q = omega arith
+in_once a b m p q = absurd p
 
-begun_least : (bytes : List ℕ) (k i : ℕ) → IsUnfinished (drop k bytes) → IsUnfinished (drop i bytes) → k < i → ⊥
-begun_least bytes k i u v less =
-    let j : ℕ = i - suc k in
-    let first = unfinished_cut (drop k bytes) u in
-    let second = unfinished_cut (drop i bytes) v in
-    let high : 192 ≤ v.1 = led_high v.1 second.tail second.led in
-    let there : k + suc j ≡ i = omega arith in
-    let behind : drop j u.2 ≡ v.1 ∷ v.2 = sym (ap (drop (suc j)) u.5) ∙ drop-drop (suc j) k bytes ∙ ap (λ n. drop n bytes) there ∙ v.5 in
-    let low : v.1 < 192 = completes_low u.2 first.next first.tail j v.1 v.2 first.completes behind in
-    omega arith
+take_one : (xs : List ℕ) (n b : ℕ) → slice_get xs n ≡ Some b → take (suc n) xs ≡ take n xs ++ b ∷ []
+take_one xs n b got = grind (arith, take-suc xs n 0, slice_get_within xs n b got, get_or_from_slice_get xs n b 0 got)
 
-begun_one : (bytes : List ℕ) (k i : ℕ) → IsUnfinished (drop k bytes) → IsUnfinished (drop i bytes) → k ≡ i
-begun_one bytes k i u v = elim (cases_order k i) [
-  | inl same ↦ same
-  | inr (inl less) ↦ absurd (begun_least bytes k i u v less)
-  | inr (inr more) ↦ absurd (begun_least bytes i k v u more)
+-- ---- the longest stretch
+longest_least : (bytes : List ℕ) (n k : ℕ) → IsLongest bytes n → IsLongest bytes k → n < k → ⊥
+longest_least bytes n k a b less =
+    a.stops (omega (arith, b.within)) (subst (Begins 128) (take-take (suc n) k bytes (omega arith))
+    (begins_less 128 _ _ (subst (Begins 128) (sym (take-append-drop (suc n) (take k bytes))) b.begins)))
+
+longest_one : (bytes : List ℕ) (n k : ℕ) → IsLongest bytes n → IsLongest bytes k → k ≡ n
+longest_one bytes n k a b = omega (arith, longest_least bytes n k a b, longest_least bytes k n b a)
+
+-- ---- a sequence that is begun and not complete
+-- what the first byte of a character says of the others
+char_begun : (c first : ℕ) (more : List ℕ) → IsScalar c → encode_utf8 c ≡ first ∷ more → ((first < 128) × (more ≡ [])) ⊎ ((tail : Tail) × (tail_led first ≡ Some tail) × Completes more tail)
+char_begun c first more scalar e = elim (cases_lt c 128) [
+  | inl small ↦ let one = sym (encode_ascii c small) ∙ e in let same : c ≡ first = cc in inl (omega arith, cc)
+  | inr big ↦
+      let l = char_led c scalar big in
+      let same = sym l.spells ∙ e in
+      let f : l.first ≡ first = cc in
+      let m : l.more ≡ more = cc in
+      inr (l.tail, rw f at l.led, rw m at l.completes)
 ]
 
+-- over the first bytes of a sequence
+tail_run : (limit : ℕ) (r : Role) (n : ℕ) (st : List Bracket) (more next : List ℕ) (tail : Tail) → Completes (more ++ next) tail → (next ≡ [] → ⊥)
+    → (rest : Tail) × (run limit (state (Quoted r (Sequence n tail)) st) more ≡ state (Quoted r (Sequence n rest)) st) × (length more + tail_length rest ≡ tail_length tail)
+tail_run limit r n st [] next tail c some = (tail, refl, omega arith)
+tail_run limit r n st (x ∷ more) next One c some = absurd (some (append-none more next c.1))
+tail_run limit r n st (x ∷ more) next tail c some = let t = tail_run limit r n st more next _ c.1 some in (t.0, rw c.0 t.1, omega (arith, t.2))
+
+module _ (limit first : ℕ) (more next : List ℕ) (tail : Tail) (led : tail_led first ≡ Some tail) (completes : Completes (more ++ next) tail) (some : next ≡ [] → ⊥) (m : Mode) (st : List Bracket) where
+  led_sequence : (o : Outcome) → run limit o (first ∷ more) ≡ state m st → InSequence (suc (length more)) m
+  led_sequence (state (Quoted r Plain) st0) e =
+      let t = tail_run limit r (tail_length tail + 1) st0 more next tail completes some in
+      let all = sym t.1 ∙ (rw (lead_char r first tail led) at e) in
+      let same : Quoted r (Sequence (tail_length tail + 1) t.0) ≡ m = cc in
+      subst (InSequence (suc (length more))) same (omega (arith, t.2))
+  led_sequence (state m0 st0) e =
+      let none = on_applied (λ m. ⊥) limit st0 first (moved m0 (top st0) first) (high_moved first (led_high first tail led) m0 (top st0) (λ h. h)) in
+      absurd (subst (OnState (λ m. ⊥)) (was_state limit (step limit m0 st0 first) more m st e).reached none)
+  led_sequence o e = absurd (refused_stays limit more m st e)
+
+-- behind bytes that end in an unfinished sequence the machine is inside one
+unfinished_sequence : (limit : ℕ) (bytes : List ℕ) (k : ℕ) (m : Mode) (st : List Bracket) → IsUnfinished (drop k bytes) → run limit start bytes ≡ state m st → InSequence (length (drop k bytes)) m
+unfinished_sequence limit bytes k m st (c, first, more, next, scalar, parts, spells, some) is =
+    let whole : bytes ≡ take k bytes ++ (first ∷ more) = sym (take-append-drop k bytes) ∙ ap (λ x. take k bytes ++ x) parts in
+    let runs = sym (run-append limit start (take k bytes) (first ∷ more)) ∙ ap (run limit start) (sym whole) ∙ is in
+    elim (char_begun c first (more ++ next) scalar (spells ∙ ap (λ x. x ++ next) parts)) [
+      | inl low ↦ absurd (some (append-none more next low.1))
+      | inr l ↦ subst (λ xs. InSequence (length xs) m) (sym parts) (led_sequence limit first more next l.0 l.1 l.2 some m st (run limit start (take k bytes)) runs)
+    ]
+
+-- outside a string no escape may come
+not_inside : (bytes : List ℕ) (m : Mode) (st : List Bracket) → run 128 start bytes ≡ state m st → IsOutside m → IsInString bytes → ⊥
+not_inside bytes m st is outside (zeros, begins) =
+    let r = begins_runs 128 (bytes ++ (replicate zeros 48 ++ 92 ∷ [])) begins in
+    let e : run 128 (state m st) (replicate zeros 48 ++ 92 ∷ []) ≡ state r.mode r.brackets =
+    ap (λ o. run 128 o (replicate zeros 48 ++ 92 ∷ [])) (sym is) ∙ sym (run-append 128 start bytes (replicate zeros 48 ++ 92 ∷ [])) ∙ r.reached in
+    subst (OnState (λ x. ⊥)) e (no_escape 128 (state m st) zeros outside)
+
+-- ---- stray bytes
+stray_none : (b c : ℕ) (more : List ℕ) → is_stray b ≡ true → IsScalar c → encode_utf8 c ≡ b ∷ more → ⊥
+stray_none b c more stray scalar e = elim (char_begun c b more scalar e) [
+  | inl low ↦ grind (arith, nat_tests)
+  | inr l ↦ false≢true (ap is_none (sym l.1) ∙ (and_parts (nat_le 128 b) (is_none (tail_led b)) stray).1)
+]
+
+stray_some : (b : ℕ) → is_stray b ≡ false → ((c : ℕ) (more : List ℕ) → IsScalar c → encode_utf8 c ≡ b ∷ more → ⊥) → ⊥
+stray_some b stray none = by (tail_led b) refl
+  where
+    by : (o : Option Tail) → tail_led b ≡ o → ⊥
+    by None e = let low = rw e at stray in let small : b < 128 = grind (arith, nat_tests) in none b [] (low_scalar b (omega arith)) (encode_ascii b small)
+    by (Some tail) e = let t = tail_closed tail in let c = led_char b t.0 tail e t.1 in none c.0 t.0 c.1 c.3
+
+-- a bracket is opened by its own byte
+opened_by : (bytes : List ℕ) (b : ℕ) (move : Move) → Kept bytes b move → opens move ≡ true → (b ≡ 91) ⊎ (b ≡ 123)
+opened_by bytes b (Open Square) h o = inl h
+opened_by bytes b (Open Curly) h o = inr h
+opened_by bytes b move h o = absurd (false≢true o)
+
+-- ---- the fault behind the first n bytes
+module _ (every : List ℕ) (at n : ℕ) (within : n ≤ length (drop at every)) where
+  abbrev bytes : List ℕ
+  bytes = drop at every
+
+  abbrev Stops : Mode → List Bracket → Type 0
+  Stops m st = (b : ℕ) → slice_get bytes n ≡ Some b → step 128 m st b ≡ refused
+
+  module _ (m : Mode) (st : List Bracket) (is : run 128 start (take n bytes) ≡ state m st) (stops : Stops m st) where
+    -- one byte more
+    run_one : (limit b : ℕ) → run limit start (take n bytes) ≡ state m st → slice_get bytes n ≡ Some b → run limit start (take (suc n) bytes) ≡ step limit m st b
+    run_one limit b so got = ap (run limit start) (take_one bytes n b got) ∙ run-append limit start (take n bytes) (b ∷ []) ∙ ap (λ o. run limit o (b ∷ [])) so
+
+    longest : IsLongest bytes n
+    longest = record {
+      within = within;
+      begins = runs_begins 128 (take n bytes) (record { mode = m; brackets = st; reached = is });
+      stops = λ less begins.
+          let g : slice_get bytes n ≡ Some (get_or bytes n 0) = slice_get-get_or bytes n 0 less in
+          let r = begins_runs 128 (take (suc n) bytes) begins in
+          let e : refused ≡ state r.mode r.brackets = sym (run_one 128 (get_or bytes n 0) is g ∙ stops (get_or bytes n 0) g) ∙ r.reached in
+          cc;
+    }
+
+    keeps : Keeps (take n bytes) m
+    keeps = subst (OnState (Keeps (take n bytes))) is (run_keeps 128 [] (take n bytes) start tt)
+
+    -- a bracket that is one too many
+    deep_opens_here : IsTooDeepBracket bytes n → (b : ℕ) × (slice_get bytes n ≡ Some b) × (opens (moved m (top st) b) ≡ true)
+    deep_opens_here d =
+        let b : (b : ℕ) × (slice_get bytes n ≡ Some b) = elim d.bracket [ inl g ↦ (91, g) | inr g ↦ (123, g) ] in
+        let r = begins_runs 129 (take (suc n) bytes) d.deeper in
+        (b.0, b.1, deep_opens 128 st b.0 (moved m (top st) b.0) r.mode r.brackets (stops b.0 b.1) (sym (run_one 129 b.0 (run_more 128 start (take n bytes) m st is) b.1) ∙ r.reached))
+
+    too_deep : (b : ℕ) → slice_get bytes n ≡ Some b → opens (moved m (top st) b) ≡ true → IsTooDeepBracket bytes n
+    too_deep b g o =
+        let fits : length st ≤ 128 = subst (λ x. IsWithin 128 x) is (run_within 128 start (take n bytes) (omega arith)) in
+        let d = opens_deeper 128 st b (moved m (top st) b) fits o in
+        let more = run_more 128 start (take n bytes) m st is in
+        record {
+          longest = longest;
+          bracket = elim (opened_by (take n bytes) b (moved m (top st) b) (kept (take n bytes) b m (top st) keeps) o) [ inl e ↦ inl (g ∙ ap Some e) | inr e ↦ inr (g ∙ ap Some e) ];
+          deeper = runs_begins 129 (take (suc n) bytes) (record { mode = d.0; brackets = d.1; reached = run_one 129 b more g ∙ d.2 });
+        }
+
+    -- no sequence is cut off here
+    syntax : (IsTooDeepBracket bytes n → ⊥) → ((come : ℕ) → InSequence come m → ⊥) → (IsStray bytes n → ⊥) → IsJsonFault every at (Syntax (at + n))
+    syntax deep sequence stray = (
+      n,
+      refl,
+      record {
+        longest = longest;
+        not_deep = deep;
+        not_utf8 = λ k bad. elim bad [
+          | inl (i, broken) ↦ sequence _ (unfinished_sequence 128 (take n bytes) k m st (subst (λ x. IsUnfinished (drop k (take x bytes))) (longest_one bytes n i longest broken.longest) broken.unfinished) is)
+          | inr s ↦ stray (subst (IsStray bytes) (longest_one bytes n k longest s.longest) s)
+        ];
+      },
+    )
+
+    -- outside strings
+    told_bracket : IsOutside m → ((come : ℕ) → InSequence come m → ⊥) → (next : Option ℕ) → slice_get bytes n ≡ next → IsJsonFault every at (bracket_fault m (top st) next (at + n))
+    told_bracket outside none None g = syntax (λ d. let e = sym g ∙ (deep_opens_here d).1 in cc) none (λ s. not_inside (take n bytes) m st is outside s.inside)
+    told_bracket outside none (Some b) g =
+        cond_both (opens (moved m (top st) b)) _ _ (IsJsonFault every at) (λ o. (n, refl, too_deep b g o))
+        (λ shut. syntax (λ d. let o = deep_opens_here d in let got = o.1 in let opened = o.2 in cc) none (λ s. not_inside (take n bytes) m st is outside s.inside))
+
+  -- inside strings
+  module _ (r : Role) (place : Place) (st : List Bracket) (is : run 128 start (take n bytes) ≡ state (Quoted r place) st) (stops : Stops (Quoted r place) st) where
+    inside : IsInside place → IsInString (take n bytes)
+    inside in_string =
+        let e = some_escape 128 r place st in_string in
+        let zeros : List ℕ = replicate e.0 48 ++ 92 ∷ [] in
+        let ran : run 128 start (take n bytes ++ zeros) ≡ state e.1.0 e.1.1 = run-append 128 start (take n bytes) zeros ∙ ap (λ o. run 128 o zeros) is ∙ e.1.2 in
+        (e.0, runs_begins 128 (take n bytes ++ zeros) (record { mode = e.1.0; brackets = e.1.1; reached = ran }))
+
+    syntax_there : ((come : ℕ) → InSequence come (Quoted r place) → ⊥) → (IsStray bytes n → ⊥) → IsJsonFault every at (Syntax (at + n))
+    syntax_there = syntax (Quoted r place) st is stops (λ d. let o = deep_opens_here (Quoted r place) st is stops d in false≢true (sym (string_shut r place o.0) ∙ o.2))
+
+    told_stray : IsInside place → ((come : ℕ) → InSequence come (Quoted r place) → ⊥) → (next : Option ℕ) → slice_get bytes n ≡ next → IsJsonFault every at (stray_fault next (at + n))
+    told_stray in_string none None g = syntax_there none (λ s. let e : None ≡ Some s.byte = sym g ∙ s.read in cc)
+    told_stray in_string none (Some b) g =
+        cond_both (is_stray b) _ _ (IsJsonFault every at)
+        (λ e. (n, refl, inr (record { longest = longest (Quoted r place) st is stops; inside = inside in_string; byte = b; read = g; begins_none = λ c more. stray_none b c more e })))
+        (λ e. syntax_there none (λ s. let same : s.byte ≡ b = let x : Some s.byte ≡ Some b = sym s.read ∙ g in cc in stray_some b e (rw same at s.begins_none)))
+
+-- inside a sequence
+unfinished : (come : List ℕ) (tail : Tail) → 0 < length come → ((t : List ℕ) → Completes t tail → IsChar (come ++ t)) → IsUnfinished come
+unfinished [] tail some completes = absurd (omega arith)
+unfinished (first ∷ more) tail some completes =
+    let t = tail_closed tail in
+    let c = completes t.0 t.1 in
+    (c.0, first, more, t.0, c.1, refl, c.3, λ e. subst (λ x. Completes x tail) e t.1)
+
+told_sequence : (every : List ℕ) (at n : ℕ) (within : n ≤ length (drop at every)) (r : Role) (size : ℕ) (tail : Tail) (st : List Bracket)
+    → (is : run 128 start (take n (drop at every)) ≡ state (Quoted r (Sequence size tail)) st) → Stops every at n within (Quoted r (Sequence size tail)) st
+    → IsJsonFault every at (Utf8 ((at + n) - (size - tail_length tail)))
+told_sequence every at n within r size tail st is stops =
+    let h : HasCome (take n (drop at every)) size tail = keeps every at n within (Quoted r (Sequence size tail)) st is stops in
+    let long : length h.before + length h.come ≡ n = sym (length-append h.before h.come) ∙ ap length (sym h.parts) ∙ length-take-le n (drop at every) within in
+    let rest : drop (length h.before) (take n (drop at every)) ≡ h.come = ap (drop (length h.before)) h.parts ∙ drop_at h.before h.come (length h.before) refl in (
+      length h.before,
+      omega (arith, h.counts),
+      inl (
+        n,
+        record {
+          longest = longest every at n within (Quoted r (Sequence size tail)) st is stops;
+          before = omega (arith, h.some);
+          unfinished = subst IsUnfinished (sym rest) (unfinished h.come tail h.some h.completes);
+        },
+      ),
+    )
+
+-- the fault of the code is the first one
+pub told : (every : List ℕ) (at n : ℕ) (within : n ≤ length (drop at every)) (m : Mode) (st : List Bracket)
+    → (is : run 128 start (take n (drop at every)) ≡ state m st) → Stops every at n within m st → (next : Option ℕ) → slice_get (drop at every) n ≡ next
+    → IsJsonFault every at (fault_of m (top st) next (at + n))
+told every at n within (Quoted r (Sequence size tail)) st is stops next g = told_sequence every at n within r size tail st is stops
+told every at n within (Quoted r place) st is stops next g = told_stray every at n within r place st is stops tt (λ come h. h) next g
+told every at n within m st is stops next g = told_bracket every at n within m st is stops tt (λ come h. h) next g
+
 -- ---- no fault is of two kinds
-sequence_outside : (m : Mode) → IsSequence m → IsOutside m
-sequence_outside (Quoted r (Sequence size tail)) h = tt
-sequence_outside _ h = absurd h
+sequence_outside : (come : ℕ) (m : Mode) → InSequence come m → IsOutside m
+sequence_outside come (Quoted r (Sequence size tail)) h = tt
+sequence_outside come _ h = absurd h
 
 -- a byte below 128 goes on with no sequence
-sequence_refuses : (limit b : ℕ) (m : Mode) (st : List Bracket) → b < 128 → IsSequence m → step limit m st b ≡ refused
-sequence_refuses limit b (Quoted r (Sequence size One)) st small h = grind arith
-sequence_refuses limit b (Quoted r (Sequence size tail)) st small h = grind arith
-sequence_refuses limit b _ st small h = absurd h
+sequence_refuses : (limit b come : ℕ) (m : Mode) (st : List Bracket) → b < 128 → InSequence come m → step limit m st b ≡ refused
+sequence_refuses limit b come (Quoted r (Sequence size One)) st small h = grind arith
+sequence_refuses limit b come (Quoted r (Sequence size tail)) st small h = grind arith
+sequence_refuses limit b come _ st small h = absurd h
 
 module _ (bytes : List ℕ) where
   -- a bracket is a byte below 128
@@ -68,7 +250,7 @@ module _ (bytes : List ℕ) where
       let whole = begins_runs 129 (take n bytes ++ b.0 ∷ []) deeper in
       let front = begins_runs 129 (take n bytes) (begins_less 129 (take n bytes) (b.0 ∷ []) deeper) in
       let inside = unfinished_sequence 129 (take n bytes) k front.mode front.brackets broken.unfinished front.reached in
-      let stuck = sequence_refuses 129 b.0 front.mode front.brackets b.1 inside in
+      let stuck = sequence_refuses 129 b.0 _ front.mode front.brackets b.1 inside in
       let run_there : refused ≡ state whole.mode whole.brackets = rw (run-append, front.reached, stuck) at whole.reached in
       cc
 
@@ -77,7 +259,7 @@ module _ (bytes : List ℕ) where
       let b = bracket_byte n deep in
       let low : b.0 < 128 = b.1 in
       let same : stray.byte ≡ b.0 = let e : Some stray.byte ≡ Some b.0 = sym stray.read ∙ b.2 in cc in
-      stray_some b.0 (grind (arith, nat_tests)) (subst (λ x. (c : ℕ) (more : List ℕ) → IsScalar c → encode_utf8 c ≡ x ∷ more → ⊥) same stray.begins_none)
+      stray_some b.0 (grind (arith, nat_tests)) (rw same at stray.begins_none)
 
   deep_not_utf8 : (n m : ℕ) → IsTooDeepBracket bytes n → IsBadUtf8 bytes m → ⊥
   deep_not_utf8 n m deep (inl (i, broken)) = deep_not_broken m n deep (subst (IsBrokenOff bytes m) (longest_one bytes n i deep.longest broken.longest) broken)
@@ -88,22 +270,26 @@ module _ (bytes : List ℕ) where
       let here = subst (IsStray bytes) (longest_one bytes n m broken.longest stray.longest) stray in
       let r = begins_runs 128 (take n bytes) broken.longest.begins in
       let inside = unfinished_sequence 128 (take n bytes) k r.mode r.brackets broken.unfinished r.reached in
-      not_inside (take n bytes) r.mode r.brackets r.reached (sequence_outside r.mode inside) here.inside
+      not_inside (take n bytes) r.mode r.brackets r.reached (sequence_outside _ r.mode inside) here.inside
 
   utf8_one : (m k : ℕ) → IsBadUtf8 bytes m → IsBadUtf8 bytes k → m ≡ k
   utf8_one m k (inl (n, a)) (inl (i, b)) =
-      begun_one (take n bytes) m k a.unfinished (subst (λ x. IsUnfinished (drop k (take x bytes))) (longest_one bytes n i a.longest b.longest) b.unfinished)
+      let same = longest_one bytes n i a.longest b.longest in
+      let r = begins_runs 128 (take n bytes) a.longest.begins in
+      let there = unfinished_sequence 128 (take n bytes) k r.mode r.brackets (subst (λ x. IsUnfinished (drop k (take x bytes))) same b.unfinished) r.reached in
+      let lengths = in_once _ _ r.mode (unfinished_sequence 128 (take n bytes) m r.mode r.brackets a.unfinished r.reached) there in
+      omega (arith, lengths, same, a.before, b.before, length-drop m (take n bytes), length-drop k (take n bytes), length-take-le n bytes a.longest.within)
   utf8_one m k (inl (n, a)) (inr b) = absurd (broken_not_stray m n k a b)
   utf8_one m k (inr a) (inl (i, b)) = absurd (broken_not_stray k i m b a)
   utf8_one m k (inr a) (inr b) = longest_one bytes k m b.longest a.longest
 
 pub fault-once : (bytes : List ℕ) (at : ℕ) (fault other : JsonFault) → IsJsonFault bytes at fault → IsJsonFault bytes at other → fault ≡ other
-fault-once bytes at (Syntax p) (Syntax q) (n, e, a) (i, f, b) = ap Syntax (e ∙ ap (λ x. at + x) (longest_one (drop at bytes) i n b.longest a.longest) ∙ sym f)
-fault-once bytes at (Syntax p) (Depth q) (n, e, a) (i, f, b) = absurd (a.not_deep (subst (IsTooDeepBracket (drop at bytes)) (longest_one (drop at bytes) n i a.longest b.longest) b))
-fault-once bytes at (Syntax p) (Utf8 q) (n, e, a) (i, f, b) = absurd (a.not_utf8 i b)
-fault-once bytes at (Depth p) (Syntax q) (n, e, a) (i, f, b) = absurd (b.not_deep (subst (IsTooDeepBracket (drop at bytes)) (longest_one (drop at bytes) i n b.longest a.longest) a))
-fault-once bytes at (Depth p) (Depth q) (n, e, a) (i, f, b) = ap Depth (e ∙ ap (λ x. at + x) (longest_one (drop at bytes) i n b.longest a.longest) ∙ sym f)
-fault-once bytes at (Depth p) (Utf8 q) (n, e, a) (i, f, b) = absurd (deep_not_utf8 (drop at bytes) n i a b)
-fault-once bytes at (Utf8 p) (Syntax q) (n, e, a) (i, f, b) = absurd (b.not_utf8 n a)
-fault-once bytes at (Utf8 p) (Depth q) (n, e, a) (i, f, b) = absurd (deep_not_utf8 (drop at bytes) i n b a)
-fault-once bytes at (Utf8 p) (Utf8 q) (n, e, a) (i, f, b) = ap Utf8 (e ∙ ap (λ x. at + x) (utf8_one (drop at bytes) n i a b) ∙ sym f)
+fault-once every at (Syntax p) (Syntax q) (n, e, a) (i, f, b) = ap Syntax (e ∙ ap (λ x. at + x) (longest_one (drop at every) i n b.longest a.longest) ∙ sym f)
+fault-once every at (Syntax p) (Depth q) (n, e, a) (i, f, b) = absurd (a.not_deep (subst (IsTooDeepBracket (drop at every)) (longest_one (drop at every) n i a.longest b.longest) b))
+fault-once every at (Syntax p) (Utf8 q) (n, e, a) (i, f, b) = absurd (a.not_utf8 i b)
+fault-once every at (Depth p) (Syntax q) (n, e, a) (i, f, b) = absurd (b.not_deep (subst (IsTooDeepBracket (drop at every)) (longest_one (drop at every) i n b.longest a.longest) a))
+fault-once every at (Depth p) (Depth q) (n, e, a) (i, f, b) = ap Depth (e ∙ ap (λ x. at + x) (longest_one (drop at every) i n b.longest a.longest) ∙ sym f)
+fault-once every at (Depth p) (Utf8 q) (n, e, a) (i, f, b) = absurd (deep_not_utf8 (drop at every) n i a b)
+fault-once every at (Utf8 p) (Syntax q) (n, e, a) (i, f, b) = absurd (b.not_utf8 n a)
+fault-once every at (Utf8 p) (Depth q) (n, e, a) (i, f, b) = absurd (deep_not_utf8 (drop at every) i n b a)
+fault-once every at (Utf8 p) (Utf8 q) (n, e, a) (i, f, b) = ap Utf8 (e ∙ ap (λ x. at + x) (utf8_one (drop at every) n i a b) ∙ sym f)

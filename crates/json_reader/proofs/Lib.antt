@@ -2,20 +2,15 @@
 -- ---- the machine against the grammar: where it ends a value stands, and where it refuses the first fault is
 mod NumberRuns
 mod Sequences
-mod Machines
 mod Digits
 mod Steps
-mod TreeRuns
 mod ValueRuns
 mod Moves
-mod Places
 pub mod FirstFaults
 pub mod Outcomes
 pub mod Feeds
 -- ---- the writer: what it has written is the compact text of the value that was read
 mod Placing
-mod Marks
-mod QuotedNames
 mod Drafting
 mod Ready
 mod Written

@@ -3,14 +3,10 @@ use Rattle.std.proofs.Common.{◌≡◌, ◌⊎◌, inr, ◌==◌, ◌&&◌, not
 use Rattle.std.proofs.lemmas.Bool.{eqb-true, cond_both, false≢true, cases_lt, le-ltb, ltb-true, lt-ltb}
 use Rattle.json_text.specs.Tree.{opening}
 use Rattle.json_text.specs.Value.{extends_number}
-use Rattle.json_reader.specs.Machine.{Part, Tail, One, Bracket, Square, Curly, Role, Plain, Escape, Hex, Sequence, Ull, Mode, Fresh, After, Quoted, Number, Word, Move, To, Open, Close, End, Refuse}
-use Rattle.json_reader.specs.Machine.{Minus, Place, Outcome, state, top, applied, moved, container_of, after_move, part_after, is_complete, number_move_on, tail_led, tail_fits, tail_length}
-use Rattle.json_reader.specs.Machine.{refused, opens, string_move}
+use Rattle.json_reader.specs.Machine.{Part, Tail, One, Bracket, Square, Curly, Role, Plain, Escape, Hex, Sequence, Ull, Mode, Fresh, After, Quoted, Number, Word, Move, To, Open, Close, End, Refuse, Minus, Place, Outcome, state, top, applied, moved, container_of, after_move, part_after, is_complete, number_move_on, tail_led, tail_fits, tail_length, refused, opens, string_move}
 use Rattle.json_reader.proofs.Sequences.{Completes, IsChar, led_char}
-use Rattle.json_reader.proofs.Machines.{go, run, run-append}
-use Rattle.json_reader.proofs.Steps.{lead_char}
+use Rattle.json_reader.proofs.Steps.{go, run, run-append, lead_char}
 use Rattle.json_reader.proofs.NumberRuns.{ended_part}
-use Rattle.json_text.proofs.Reading.{append-none}
 use Rattle.json_reader.proofs.ValueRuns.{refused_stays}
 use Rattle.std.specs.List.{AllByRecursion}
 
@@ -111,9 +107,6 @@ run_keeps limit bytes (x ∷ xs) o k =
     (run_keeps limit (bytes ++ x ∷ []) xs (go limit o x) (on_go (Keeps bytes) (Keeps (bytes ++ x ∷ [])) limit x (λ m top h. kept_on bytes x (moved m top x) (kept bytes x m top h)) o k))
 
 -- ---- a `\` and a byte that begins a sequence
-abbrev pub IsStrange : ℕ → Type 0
-IsStrange b = (b ≡ 92) ⊎ (192 ≤ b)
-
 -- the machine is between two characters of a string
 abbrev pub IsBetween : Mode → Type 0
 IsBetween (Quoted r Plain) = Unit {0}
@@ -137,7 +130,7 @@ not_led End e = tt
 not_led Refuse e = tt
 not_led move e = absurd (false≢true (sym e))
 
-module _ (b : ℕ) (is : IsStrange b) where
+module _ (b : ℕ) (is : (b ≡ 92) ⊎ (192 ≤ b)) where
   strange_after : (top : Option Bracket) → Leads (after_move top b) ≡ false
   strange_after None = refl
   strange_after (Some Square) = grind arith
@@ -204,13 +197,6 @@ some_escape limit r (Hex more) st h =
     (suc more, (Quoted r Escape, st, run-append limit (state (Quoted r (Hex more)) st) (replicate (suc more) 48) (92 ∷ []) ∙ ap (λ o. run limit o (92 ∷ [])) (hex_goes limit r more st)))
 some_escape limit r (Sequence n tail) st h = absurd h
 
--- ---- inside a sequence
-pub tail_run : (limit : ℕ) (r : Role) (n : ℕ) (st : List Bracket) (more next : List ℕ) (tail : Tail) → Completes (more ++ next) tail → (next ≡ [] → ⊥)
-    → (rest : Tail) × (run limit (state (Quoted r (Sequence n tail)) st) more ≡ state (Quoted r (Sequence n rest)) st)
-tail_run limit r n st [] next tail c some = (tail, refl)
-tail_run limit r n st (x ∷ more) next One c some = absurd (some (append-none more next c.1))
-tail_run limit r n st (x ∷ more) next tail c some = rw c.0 (tail_run limit r n st more next _ c.1 some)
-
 -- ---- a greater limit refuses nothing more
 applied_more : (limit : ℕ) (st : List Bracket) (b : ℕ) (move : Move) → (applied limit st b move ≡ refused) ⊎ (applied (suc limit) st b move ≡ applied limit st b move)
 applied_more limit st b (Open bracket) = elim (cases_lt (length st) limit) [
@@ -219,16 +205,13 @@ applied_more limit st b (Open bracket) = elim (cases_lt (length st) limit) [
 ]
 applied_more limit st b move = inr refl
 
-go_more : (limit : ℕ) (o : Outcome) (b : ℕ) → (go limit o b ≡ refused) ⊎ (go (suc limit) o b ≡ go limit o b)
-go_more limit (state m st) b = applied_more limit st b (moved m (top st) b)
-go_more limit o b = inr refl
-
 pub run_more : (limit : ℕ) (o : Outcome) (xs : List ℕ) (m : Mode) (st : List Bracket) → run limit o xs ≡ state m st → run (suc limit) o xs ≡ state m st
 run_more limit o [] m st e = e
-run_more limit o (x ∷ xs) m st e = elim (go_more limit o x) [
+run_more limit (state now open') (x ∷ xs) m st e = elim (applied_more limit open' x (moved now (top open') x)) [
   | inl stuck ↦ absurd (refused_stays limit xs m st (rw stuck at e))
-  | inr same ↦ rw same (run_more limit (go limit o x) xs m st e)
+  | inr same ↦ rw same (run_more limit (go limit (state now open') x) xs m st e)
 ]
+run_more limit o (x ∷ xs) m st e = absurd (refused_stays limit xs m st e)
 
 -- ---- no more are open than may be
 abbrev pub IsWithin : ℕ → Outcome → Type 0
@@ -241,13 +224,10 @@ applied_within limit st b (Open bracket) h = cond_both (nat_lt (length st) limit
 applied_within limit st b Close h = omega (arith, length-drop 1 st)
 applied_within limit st b move h = tt
 
-go_within : (limit : ℕ) (o : Outcome) (b : ℕ) → IsWithin limit o → IsWithin limit (go limit o b)
-go_within limit (state m st) b h = applied_within limit st b (moved m (top st) b) h
-go_within limit o b h = tt
-
 pub run_within : (limit : ℕ) (o : Outcome) (xs : List ℕ) → IsWithin limit o → IsWithin limit (run limit o xs)
 run_within limit o [] h = h
-run_within limit o (x ∷ xs) h = run_within limit (go limit o x) xs (go_within limit o x h)
+run_within limit (state m st) (x ∷ xs) h = run_within limit (go limit (state m st) x) xs (applied_within limit st x (moved m (top st) x) h)
+run_within limit o (x ∷ xs) h = run_within limit refused xs tt
 
 -- ---- what the lesser limit alone refuses
 pub deep_opens : (limit : ℕ) (st : List Bracket) (b : ℕ) (move : Move) (m : Mode) (after : List Bracket) → applied limit st b move ≡ refused → applied (suc limit) st b move ≡ state m after → opens move ≡ true

@@ -1,12 +1,12 @@
 -- Numbers: what the machine runs over is what the grammar spells.
-use Rattle.std.proofs.Common.{◌≡◌, ◌⊎◌, ◌==◌, ◌||◌, ℕ, List, [], ◌∷◌, ◌++◌, Bool, true, false, cond, Option, Some, None, refl, ap, subst, inl, inr, ⊎_elim, arith, append-nil}
+use Rattle.std.proofs.Common.{◌≡◌, ◌⊎◌, ◌==◌, ◌||◌, ℕ, List, [], ◌∷◌, ◌++◌, Bool, true, false, cond, Option, Some, None, refl, ap, inl, inr, ⊎_elim, arith, append-nil, eqb-true}
 use Rattle.std.specs.List.{list_all}
-use Rattle.std.proofs.lemmas.Bool.{cases_Bool, and_parts, and_from, or_cases, eqb-true, eqb-false, false≢true, cond_both}
+use Rattle.std.proofs.lemmas.Bool.{and_parts, and_from, or_cases, eqb-false, false≢true, cond_both}
 use Rattle.json_text.specs.Characters.{is_digit}
 use Rattle.json_text.specs.Tree.{AreDigits, IsSign, IsIntegerPart, IsFraction, IsExponent, IsNumber}
 use Rattle.json_text.specs.Value.{extends_number}
-use Rattle.json_text.proofs.Numbers.{number}
 use Rattle.json_reader.specs.Machine.{Part, Minus, Zero, Whole, Dot, Fraction, Letter, Sign, Exponent, part_begun, after_fraction, after_whole, part_after, is_complete}
+use Rattle.json_text.proofs.Reading.{number}
 
 abbrev pub on_part : (Part → Bool) → Option Part → Bool
 on_part test None = false
@@ -53,9 +53,9 @@ point_ends part complete dot small large fraction exponent (inr (digits, e, are)
     rw (e, dot) (some_end Dot Fraction (λ b d. rw d refl) (λ b d. rw d refl) digits exponent are (exponent_ends Fraction refl refl refl exponent scaled))
 
 -- the first byte begins a part, and the others end the number
-abbrev pub IsRun : (ℕ → Option Part) → List ℕ → Type 0
-IsRun begins [] = ⊥
-IsRun begins (b ∷ s) = on_part (ends s) (begins b) ≡ true
+abbrev pub IsRun : List ℕ → Type 0
+IsRun [] = ⊥
+IsRun (b ∷ s) = on_part (ends s) (part_begun b) ≡ true
 
 counted_ends : (whole fraction exponent : List ℕ) → IsIntegerPart whole → IsFraction fraction → IsExponent exponent → ends (whole ++ (fraction ++ exponent)) Minus ≡ true
 counted_ends whole fraction exponent (inl zero) parted scaled = rw zero (point_ends Zero refl refl refl refl fraction exponent parted scaled)
@@ -65,15 +65,12 @@ counted_ends whole fraction exponent (inr (b, s, e, other, all)) parted scaled =
     let begun : part_after Minus b ≡ Some Whole = grind arith in
     rw (e, begun) (digits_end Whole (λ b d. rw d refl) s (fraction ++ exponent) p.1 (point_ends Whole refl refl refl refl fraction exponent parted scaled))
 
-signed_ends : (sign s : List ℕ) → IsSign sign → ends s Minus ≡ true → IsRun part_begun (sign ++ s)
+signed_ends : (sign s : List ℕ) → IsSign sign → ends s Minus ≡ true → IsRun (sign ++ s)
 signed_ends sign [] signed run = absurd (false≢true run)
 signed_ends sign (b ∷ s) (inr minus) run = rw minus run
-signed_ends sign (b ∷ s) (inl none) run = rw none (elim (cases_Bool (b == 45)) [
-  | inl minus ↦ absurd (false≢true (subst (λ x. on_part (ends s) (part_after Minus x) ≡ true) (eqb-true b 45 minus) run))
-  | inr other ↦ rw other run
-])
+signed_ends sign (b ∷ s) (inl none) run = rw none (grind arith)
 
-pub number_run : (s : List ℕ) → IsNumber s → IsRun part_begun s
+pub number_run : (s : List ℕ) → IsNumber s → IsRun s
 number_run s n = rw n.spells (signed_ends n.sign _ n.signed (counted_ends n.whole n.fraction n.exponent n.counted n.parted n.scaled))
 
 -- ---- the bytes of a number
@@ -107,9 +104,8 @@ digits_ended part after P goes none some (b ∷ s) run =
     (λ _ more. ([], b ∷ s, refl, refl, some b s more)) (rw (goes b) at run)
 
 exponent_digits_ended : (s : List ℕ) → ends s Exponent ≡ true → list_all is_digit s ≡ true
-exponent_digits_ended s run =
-    let r = digits_ended Exponent (λ b. None) (λ x. x ≡ []) (λ b. refl) refl (λ b s no. stuck no) s run in
-    rw (r.2, r.4, append-nil) r.3
+exponent_digits_ended [] run = refl
+exponent_digits_ended (b ∷ s) run = grind (arith, exponent_digits_ended s)
 
 first_digit : (b : ℕ) (s : List ℕ) → is_digit b ≡ true → ends s Exponent ≡ true → AreDigits (b ∷ s)
 first_digit b s d run = (b, s, refl, and_from (is_digit b) (list_all is_digit s) d (exponent_digits_ended s run))

@@ -1,18 +1,20 @@
 -- The machine over the bytes from an offset on: at each one a value stands or there is a first fault.
-use Rattle.std.proofs.Common.{◌≡◌, ℕ, suc, ◌+◌, ◌-◌, ◌<◌, ◌≤◌, List, [], ◌∷◌, length, drop, ◌++◌, get_or, Some, None, refl, sym, ap, subst, ◌∙◌, arith, length-append, append_assoc, append-nil, drop-cons, ◌⊎◌, inl, inr, nat_lt, subst₂, length-drop}
+use Rattle.std.proofs.Common.{◌≡◌, ℕ, suc, ◌+◌, ◌-◌, ◌<◌, ◌≤◌, List, [], ◌∷◌, length, drop, ◌++◌, get_or, Some, true, refl, sym, ap, subst, ◌∙◌, arith, length-append, append_assoc, append-nil, drop-cons, ◌⊎◌, inl, inr, nat_lt, subst₂, length-drop}
 use Rattle.std.specs.Prelude.{slice_get}
 use Rattle.std.specs.List.{AllByRecursion}
-use Rattle.std.proofs.lemmas.List.{append_cancel_right, drop-drop, take-append-drop, drop_all}
+use Rattle.std.proofs.lemmas.List.{append_cancel_right, drop-drop, take-append-drop}
 use Rattle.std.proofs.Math.Seq.{take-add, take-append_seam, drop-append_seam}
 use Rattle.json_text.specs.Value.{Stands, IsFaulty}
-use Rattle.json_reader.specs.Writing.{stretch}
-use Rattle.json_reader.specs.Faults.{IsFirstFault, IsJsonFault}
-use Rattle.json_reader.specs.Machine.{Bracket, Mode, To, Outcome, state, ended, refused, top, moved, step, fault_of, JsonFault, Fresh, After, Move, Open, Close, End, Refuse, applied}
-use Rattle.json_reader.proofs.Machines.{run, start, run-append}
+use Rattle.json_reader.specs.Runs.{is_over}
+use Rattle.json_reader.specs.Writing.{stretch, Ends, Breaks, IsBroken, IsRefusedIn, Came}
+use Rattle.json_reader.specs.declared.reader.Taken.TheVariants as taken
+use Rattle.json_reader.specs.Faults.{IsFirstFault}
+use Rattle.json_reader.specs.Machine.{Machine, Bracket, Mode, To, Outcome, state, ended, refused, top, moved, step, fault_of, JsonFault, Fresh, After, Move, Open, Close, End, Refuse, applied}
+use Rattle.json_reader.proofs.Steps.{run, start, run-append}
 use Rattle.json_reader.proofs.ValueRuns.{refused_faulty, undone_faulty, ended_stands, done_stands}
-use Rattle.json_reader.proofs.Places.{told}
+use Rattle.json_reader.proofs.FirstFaults.{told}
 use Rattle.json_reader.proofs.Moves.{stay_run}
-use Rattle.std.proofs.lemmas.Bool.{cond_both}
+use Rattle.std.proofs.lemmas.Bool.{cond_both, false≢true}
 
 module _ (bytes : List ℕ) (at i : ℕ) (low : at ≤ i) where
   behind : drop (i - at) (drop at bytes) ≡ drop i bytes
@@ -21,9 +23,6 @@ module _ (bytes : List ℕ) (at i : ℕ) (low : at ≤ i) where
   -- the bytes before i and what follows them, the byte there, a stretch behind them, and a value that ends with them
   pub parted : drop at bytes ≡ stretch bytes at i ++ drop i bytes
   parted = sym (take-append-drop (i - at) (drop at bytes)) ∙ ap (λ xs. stretch bytes at i ++ xs) behind
-
-  pub parted_one : i < length bytes → drop at bytes ≡ stretch bytes at i ++ get_or bytes i 0 ∷ drop (suc i) bytes
-  parted_one high = parted ∙ ap (λ xs. stretch bytes at i ++ xs) (drop-cons bytes i 0 high)
 
   pub stretch_more : (j : ℕ) → i ≤ j → stretch bytes at j ≡ stretch bytes at i ++ stretch bytes i j
   stretch_more j up =
@@ -42,6 +41,21 @@ module _ (bytes : List ℕ) (at i : ℕ) (low : at ≤ i) where
     pub read_on : (o : Outcome) → i < length bytes → step 128 m st (get_or bytes i 0) ≡ o → run 128 start (stretch bytes at (i + 1)) ≡ o
     read_on o high e = rw (one_more high, run-append, is) e
 
+    -- no value goes on with what is left
+    pub broken_in : (left : List ℕ) → drop i bytes ≡ left → Breaks m st left → (place total : ℕ) → place + length left ≡ total
+        → (fault : JsonFault) → fault ≡ fault_of m (top st) (slice_get left 0) place → IsBroken (drop at bytes) left total fault
+    broken_in left there breaks place total counted fault told = record {
+      mode = m;
+      brackets = st;
+      front = stretch bytes at i;
+      place = place;
+      parts = parted ∙ ap (λ xs. stretch bytes at i ++ xs) there;
+      counted = counted;
+      ran = is;
+      breaks = breaks;
+      told = told;
+    }
+
     -- the bytes from i to j leave the machine as it is
     pub stayed : (j : ℕ) → i ≤ j → AllByRecursion (λ b. moved m (top st) b ≡ To m) (stretch bytes i j) → run 128 start (stretch bytes at j) ≡ state m st
     stayed j up all = rw (stretch_more j up, run-append, is) (stay_run m st (stretch bytes i j) all)
@@ -51,26 +65,47 @@ slice_get-seam : (xs ys : List ℕ) → slice_get (xs ++ ys) (length xs) ≡ sli
 slice_get-seam [] ys = refl
 slice_get-seam (x ∷ xs) ys = slice_get-seam xs ys
 
-module _ (bytes : List ℕ) (at : ℕ) (front : List ℕ) (m : Mode) (st : List Bracket) (is : run 128 start front ≡ state m st) where
-  told_there : (left : List ℕ) → drop at bytes ≡ front ++ left → ((b : ℕ) → slice_get left 0 ≡ Some b → step 128 m st b ≡ refused)
-      → IsJsonFault bytes at (fault_of m (top st) (slice_get left 0) (at + length front))
-  told_there left parts stops =
+-- nothing more is waited for
+pub over_ends : (m : Mode) (st : List Bracket) → is_over m st ≡ true → (left : List ℕ) → Ends m st left
+over_ends After [] over left = refl
+over_ends Fresh [] over left = refl
+over_ends m st over left = absurd (false≢true over)
+
+module _ (front : List ℕ) (m : Mode) (st : List Bracket) (is : run 128 start front ≡ state m st) where
+  pub ends_stands : (left : List ℕ) → Ends m st left → (text : List ℕ) × Stands (front ++ left) text left
+  ends_stands [] ends = let found = done_stands front m st is ends in (found.0, rw append-nil found.1)
+  ends_stands (b ∷ left) ends = ended_stands front m st is b left ends
+
+  broken_faulty : (left : List ℕ) → Breaks m st left → IsFaulty (front ++ left)
+  broken_faulty [] undone = rw append-nil (undone_faulty front m st is undone)
+  broken_faulty (b ∷ more) stuck = refused_faulty front m st is b more stuck
+
+  stuck_at : (left : List ℕ) → Breaks m st left → (b : ℕ) → slice_get left 0 ≡ Some b → step 128 m st b ≡ refused
+  stuck_at [] breaks b got = cc
+  stuck_at (c ∷ more) stuck b got = let same : c ≡ b = cc in rw (← same) stuck
+
+  pub first_fault : (bytes : List ℕ) (at : ℕ) (left : List ℕ) → drop at bytes ≡ front ++ left → Breaks m st left
+      → IsFirstFault bytes at (fault_of m (top st) (slice_get left 0) (at + length front))
+  first_fault bytes at left parts breaks =
       let next : slice_get (drop at bytes) (length front) ≡ slice_get left 0 = ap (λ xs. slice_get xs (length front)) parts ∙ slice_get-seam front left in
-      told bytes at (length front) (omega (arith, ap length parts, length-append front left)) m st (rw (parts, take-append_seam) is) (λ b got. stops b (sym next ∙ got)) (slice_get left 0) next
+      record {
+        faulty = subst IsFaulty (sym parts) (broken_faulty left breaks);
+        first = told bytes at (length front) (omega (arith, ap length parts, length-append front left)) m st (rw (parts, take-append_seam) is)
+            (λ b got. stuck_at left breaks b (sym next ∙ got)) (slice_get left 0) next;
+      }
 
-  -- the next byte is refused
-  pub refused_fault : (b : ℕ) (more : List ℕ) → drop at bytes ≡ front ++ b ∷ more → step 128 m st b ≡ refused → IsFirstFault bytes at (fault_of m (top st) (Some b) (at + length front))
-  refused_fault b more parts e = record {
-    faulty = subst IsFaulty (sym parts) (refused_faulty front m st is b more e);
-    first = told_there (b ∷ more) parts (λ c got. let same : b ≡ c = cc in rw (← same) e);
-  }
+pub broken_first : (bytes : List ℕ) (at : ℕ) → at ≤ length bytes → (left : List ℕ) (fault : JsonFault) → IsBroken (drop at bytes) left (length bytes) fault → IsFirstFault bytes at fault
+broken_first bytes at within left fault b =
+    let place : at + length b.front ≡ b.place = omega (arith, ap length b.parts, length-append b.front left, length-drop at bytes, b.counted) in
+    subst (IsFirstFault bytes at) (ap (fault_of b.mode (top b.brackets) (slice_get left 0)) place ∙ sym b.told) (first_fault b.front b.mode b.brackets b.ran bytes at left b.parts b.breaks)
 
-  -- the bytes end
-  pub undone_fault : drop at bytes ≡ front → (step 128 m st 32 ≡ ended 32 → ⊥) → IsFirstFault bytes at (fault_of m (top st) None (at + length front))
-  undone_fault parts undone = record {
-    faulty = subst IsFaulty (sym parts) (undone_faulty front m st is undone);
-    first = told_there [] (parts ∙ sym (append-nil front)) (λ c got. cc);
-  }
+pub refused_in : (bytes : List ℕ) (at : ℕ) (machine : Machine) (n : ℕ) → Came bytes at (taken.Refused machine n) → (place total : ℕ) → place + length bytes ≡ total + n
+    → (fault : JsonFault) → fault ≡ fault_of machine.mode (top machine.brackets) (Some (get_or bytes n 0)) place → IsRefusedIn (drop at bytes) total fault
+refused_in bytes at machine n came place total counted fault told =
+    let left = drop (suc n) bytes in
+    let there = drop-cons bytes n 0 came.1 in
+    let size : place + length (get_or bytes n 0 ∷ left) ≡ total = omega (arith, came.1, counted, length-drop (suc n) bytes) in
+    record { byte = get_or bytes n 0; more = left; broken = broken_in bytes at n came.0 machine.mode machine.brackets came.2 _ there came.3 place total size fault told }
 
 -- ---- the machine goes on, ends before the byte, or refuses it
 abbrev Comes : ℕ → Outcome → Type 0
@@ -89,23 +124,24 @@ IsDecided bytes at =
     ((text : List ℕ) × (end : ℕ) × (end ≤ length bytes) × Stands (drop at bytes) text (drop end bytes))
     ⊎ ((fault : JsonFault) × IsFirstFault bytes at fault)
 
-walk : (bytes : List ℕ) (at : ℕ) (front left : List ℕ) → at ≤ length bytes → drop at bytes ≡ front ++ left → (m : Mode) (st : List Bracket) → run 128 start front ≡ state m st → IsDecided bytes at
-walk bytes at front [] within parts m st is =
-    let all : drop at bytes ≡ front = parts ∙ append-nil front in
-    elim (comes 128 st 32 (moved m (top st) 32)) [
-      | inl on ↦ inr (_, undone_fault bytes at front m st is all (λ e. let no = sym on.2 ∙ e in cc))
-      | inr (inl done) ↦ let found = done_stands front m st is done in inl (found.0, length bytes, omega arith, subst₂ (λ xs ys. Stands xs found.0 ys) (sym all) (sym (drop_all (length bytes) bytes (omega arith))) found.1)
-      | inr (inr stuck) ↦ inr (_, undone_fault bytes at front m st is all (λ e. let no = sym stuck ∙ e in cc))
-    ]
-walk bytes at front (b ∷ left) within parts m st is =
-    elim (comes 128 st b (moved m (top st) b)) [
-      | inl on ↦ walk bytes at (front ++ b ∷ []) left within (parts ∙ sym (append_assoc front (b ∷ []) left)) on.0 on.1 (rw (run-append, is) on.2)
-      | inr (inl done) ↦
-          let found = ended_stands front m st is b left done in
-          let rest : drop (at + length front) bytes ≡ b ∷ left = sym (drop-drop (length front) at bytes) ∙ ap (drop (length front)) parts ∙ drop-append_seam front (b ∷ left) in
-          inl (found.0, at + length front, omega (arith, ap length parts, length-append front (b ∷ left), length-drop at bytes), subst₂ (λ xs ys. Stands xs found.0 ys) (sym parts) (sym rest) found.1)
-      | inr (inr stuck) ↦ inr (_, refused_fault bytes at front m st is b left parts stuck)
-    ]
+module _ (bytes : List ℕ) (at : ℕ) (within : at ≤ length bytes) where
+  ended_there : (front left : List ℕ) → drop at bytes ≡ front ++ left → (m : Mode) (st : List Bracket) → run 128 start front ≡ state m st → Ends m st left → IsDecided bytes at
+  ended_there front left parts m st is ends =
+      let found = ends_stands front m st is left ends in
+      let rest : drop (at + length front) bytes ≡ left = sym (drop-drop (length front) at bytes) ∙ ap (drop (length front)) parts ∙ drop-append_seam front left in
+      inl (found.0, at + length front, omega (arith, ap length parts, length-append front left, length-drop at bytes), subst₂ (λ xs ys. Stands xs found.0 ys) (sym parts) (sym rest) found.1)
+
+  walk : (front left : List ℕ) → drop at bytes ≡ front ++ left → (m : Mode) (st : List Bracket) → run 128 start front ≡ state m st → IsDecided bytes at
+  walk front [] parts m st is = elim (comes 128 st 32 (moved m (top st) 32)) [
+    | inl on ↦ inr (_, first_fault front m st is bytes at [] parts (λ e. let no = sym on.2 ∙ e in cc))
+    | inr (inl done) ↦ ended_there front [] parts m st is done
+    | inr (inr stuck) ↦ inr (_, first_fault front m st is bytes at [] parts (λ e. let no = sym stuck ∙ e in cc))
+  ]
+  walk front (b ∷ left) parts m st is = elim (comes 128 st b (moved m (top st) b)) [
+    | inl on ↦ walk (front ++ b ∷ []) left (parts ∙ sym (append_assoc front (b ∷ []) left)) on.0 on.1 (rw (run-append, is) on.2)
+    | inr (inl done) ↦ ended_there front (b ∷ left) parts m st is done
+    | inr (inr stuck) ↦ inr (_, first_fault front m st is bytes at (b ∷ left) parts stuck)
+  ]
 
 pub value-or-fault : (bytes : List ℕ) (at : ℕ) → at ≤ length bytes → IsDecided bytes at
-value-or-fault bytes at within = walk bytes at [] (drop at bytes) within refl Mode.Value [] refl
+value-or-fault bytes at within = walk bytes at within [] (drop at bytes) refl Mode.Value [] refl

@@ -1,12 +1,13 @@
--- Finding the members that have a name among those that are kept.
+-- Finding the members that have a name among those that are kept, and names by their marks.
 use Rattle.std.proofs.Common.{◌≡◌, ◌<◌, ◌≤◌, ℕ, zero, suc, ◌+◌, List, [], ◌∷◌, ◌++◌, Option, Some, None, Bool, true, false, ap, if◌then◌else◌, cond, refl, sym, ◌∙◌, arith, length, get_or, take, bytes_eq}
-use Rattle.std.proofs.lemmas.List.{take_more, map-append, map-set, length-map, get_or-map}
+use Rattle.std.proofs.lemmas.Grind.{common_steps}
+use Rattle.std.proofs.lemmas.List.{take_more, map-append, map-set, length-map, get_or-map, get_or-set_same, get_or-set_other, length-set}
 use Rattle.std.proofs.lemmas.List.Elements.{All-set, All-push}
 use Rattle.std.proofs.Math.ListN.{set}
+use Rattle.std.specs.List.{list_any}
 use Rattle.json_text.specs.Compact.{Member, collapsed}
-use Rattle.json_reader.specs.Places.{cut, entry, entries, IsPlaced, AreWithin}
-use Rattle.json_reader.specs.declared.collapsing.Place.{Place}
-use Rattle.json_text.proofs.Collapsed.{bytes_eq-true, bytes_eq-same, bytes_eq-flip, insert_entry, collapsed-push}
+use Rattle.json_reader.specs.Places.{cut, entry, entries, mark_of, IsPlaced, AreWithin, Place}
+use Rattle.json_text.proofs.Collapsed.{bytes_eq-true, bytes_eq-same, bytes_eq-flip, bytes_eq-apart, names_of, insert_entry, collapsed-push}
 
 -- the place of the first member of this name, counted from a number on
 abbrev pub place_from : ℕ → List ℕ → List Member → Option ℕ
@@ -66,44 +67,72 @@ module _ (bytes : List ℕ) (places kept : List Place) (i : ℕ) (find : List �
   abbrev pub name : List ℕ
   name = cut bytes place.name
 
-  abbrev value : List ℕ
-  value = cut bytes place.value
-
-  turned : (new : List Place) → entries bytes new ≡ insert_entry (entries bytes kept) name value → entries bytes new ≡ collapsed (entries bytes (take (i + 1) places))
-  turned new e = e ∙ ap (λ es. insert_entry es name value) are.same ∙ sym (entries-more bytes places i here)
+  turned : (new : List Place) → entries bytes new ≡ insert_entry (entries bytes kept) name (cut bytes place.value) → entries bytes new ≡ collapsed (entries bytes (take (i + 1) places))
+  turned new e = e ∙ ap (λ es. insert_entry es name (cut bytes place.value)) are.same ∙ sym (entries-more bytes places i here)
 
   -- the name is there
   module _ (first : ℕ) (there : find name ≡ Some first) where
-    at : place_from 0 name (entries bytes kept) ≡ Some first
-    at = sym (are.found name) ∙ there
+    pub first_within : first < length kept
+    first_within = omega (arith, place-within 0 (entries bytes kept) name first (sym (are.found name) ∙ there), length-map kept (entry bytes))
 
-    pub first-within : first < length kept
-    first-within = omega (arith, place-within 0 (entries bytes kept) name first at, length-map kept (entry bytes))
-
-    pub kept-last : (d : Place) → AreKept bytes places (set kept first (record { name = (get_or kept first d).name; value = place.value })) (i + 1) find true
-    kept-last d =
+    pub kept_last : (d : Place) → AreKept bytes places (set kept first (record { name = (get_or kept first d).name; value = place.value })) (i + 1) find true
+    kept_last d =
+        let at : place_from 0 name (entries bytes kept) ≡ Some first = sym (are.found name) ∙ there in
         let new : Place = record { name = (get_or kept first d).name; value = place.value } in
-        let put : entries bytes (set kept first new) ≡ insert_entry (entries bytes kept) name value =
+        let put : entries bytes (set kept first new) ≡ insert_entry (entries bytes kept) name (cut bytes place.value) =
         map-set (entry bytes) kept first new
-        ∙ sym (rw (insert-last 0 (entries bytes kept) name value first first (entry bytes d) at (omega arith), get_or-map (entry bytes) kept first d (entry bytes d) first-within) refl) in
+        ∙ sym (rw (insert-last 0 (entries bytes kept) name (cut bytes place.value) first first (entry bytes d) at (omega arith), get_or-map (entry bytes) kept first d (entry bytes d) first_within) refl) in
         record {
-          within = All-set (IsPlaced (length bytes)) kept first new ((are.within first d first-within).0, (fits i nowhere here).1) are.within;
+          within = All-set (IsPlaced (length bytes)) kept first new ((are.within first d first_within).0, (fits i nowhere here).1) are.within;
           same = turned (set kept first new) put;
-          found = λ q. are.found q ∙ sym (rw put (place-last 0 (entries bytes kept) name value q first at));
+          found = λ q. are.found q ∙ sym (rw put (place-last 0 (entries bytes kept) name (cut bytes place.value) q first at));
           plain = λ e. cc;
         }
 
   -- the name is new
-  pub kept-new : find name ≡ None → (more : List ℕ → Option ℕ) → ((q : List ℕ) → more q ≡ cond (bytes_eq name q) (Some (length kept)) (find q))
+  pub kept_new : find name ≡ None → (more : List ℕ → Option ℕ) → ((q : List ℕ) → more q ≡ cond (bytes_eq name q) (Some (length kept)) (find q))
       → AreKept bytes places (kept ++ place ∷ []) (i + 1) more repeats
-  kept-new new more finds =
+  kept_new new more finds =
       let none : place_from 0 name (entries bytes kept) ≡ None = sym (are.found name) ∙ new in
-      let put : entries bytes (kept ++ place ∷ []) ≡ insert_entry (entries bytes kept) name value =
-      map-append (entry bytes) kept (place ∷ []) ∙ sym (insert-new 0 (entries bytes kept) name value none) in
+      let put : entries bytes (kept ++ place ∷ []) ≡ insert_entry (entries bytes kept) name (cut bytes place.value) =
+      map-append (entry bytes) kept (place ∷ []) ∙ sym (insert-new 0 (entries bytes kept) name (cut bytes place.value) none) in
       let size : 0 + length (entries bytes kept) ≡ length kept = omega (arith, length-map kept (entry bytes)) in
       record {
         within = All-push (IsPlaced (length bytes)) kept place are.within (fits i nowhere here);
         same = turned (kept ++ place ∷ []) put;
-        found = λ q. finds q ∙ sym (rw (put, are.found q, ← size) (place-new 0 (entries bytes kept) name value q none));
+        found = λ q. finds q ∙ sym (rw (put, are.found q, ← size) (place-new 0 (entries bytes kept) name (cut bytes place.value) q none));
         plain = λ e. ap (λ ps. ps ++ place ∷ []) (are.plain e) ∙ sym (take_more places i nowhere here);
       }
+
+-- ---- names by their marks
+-- The names at the places before i are all kept, and a name whose mark wasn't seen is none of them.
+pub record AreSeen (bytes : List ℕ) (places : List Place) (i : ℕ) (seen : List Bool) : Type 0 where
+  pub kept : collapsed (entries bytes (take i places)) ≡ entries bytes (take i places)
+  pub marked : (name : List ℕ) → get_or seen (mark_of name) false ≡ false → list_any (bytes_eq name) (names_of (entries bytes (take i places))) ≡ false
+  pub size : length seen ≡ 256
+
+insert-unknown : (ms : List Member) (name value : List ℕ) → list_any (bytes_eq name) (names_of ms) ≡ false → insert_entry ms name value ≡ ms ++ (name, value) ∷ []
+insert-unknown [] name value new = grind arith
+insert-unknown (m ∷ ms) name value new = grind (arith, insert-unknown ms name value)
+
+-- a mark that isn't seen now
+another : (seen : List Bool) (mark k : ℕ) → mark < length seen → get_or (set seen mark true) k false ≡ false → k ≡ mark → ⊥
+another seen mark k low unseen same = grind (arith, get_or-set_same seen mark true false low)
+
+-- one name more, which is new
+pub seen_more : (bytes : List ℕ) (places : List Place) (i : ℕ) (seen : List Bool) (mark : ℕ) → i < length places → AreSeen bytes places i seen
+    → mark ≡ mark_of (cut bytes (get_or places i nowhere).name) → mark < 256
+    → list_any (bytes_eq (cut bytes (get_or places i nowhere).name)) (names_of (entries bytes (take i places))) ≡ false → AreSeen bytes places (i + 1) (set seen mark true)
+seen_more bytes places i seen mark here before marks small new =
+    let name = cut bytes (get_or places i nowhere).name in
+    let value = cut bytes (get_or places i nowhere).value in
+    let more = entries-push bytes places i here in
+    let low : mark < length seen = omega (arith, before.size) in
+    record {
+      kept = entries-more bytes places i here ∙ rw (before.kept, more) (insert-unknown (entries bytes (take i places)) name value new);
+      marked = λ other unseen.
+          let another_mark = another seen mark (mark_of other) low unseen in
+          let apart : bytes_eq other name ≡ false = bytes_eq-apart other name (λ same. another_mark (ap mark_of same ∙ sym marks)) in
+          rw more (grind (arith, common_steps, apart, before.marked other (sym (get_or-set_other seen mark (mark_of other) true false another_mark) ∙ unseen)));
+      size = length-set seen mark true ∙ before.size;
+    }

@@ -1,61 +1,54 @@
 -- A writer that is ready for the rest behind a value, whose compact text it has written, was ready for the value.
-use Rattle.std.proofs.Common.{◌≡◌, ℕ, ◌+◌, ◌-◌, List, [], ◌∷◌, ◌++◌, Bool, true, false, eqb, map, flat_map, refl, sym, ap, subst, ◌∙◌, arith, inl, inr, append_assoc, append-nil}
-use Rattle.std.specs.Char.{encode_utf8}
+use Rattle.std.proofs.Common.{true≢false, ◌≡◌, ℕ, ◌+◌, ◌-◌, List, [], ◌∷◌, ◌++◌, Bool, true, false, eqb, map, flat_map, refl, sym, ap, subst, ◌∙◌, arith, inl, inr, append_assoc, append-nil, encode_utf8, drop, filter, bytes_eq, IsUtf8}
 use Rattle.std.specs.List.{list_all, AllByRecursion, join_with_byte}
 use Rattle.std.proofs.lemmas.Bool.{and_parts, false≢true}
 use Rattle.std.proofs.lemmas.Bool.Decides.{nat_tests}
 use Rattle.std.proofs.lemmas.Grind.{flat_map-append}
 use Rattle.json_text.specs.Characters.{is_space, is_blank, is_plain, is_digit, quote, quoted_byte}
-use Rattle.json_text.specs.Compact.{Member, content, compact, members, collapsed, label_name, member_text, array_text, object_text}
-use Rattle.json_text.specs.Walk.{outside, inside, Quoted}
+use Rattle.json_text.specs.Compact.{Member, content, compact, members, collapsed, label_name, member_text, array_text, object_text, has_other_name, last_value}
+use Rattle.json_text.specs.Walk.{inside, Quoted}
 use Rattle.json_text.specs.Tree.{Piece, bare, letter, unit, IsPiece, piece_spelling, string_spelling, array, object, Label, unnamed, named, IsLabel, label_spelling, Tree, scalar, text, empty, filled, Values, last, next, spelling, values_spelling, IsGood, AreGood}
 use Rattle.json_reader.specs.Drafts.{Drafted, fresh, grown, pair_text, pairs_text}
 use Rattle.json_reader.specs.Places.{quoted}
-use Rattle.json_reader.specs.Writing.{Writing, between, deed, deed_at, Can, Done, AreAlike, Ready}
-use Rattle.json_reader.specs.declared.writing.Deed.{Deed}
-use Rattle.json_reader.specs.declared.writing.Deed.TheVariants.{Skip, Keep, Slash, Push}
-use Rattle.json_reader.specs.declared.staying.Ground.TheVariants as ground
+use Rattle.json_reader.specs.Writing.{Writing, between, deed, deed_at, Can, Done, AreAlike, Ready, Deed, Skip, Keep, Slash, Push}
 use Rattle.json_text.proofs.CompactLaws.{members-utf8}
-use Rattle.json_text.proofs.Escapes.{content-bare}
-use Rattle.json_text.proofs.Literals.{is_part_of_literal, list_all-each, literal-plain}
-use Rattle.json_text.proofs.Reading.{regroup-last, regroup-next}
-use Rattle.json_text.proofs.Strings.{plain-bare, quoted-bare, plain-quote, plain-slash, hex-plain}
-use Rattle.json_reader.proofs.QuotedNames.{collapsed-quoted}
+use Rattle.json_text.proofs.Contents.{content-first}
+use Rattle.json_text.proofs.Reading.{is_part_of_literal, list_all-each, literal-plain, regroup-last, regroup-next}
+use Rattle.json_text.proofs.Strings.{plain-bare, quoted-bare, plain-quote, plain-slash, hex-plain, pieces-once}
+use Rattle.json_text.proofs.Collapsed.{bytes_eq-true, bytes_eq-same, collapsed-names}
+use Rattle.json_text.proofs.Forms.{quote-Quoted}
 use Rattle.json_reader.proofs.Drafting.{IsRow, row_none, row_more, labelled, whole, closed_so}
+use Rattle.json_reader.specs.declared.staying.Ground.TheVariants as ground
 
+-- ---- members whose names are quoted are kept as those whose names are not
+pub quoted-once : {bytes a b r s : List ℕ} → Quoted bytes a r → Quoted bytes b s → a ≡ b
+quoted-once {bytes} {a} {b} {r} {s} p q =
+    let same = pieces-once p.pieces q.pieces r s p.good q.good (let e : string_spelling p.pieces ++ r ≡ string_spelling q.pieces ++ s = sym p.parts ∙ q.parts in
+    sym (append_assoc (flat_map piece_spelling p.pieces) (34 ∷ []) r) ∙ ap (drop 1) e ∙ append_assoc (flat_map piece_spelling q.pieces) (34 ∷ []) s) in
+    sym p.means ∙ ap content same.0 ∙ q.means
+
+bytes_eq-quote : (a b : List ℕ) → IsUtf8 a → IsUtf8 b → bytes_eq (quote a) (quote b) ≡ bytes_eq a b
+bytes_eq-quote a b u v =
+    let once : quote a ≡ quote b → a ≡ b = λ same. quoted-once (quote-Quoted (quote a) a [] u (sym (append-nil (quote a)))) (quote-Quoted (quote a) b [] v (same ∙ sym (append-nil (quote b)))) in
+    grind (arith, once, bytes_eq-true a b, bytes_eq-same b, bytes_eq-true (quote a) (quote b), bytes_eq-same (quote b))
+
+last_value-quoted : (name value : List ℕ) (ms : List Member) → IsUtf8 name → AllByRecursion (λ m. IsUtf8 m.0) ms → last_value (quote name) value (map quoted ms) ≡ last_value name value ms
+last_value-quoted name value [] u h = refl
+last_value-quoted name value (m ∷ ms) u h = grind (arith, bytes_eq-quote name m.0 u h.0, last_value-quoted name m.1 ms u h.1, last_value-quoted name value ms u h.1)
+
+filter-quoted : (name : List ℕ) (ms : List Member) → IsUtf8 name → AllByRecursion (λ m. IsUtf8 m.0) ms → filter (has_other_name (quote name)) (map quoted ms) ≡ map quoted (filter (has_other_name name) ms)
+filter-quoted name [] u h = refl
+filter-quoted name (m ∷ ms) u h = grind (arith, bytes_eq-quote name m.0 u h.0, filter-quoted name ms u h.1)
+
+pub collapsed-quoted : (ms : List Member) → AllByRecursion (λ m. IsUtf8 m.0) ms → collapsed (map quoted ms) ≡ map quoted (collapsed ms)
+collapsed-quoted [] h = refl
+collapsed-quoted (m ∷ ms) h =
+    rw (last_value-quoted m.0 m.1 ms h.0 h.1, collapsed-quoted ms h.1, filter-quoted m.0 (collapsed ms) h.0 (collapsed-names IsUtf8 ms h.1)) refl
+
+-- ---- strings
 -- in a string
 abbrev within : Bool → Bool → List ℕ → Drafted → List Drafted → Writing
 within escaped escapes string here around = record { place = inside escaped; escapes = escapes; string = string; here = here; around = around }
-
--- whether an escape came, behind a piece and behind pieces
-abbrev escaped : Bool → Piece → Bool
-escaped escapes (bare c) = escapes
-escaped escapes p = true
-
-abbrev escapes-after : Bool → List Piece → Bool
-escapes-after escapes [] = escapes
-escapes-after escapes (p ∷ ps) = escapes-after (escaped escapes p) ps
-
-escapes-stay : (ps : List Piece) → escapes-after true ps ≡ false → ⊥
-escapes-stay [] e = false≢true (sym e)
-escapes-stay (bare c ∷ ps) e = escapes-stay ps e
-escapes-stay (p ∷ ps) e = escapes-stay ps e
-
--- a string without escapes is its own quote
-bare-content : (ps : List Piece) → AllByRecursion IsPiece ps → escapes-after false ps ≡ false → flat_map quoted_byte (content ps) ≡ flat_map piece_spelling ps
-unfolding content
-bare-content [] good none = refl
-bare-content (bare c ∷ ps) good none =
-    ap (flat_map quoted_byte) (content-bare c ps good.0.0) ∙ flat_map-append quoted_byte (encode_utf8 c) (content ps)
-    ∙ rw (quoted-bare c good.0, bare-content ps good.1 none) refl
-bare-content (p ∷ ps) good none = absurd (escapes-stay ps none)
-
-bare-quote : (ps : List Piece) → AllByRecursion IsPiece ps → escapes-after false ps ≡ false → string_spelling ps ≡ quote (content ps)
-unfolding quote
-bare-quote ps good none = ap (λ s. 34 ∷ (s ++ 34 ∷ [])) (sym (bare-content ps good none))
-
-one-more : (xs : List ℕ) (x : ℕ) (ys : List ℕ) → (xs ++ x ∷ []) ++ ys ≡ xs ++ x ∷ ys
-one-more xs x ys = append_assoc xs (x ∷ []) ys
 
 -- ---- the texts of containers
 -- what follows the opening bracket in the text of an array
@@ -82,21 +75,12 @@ object-shut values good c =
     let inner : List ℕ = join_with_byte 44 (map member_text (collapsed (members values))) in
     let same : pairs_text (collapsed (map quoted (members values))) ≡ inner =
     ap pairs_text (collapsed-quoted (members values) (members-utf8 values good)) ∙ ap (join_with_byte 44) (pairs-quoted (collapsed (members values))) in
-    rw same (sym (append_assoc (c ++ 123 ∷ []) inner (125 ∷ []) ∙ one-more c 123 (inner ++ 125 ∷ [])))
+    rw same (sym (append_assoc (c ++ 123 ∷ []) inner (125 ∷ []) ∙ append_assoc c (123 ∷ []) (inner ++ 125 ∷ [])))
 
 -- ---- bytes that are all taken in one way
-pushes : (b level : ℕ) → is_part_of_literal b ≡ true → deed outside level b ≡ Push
-pushes b level part = grind (arith, nat_tests)
-
 keeps : (escaped : Bool) (b level : ℕ) → is_plain b ≡ true → deed (inside escaped) level b ≡ Keep
 keeps true b level plain = refl
 keeps false b level plain = rw (plain-quote b plain, plain-slash b plain) refl
-
-digit-part : (b : ℕ) → is_digit b ≡ true → is_part_of_literal b ≡ true
-digit-part b digit = grind (arith, nat_tests)
-
-digit-solid : (b : ℕ) → is_digit b ≡ true → is_space b ≡ false
-digit-solid b digit = grind (arith, nat_tests)
 
 all-pass : (p q : ℕ → Bool) → ((b : ℕ) → p b ≡ true → q b ≡ true) → (xs : List ℕ) → AllByRecursion (λ b. p b ≡ true) xs → list_all q xs ≡ true
 all-pass p q each [] pass = refl
@@ -116,9 +100,10 @@ module _ (written : List ℕ) where
       subst (λ e. (Is to rest → Can e w b × ((new : Writing) → Done e w b new → Is new (xs ++ rest))) × (Can e w b × ((new : Writing) → Done e w b new → Is new (xs ++ rest)) → Is to rest)) (sym same)
       (λ r. (can, λ new is. subst (λ v. Is v (xs ++ rest)) (sym (only new is)) ((takes rest).0 r)), λ r. (takes rest).1 (r.1 mid done))
 
-  takes-append : (xs ys : List ℕ) (w mid to : Writing) → Takes xs w mid → Takes ys mid to → Takes (xs ++ ys) w to
-  takes-append xs ys w mid to front back rest =
-      subst (λ zs. (Is to rest → Is w zs) × (Is w zs → Is to rest)) (sym (append_assoc xs ys rest))
+  -- in a string, over these bytes and those behind them
+  takes-append : (xs ys s : List ℕ) (escapes mid after : Bool) (d : Drafted) (ds : List Drafted) → Takes xs (within false escapes s d ds) (within false mid (s ++ xs) d ds)
+      → Takes ys (within false mid (s ++ xs) d ds) (within false after ((s ++ xs) ++ ys) d ds) → Takes (xs ++ ys) (within false escapes s d ds) (within false after (s ++ (xs ++ ys)) d ds)
+  takes-append xs ys s escapes mid after d ds front back rest = rw (append_assoc xs ys rest, ← append_assoc s xs ys)
       (λ r. (front (ys ++ rest)).0 ((back rest).0 r), λ r. (back rest).1 ((front (ys ++ rest)).1 r))
 
   -- ---- white space, and bytes that are appended
@@ -135,14 +120,14 @@ module _ (written : List ℕ) where
   literals [] d ds is = subst (λ c. Takes [] (between d ds) (between (record d { text = c }) ds)) (sym (append-nil d.text)) (λ rest. (λ r. r, λ r. r))
   literals (x ∷ xs) d ds is =
       let both = and_parts (is_part_of_literal x) (list_all is_part_of_literal xs) is in
-      subst (λ c. Takes (x ∷ xs) (between d ds) (between (record d { text = c }) ds)) (one-more d.text x xs)
-      (takes-byte Push x xs _ (between (grown d (x ∷ [])) ds) _ (pushes x d.level both.0) tt (λ new e. e) refl (literals xs (grown d (x ∷ [])) ds both.1))
+      subst (λ c. Takes (x ∷ xs) (between d ds) (between (record d { text = c }) ds)) (append_assoc d.text (x ∷ []) xs)
+      (takes-byte Push x xs _ (between (grown d (x ∷ [])) ds) _ (grind (arith, nat_tests)) tt (λ new e. e) refl (literals xs (grown d (x ∷ [])) ds both.1))
 
   -- ---- strings
   plain-first : (x : ℕ) (xs s : List ℕ) (escaped escapes : Bool) (d : Drafted) (ds : List Drafted) → is_plain x ≡ true
       → Takes xs (within false escapes (s ++ x ∷ []) d ds) (within false escapes ((s ++ x ∷ []) ++ xs) d ds) → Takes (x ∷ xs) (within escaped escapes s d ds) (within false escapes (s ++ x ∷ xs) d ds)
   plain-first x xs s escaped escapes d ds plain takes =
-      subst (λ t. Takes (x ∷ xs) (within escaped escapes s d ds) (within false escapes t d ds)) (one-more s x xs)
+      subst (λ t. Takes (x ∷ xs) (within escaped escapes s d ds) (within false escapes t d ds)) (append_assoc s (x ∷ []) xs)
       (takes-byte Keep x xs (within escaped escapes s d ds) (within false escapes (s ++ x ∷ []) d ds) _ (keeps escaped x d.level plain) tt (λ new e. e) refl takes)
 
   plains : (xs s : List ℕ) (escapes : Bool) (d : Drafted) (ds : List Drafted) → list_all is_plain xs ≡ true → Takes xs (within false escapes s d ds) (within false escapes (s ++ xs) d ds)
@@ -158,27 +143,36 @@ module _ (written : List ℕ) where
       (takes-byte Slash 92 (b ∷ more) (within false escapes s d ds) (within true true (s ++ 92 ∷ []) d ds) _ refl tt (λ new e. e) refl
       (takes-byte Keep b more (within true true (s ++ 92 ∷ []) d ds) (within false true mid d ds) _ refl tt (λ new e. e) refl (plains more mid true d ds is)))
 
-  piece : (p : Piece) (s : List ℕ) (escapes : Bool) (d : Drafted) (ds : List Drafted) → IsPiece p
-      → Takes (piece_spelling p) (within false escapes s d ds) (within false (escaped escapes p) (s ++ piece_spelling p) d ds)
-  piece (bare c) s escapes d ds good = plains (piece_spelling (bare c)) s escapes d ds (plain-bare c good.2 good.3)
-  piece (letter b) s escapes d ds good = escape b [] s escapes d ds refl
-  piece (unit a b c x) s escapes d ds good = escape 117 (a ∷ b ∷ c ∷ x ∷ []) s escapes d ds (list_all-each _ is_plain hex-plain (a ∷ b ∷ c ∷ x ∷ []) good)
-
+  -- over pieces, which are their own quote if no escape is among them
   pieces : (ps : List Piece) (s : List ℕ) (escapes : Bool) (d : Drafted) (ds : List Drafted) → AllByRecursion IsPiece ps
-      → Takes (flat_map piece_spelling ps) (within false escapes s d ds) (within false (escapes-after escapes ps) (s ++ flat_map piece_spelling ps) d ds)
-  pieces [] s escapes d ds good = plains [] s escapes d ds refl
-  pieces (p ∷ ps) s escapes d ds good =
-      let bytes = piece_spelling p in
-      subst (λ t. Takes (flat_map piece_spelling (p ∷ ps)) (within false escapes s d ds) (within false (escapes-after escapes (p ∷ ps)) t d ds)) (append_assoc s bytes (flat_map piece_spelling ps))
-      (takes-append bytes (flat_map piece_spelling ps) _ (within false (escaped escapes p) (s ++ bytes) d ds) _ (piece p s escapes d ds good.0) (pieces ps (s ++ bytes) (escaped escapes p) d ds good.1))
+      → (after : Bool) × (after ≡ false → (escapes ≡ false) × (flat_map quoted_byte (content ps) ≡ flat_map piece_spelling ps))
+      × Takes (flat_map piece_spelling ps) (within false escapes s d ds) (within false after (s ++ flat_map piece_spelling ps) d ds)
+  unfolding content
+  pieces [] s escapes d ds good = (escapes, λ none. (none, refl), plains [] s escapes d ds refl)
+  pieces (bare c ∷ ps) s escapes d ds good =
+      let bytes = encode_utf8 c in
+      let more = pieces ps (s ++ bytes) escapes d ds good.1 in (
+        more.0,
+        λ none. ((more.1 none).0, ap (flat_map quoted_byte) (content-first (bare c) ps good.0.0) ∙ flat_map-append quoted_byte bytes (content ps) ∙ rw (quoted-bare c good.0, (more.1 none).1) refl),
+        takes-append bytes _ s escapes _ _ d ds (plains bytes s escapes d ds (plain-bare c good.0.2 good.0.3)) more.2,
+      )
+  pieces (letter b ∷ ps) s escapes d ds good =
+      let more = pieces ps (s ++ 92 ∷ b ∷ []) true d ds good.1 in
+      (more.0, λ none. absurd (true≢false (more.1 none).0), takes-append (92 ∷ b ∷ []) _ s escapes _ _ d ds (escape b [] s escapes d ds refl) more.2)
+  pieces (unit a b c x ∷ ps) s escapes d ds good =
+      let hex : List ℕ = a ∷ b ∷ c ∷ x ∷ [] in
+      let more = pieces ps (s ++ 92 ∷ 117 ∷ hex) true d ds good.1 in
+      (more.0, λ none. absurd (true≢false (more.1 none).0), takes-append (92 ∷ 117 ∷ hex) _ s escapes _ _ d ds (escape 117 hex s escapes d ds (list_all-each _ is_plain hex-plain hex good.0)) more.2)
 
   string-ready : (ps : List Piece) (rest : List ℕ) (d : Drafted) (ds : List Drafted) → AllByRecursion IsPiece ps
       → Is (between (grown d (quote (content ps))) ds) rest → Is (between d ds) (string_spelling ps ++ rest)
+  unfolding quote
   string-ready ps rest d ds good r =
+      let ran = pieces ps (34 ∷ []) false d ds good in
       let is : Quoted (string_spelling ps) (content ps) [] = record { pieces = ps; good = good; parts = sym (append-nil (string_spelling ps)); means = refl } in (
         tt,
-        λ new e. rw (e, append_assoc (flat_map piece_spelling ps) (34 ∷ []) rest) ((pieces ps (34 ∷ []) false d ds good (34 ∷ rest)).0 (
-          record { text = content ps; quoted = is; same = bare-quote ps good },
+        λ new e. rw (e, append_assoc (flat_map piece_spelling ps) (34 ∷ []) rest) ((ran.2 (34 ∷ rest)).0 (
+          record { text = content ps; quoted = is; same = λ none. ap (λ t. 34 ∷ (t ++ 34 ∷ [])) (sym (ran.1 none).1) },
           λ other done. rw (done (content ps) is) r,
         )),
       )
@@ -204,18 +198,18 @@ module _ (written : List ℕ) where
     tree-ready (text pieces) rest d ds good r = string-ready pieces rest d ds good r
     tree-ready (empty array blank) rest d ds good r =
         let back : d.level + 1 - 1 ≡ d.level = omega arith in
-        (tt, λ new e. rw (e, append_assoc blank (93 ∷ []) rest) (blank-ready blank (93 ∷ rest) _ ds good (tt, λ other is. rw (is, back, one-more d.text 91 (93 ∷ [])) r)))
+        (tt, λ new e. rw (e, append_assoc blank (93 ∷ []) rest) (blank-ready blank (93 ∷ rest) _ ds good (tt, λ other is. rw (is, back, append_assoc d.text (91 ∷ []) (93 ∷ [])) r)))
     tree-ready (empty object blank) rest d ds good r = (
       tt,
       λ new e. rw (e, append_assoc blank (125 ∷ []) rest) (blank-ready blank (125 ∷ rest) _ _ good (
         record { outer = ds; next = grown d (123 ∷ []); open_in = refl; whole = record { within = (row_none.there []).0; written = refl } },
-        λ other done. rw (done ds (grown d (123 ∷ [])) refl, append-nil (d.text ++ 123 ∷ []), one-more d.text 123 (125 ∷ [])) r,
+        λ other done. rw (done ds (grown d (123 ∷ [])) refl, append-nil (d.text ++ 123 ∷ []), append_assoc d.text (123 ∷ []) (125 ∷ [])) r,
       )),
     )
     tree-ready (filled array values) rest d ds good r = (
       tt,
       λ new e. rw (e, append_assoc (values_spelling values) (93 ∷ []) rest) (items-ready values rest (grown d (91 ∷ [])) ds good
-          (subst (λ s. Is (between (record d { text = s }) ds) rest) (ap (λ s. d.text ++ s) (array-items values) ∙ sym (one-more d.text 91 (items_text values))) r)),
+          (subst (λ s. Is (between (record d { text = s }) ds) rest) (ap (λ s. d.text ++ s) (array-items values) ∙ sym (append_assoc d.text (91 ∷ []) (items_text values))) r)),
     )
     tree-ready (filled object values) rest d ds good r = (
       tt,
@@ -273,8 +267,8 @@ module _ (written : List ℕ) where
     -- outside strings white space is dropped, and digits are appended
     pub stretch-appended : AreAlike ground.Between (b ∷ xs) → is_space b ≡ false → Is (between d ds) (b ∷ xs ++ more) → Is (between (grown d (b ∷ xs)) ds) more
     stretch-appended (inl blank) solid = absurd (false≢true (sym solid ∙ blank.0))
-    stretch-appended (inr digits) solid = (literals (b ∷ xs) d ds (all-pass is_digit is_part_of_literal digit-part (b ∷ xs) digits) more).1
+    stretch-appended (inr digits) solid = (literals (b ∷ xs) d ds (all-pass is_digit is_part_of_literal (λ x digit. grind (arith, nat_tests)) (b ∷ xs) digits) more).1
 
     pub stretch-dropped : AreAlike ground.Between (b ∷ xs) → is_space b ≡ true → Is (between d ds) (b ∷ xs ++ more) → Is (between d ds) more
     stretch-dropped (inl blank) space = (blanks (b ∷ xs) d ds (all-pass is_space is_space (λ x e. e) (b ∷ xs) blank) more).1
-    stretch-dropped (inr digits) space = absurd (false≢true (sym (digit-solid b digits.0) ∙ space))
+    stretch-dropped (inr digits) space = absurd (let digit = digits.0 in grind (arith, nat_tests))

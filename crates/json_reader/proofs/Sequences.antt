@@ -1,8 +1,9 @@
 -- Sequences of UTF-8: what the machine runs over is the bytes of a character.
-use Rattle.std.proofs.Common.{◌≡◌, ◌⊎◌, ℕ, ◌+◌, ◌-◌, ◌*◌, ◌/◌, ◌<◌, ◌≤◌, List, [], ◌∷◌, true, Option, Some, None, refl, sym, subst, ◌∙◌, inl, inr, ⊎_elim, arith, nat_le, ◌&&◌}
-use Rattle.std.proofs.lemmas.Bool.{cases_lt, cases_eq, and_parts, and_from, leb-true, le-leb, le-ltb, lt-ltb}
+use Rattle.std.proofs.Common.{◌≡◌, ℕ, ◌+◌, ◌-◌, ◌*◌, ◌/◌, ◌<◌, ◌≤◌, List, [], ◌∷◌, true, Option, Some, None, refl, inl, inr, arith, nat_le, ◌&&◌}
 use Rattle.std.specs.Char.{encode_utf8, IsScalar}
-use lib.Utf8.{scalar, scalar_cases, low_scalar, next}
+use Rattle.std.proofs.lemmas.Bool.Decides.{nat_tests}
+use Rattle.std.proofs.lemmas.Bool.{cases_lt, and_parts, leb-true, le-ltb, lt-ltb}
+use lib.Utf8.{scalar, low_scalar, next}
 use Rattle.json_reader.specs.Machine.{Tail, One, Two, Three, Long3, Low3, Long4, Low4, tail_led, tail_fits, tail_after}
 
 abbrev pub on_tail : (Tail → Type 0) → Type 0 → Option Tail → Type 0
@@ -27,9 +28,6 @@ encode_four : (c : ℕ) → 65536 ≤ c → encode_utf8 c ≡ (240 + c / 262144)
 unfolding encode_utf8
 encode_four c l = rw (le-ltb c 128 (omega arith), le-ltb c 2048 (omega arith), le-ltb c 65536 l) refl
 
-fits : (low high b : ℕ) → low ≤ b → b ≤ high → (nat_le low b && nat_le b high) ≡ true
-fits low high b l h = and_from (nat_le low b) (nat_le b high) (le-leb low b l) (le-leb b high h)
-
 pub fitted : (low high b : ℕ) → (nat_le low b && nat_le b high) ≡ true → (low ≤ b) × (b ≤ high)
 fitted low high b e = let p = and_parts (nat_le low b) (nat_le b high) e in (leb-true low b p.0, leb-true b high p.1)
 
@@ -46,33 +44,32 @@ is_led : (c first : ℕ) (more : List ℕ) (tail : Tail) → encode_utf8 c ≡ f
 is_led c first more tail spells led completes = record { first = first; more = more; tail = tail; spells = spells; led = led; completes = completes }
 
 follow : (x : ℕ) → tail_fits One (next x) ≡ true
-follow x = fits 128 191 (next x) (omega arith) (omega arith)
+follow x = grind (arith, nat_tests)
 
-three_led : (c : ℕ) → 2048 ≤ c → c < 65536 → (c < 55296) ⊎ ((57344 ≤ c) × (c < 1114112)) → IsLed c
-three_led c low high scalar = elim (cases_eq (224 + c / 4096) 224) [
-  | inl long ↦ is_led c _ _ Long3 (encode_three c low high) (rw long refl) (fits 160 191 (next (c / 64)) (omega arith) (omega arith), (follow c, refl))
-  | inr other ↦ elim (cases_eq (224 + c / 4096) 237) [
-    | inl surrogate ↦ is_led c _ _ Low3 (encode_three c low high) (rw surrogate refl)
-        (fits 128 159 (next (c / 64)) (omega arith) (⊎_elim (λ h. omega arith) (λ h. absurd (omega arith)) scalar), (follow c, refl))
-    | inr none ↦ is_led c _ _ Two (encode_three c low high) (grind arith) (follow (c / 64), (follow c, refl))
-  ]
-]
+three_led : (c : ℕ) → IsScalar c → 2048 ≤ c → c < 65536 → IsLed c
+three_led c scalar low high = by (tail_led (224 + c / 4096)) refl
+  where
+    by : (o : Option Tail) → tail_led (224 + c / 4096) ≡ o → IsLed c
+    by (Some Long3) e = is_led c _ _ Long3 (encode_three c low high) e (grind (arith, nat_tests), (follow c, refl))
+    by (Some Low3) e = is_led c _ _ Low3 (encode_three c low high) e (grind (arith, nat_tests), (follow c, refl))
+    by (Some Two) e = is_led c _ _ Two (encode_three c low high) e (follow (c / 64), (follow c, refl))
+    by o e = absurd (grind arith)
 
-four_led : (c : ℕ) → 65536 ≤ c → c < 1114112 → IsLed c
-four_led c low high = elim (cases_eq (240 + c / 262144) 240) [
-  | inl long ↦ is_led c _ _ Long4 (encode_four c low) (rw long refl) (fits 144 191 (next (c / 4096)) (omega arith) (omega arith), (follow (c / 64), (follow c, refl)))
-  | inr other ↦ elim (cases_eq (240 + c / 262144) 244) [
-    | inl last ↦ is_led c _ _ Low4 (encode_four c low) (rw last refl) (fits 128 143 (next (c / 4096)) (omega arith) (omega arith), (follow (c / 64), (follow c, refl)))
-    | inr none ↦ is_led c _ _ Three (encode_four c low) (grind arith) (follow (c / 4096), (follow (c / 64), (follow c, refl)))
-  ]
-]
+four_led : (c : ℕ) → IsScalar c → 65536 ≤ c → IsLed c
+four_led c scalar low = by (tail_led (240 + c / 262144)) refl
+  where
+    by : (o : Option Tail) → tail_led (240 + c / 262144) ≡ o → IsLed c
+    by (Some Long4) e = is_led c _ _ Long4 (encode_four c low) e (grind (arith, nat_tests), (follow (c / 64), (follow c, refl)))
+    by (Some Low4) e = is_led c _ _ Low4 (encode_four c low) e (grind (arith, nat_tests), (follow (c / 64), (follow c, refl)))
+    by (Some Three) e = is_led c _ _ Three (encode_four c low) e (follow (c / 4096), (follow (c / 64), (follow c, refl)))
+    by o e = absurd (grind arith)
 
 pub char_led : (c : ℕ) → IsScalar c → 128 ≤ c → IsLed c
 char_led c scalar big = elim (cases_lt c 2048) [
   | inl two ↦ is_led c _ _ One (encode_two c big two) (grind arith) (follow c, refl)
   | inr more ↦ elim (cases_lt c 65536) [
-    | inl three ↦ three_led c more three (scalar_cases c scalar)
-    | inr four ↦ four_led c four (⊎_elim (λ h. omega arith) (λ h. h.1) (scalar_cases c scalar))
+    | inl three ↦ three_led c scalar more three
+    | inr four ↦ four_led c scalar four
   ]
 ]
 
@@ -83,21 +80,15 @@ IsChar bytes = (c : ℕ) × IsScalar c × (128 ≤ c) × (encode_utf8 c ≡ byte
 two_char : (b x : ℕ) (s : List ℕ) → 194 ≤ b → b ≤ 223 → 128 ≤ x → x ≤ 191 → s ≡ [] → IsChar (b ∷ x ∷ s)
 two_char b x s bl bh xl xh none =
     let c : ℕ = (b - 192) * 64 + (x - 128) in
-    let first : 192 + c / 64 ≡ b = omega arith in
-    let second : next c ≡ x = omega arith in
-    rw none (c, low_scalar c (omega arith), omega arith, encode_two c (omega arith) (omega arith) ∙ (λ i. first i ∷ second i ∷ []))
+    rw none (c, low_scalar c (omega arith), omega arith, grind (arith, encode_two c (omega arith) (omega arith)))
 
 three_char : (b x : ℕ) (s : List ℕ) → 224 ≤ b → b ≤ 239 → 128 ≤ x → x ≤ 191 → (b ≡ 224 → 160 ≤ x) → (b ≡ 237 → x < 160) → Completes s One → IsChar (b ∷ x ∷ s)
 three_char b x [] bl bh xl xh long low h = absurd h
 three_char b x (y ∷ s) bl bh xl xh long low h =
     let f = fitted 128 191 y h.0 in
     let c : ℕ = (b - 224) * 4096 + (x - 128) * 64 + (y - 128) in
-    let first : 224 + c / 4096 ≡ b = omega arith in
-    let second : next (c / 64) ≡ x = omega arith in
-    let third : next c ≡ y = omega arith in
-    let least : 2048 ≤ c = elim (cases_eq b 224) [ inl e ↦ let l : 160 ≤ x = long e in omega arith | inr n ↦ omega arith ] in
-    let scalar : IsScalar c = grind arith in
-    rw h.1 (c, scalar, omega arith, encode_three c least (omega arith) ∙ (λ i. first i ∷ second i ∷ third i ∷ []))
+    let least : 2048 ≤ c = grind arith in
+    rw h.1 (c, grind arith, omega arith, grind (arith, encode_three c least (omega arith)))
 
 four_char : (b x : ℕ) (s : List ℕ) → 240 ≤ b → b ≤ 244 → 128 ≤ x → x ≤ 191 → (b ≡ 240 → 144 ≤ x) → (b ≡ 244 → x < 144) → Completes s Two → IsChar (b ∷ x ∷ s)
 four_char b x [] bl bh xl xh long low h = absurd h
@@ -106,14 +97,8 @@ four_char b x (y ∷ z ∷ s) bl bh xl xh long low h =
     let f = fitted 128 191 y h.0 in
     let g = fitted 128 191 z h.1.0 in
     let c : ℕ = (b - 240) * 262144 + (x - 128) * 4096 + (y - 128) * 64 + (z - 128) in
-    let first : 240 + c / 262144 ≡ b = omega arith in
-    let second : next (c / 4096) ≡ x = omega arith in
-    let front : c / 64 ≡ (b - 240) * 4096 + (x - 128) * 64 + (y - 128) = omega arith in
-    let third : next (c / 64) ≡ y = subst (λ m. next m ≡ y) (sym front) (omega arith) in
-    let fourth : next c ≡ z = omega arith in
-    let least : 65536 ≤ c = elim (cases_eq b 240) [ inl e ↦ let l : 144 ≤ x = long e in omega arith | inr n ↦ omega arith ] in
-    let scalar : IsScalar c = grind arith in
-    rw h.1.1 (c, scalar, omega arith, encode_four c least ∙ (λ i. first i ∷ second i ∷ third i ∷ fourth i ∷ []))
+    let least : 65536 ≤ c = grind arith in
+    rw h.1.1 (c, grind arith, omega arith, grind (arith, encode_four c least))
 
 pub led_char : (b : ℕ) (s : List ℕ) (tail : Tail) → tail_led b ≡ Some tail → Completes s tail → IsChar (b ∷ s)
 led_char b [] tail e h = absurd h

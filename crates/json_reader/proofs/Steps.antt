@@ -1,24 +1,107 @@
--- What completes a value behind a byte completes one with it: strings, containers, and each step of the machine.
-use Rattle.std.proofs.Common.{◌≡◌, ℕ, ◌≤◌, ◌<◌, List, [], ◌∷◌, ◌++◌, true, refl, sym, ap, ◌∙◌, inl, inr, arith, append_assoc, zero, suc, ◌-◌, length, ne_eqb, subst, length-append, ◌≢◌, ◌==◌, ◌+◌, Some, ◌&&◌, not, Option, None, nat_lt, false}
-use Rattle.std.specs.Prelude.{flat_map}
-use Rattle.std.specs.List.{list_all}
+-- The runs of the machine; what completes a value from each of its states; and that with a byte in front this completes one
+-- from the state before it.
+use Rattle.std.proofs.Common.{◌≡◌, ◌⊎◌, ℕ, suc, ◌+◌, ◌-◌, ◌≤◌, List, [], ◌∷◌, ◌++◌, length, true, refl, ◌<◌, sym, ap, ◌∙◌, inl, inr, arith, append_assoc, zero, ne_eqb, subst, length-append, ◌==◌, Some, ◌&&◌, not, Option, None, nat_lt, false, flat_map, le-ltb, ltb-true, eqb-true}
+use Rattle.std.specs.List.{AllByRecursion, list_all}
 use Rattle.std.proofs.lemmas.List.Folds.{list_all-append}
-use lib.Utf8.{low_scalar}
-use Rattle.std.proofs.lemmas.Bool.{and_from, le-ltb, ne_eqb, and_parts, ltb-true, eqb-true, eqb-false, not-true, false≢true, cond_both}
+use Rattle.std.proofs.lemmas.Bool.{and_from, and_parts, eqb-false, not-true, false≢true, cond_both}
 use Rattle.std.proofs.lemmas.Bool.Decides.{nat_tests}
 use Rattle.std.proofs.lemmas.Str.{encode_ascii}
-use Rattle.json_text.specs.Characters.{is_space, is_blank, is_hex}
-use Rattle.json_text.specs.Tree.{Piece, bare, unit, IsPiece, piece_spelling, closing, Label, unnamed, named, label_spelling, IsLabel, Tree, spelling, IsGood, depth, Values, last, next}
-use Rattle.json_text.specs.Tree.{values_spelling, AreGood, values_depth, letter, letter_meaning, opening, scalar, text, empty, filled, IsWord}
-use Rattle.json_reader.specs.Machine.{Tail, One, Sequence, Bracket, Square, Curly, is_bare, container_of, after_digit, tail_fits, Hex, in_sequence, tail_after, Part, Role, Plain, Escape, Letters, Ull}
-use Rattle.json_reader.specs.Machine.{L, E, Rue, Alse, Mode, Fresh, Name, Colon, After, Quoted, Number, Word, To, Open, letters_of, Move, applied, step, part_begun, value_begun, tail_led}
-use Rattle.json_reader.specs.Machine.{tail_length, part_after, state, refused, top, string_move, closes_bracket, after_comma, after_move, is_complete, number_move_on, first_move, after_string}
-use Rattle.json_reader.specs.Machine.{letters_after, first_letter, word_on, led_on}
-use Rattle.json_text.proofs.Reading.{Blank, spread, regroup-last, regroup-next, Front}
-use Rattle.json_reader.proofs.Sequences.{IsChar, led_char}
-use Rattle.json_reader.proofs.Machines.{InString, Pieces, Quiet, Listed, Rest, Starts, First, Bytes, AfterString, Finishes, Reaches}
-use Rattle.json_text.specs.Value.{Follows, extends_number}
+use lib.Utf8.{low_scalar}
+use Rattle.json_text.specs.Characters.{is_hex, is_space, is_blank, is_bare}
+use Rattle.json_text.specs.Tree.{Piece, IsPiece, piece_spelling, closing, Tree, spelling, IsGood, depth, Values, values_spelling, AreGood, values_depth, bare, unit, Label, unnamed, named, label_spelling, IsLabel, last, next, letter, letter_meaning, opening, scalar, text, empty, filled, IsWord}
+use Rattle.json_text.specs.Value.{extends_number, Follows}
+use Rattle.json_reader.specs.Machine.{Bracket, Square, Curly, Role, Place, Plain, Escape, Hex, Sequence, Mode, Fresh, Name, Colon, After, Quoted, letters_of, Number, Word, container_of, Outcome, state, ended, refused, Tail, One, after_digit, tail_fits, in_sequence, tail_after, Part, Letters, Ull, L, E, Rue, Alse, To, Open, Move, applied, step, part_begun, value_begun, tail_led, tail_length, part_after, top, string_move, closes_bracket, after_comma, after_move, is_complete, number_move_on, first_move, after_string, after_letter, first_letter, led_on}
+pub use Rattle.json_reader.specs.Runs.{go, run, start}
+use Rattle.json_text.proofs.Reading.{Stops, Front, Blank, spread, regroup-last, regroup-next}
 use Rattle.json_reader.proofs.NumberRuns.{ends, number_run, on_part, run_number}
+use Rattle.json_reader.proofs.Sequences.{Completes, IsChar, led_char}
+
+pub run-append : (limit : ℕ) (from : Outcome) (xs ys : List ℕ) → run limit from (xs ++ ys) ≡ run limit (run limit from xs) ys
+run-append limit from [] ys = refl
+run-append limit from (x ∷ xs) ys = run-append limit (go limit from x) xs ys
+
+-- these bytes, and then P
+abbrev pub Bytes : List ℕ → (List ℕ → Type 0) → List ℕ → Type 0
+Bytes s P w = (rest : List ℕ) × (w ≡ s ++ rest) × P rest
+
+-- this byte, and then P
+abbrev pub Byte : ℕ → (List ℕ → Type 0) → List ℕ → Type 0
+Byte b P w = Bytes (b ∷ []) P w
+
+-- pieces of a string, the closing quote, and then P
+pub record Pieces (P : List ℕ → Type 0) (w : List ℕ) : Type 0 where
+  pub pieces : List Piece
+  pub rest : List ℕ
+  pub good : AllByRecursion IsPiece pieces
+  pub spells : w ≡ flat_map piece_spelling pieces ++ 34 ∷ rest
+  pub follows : P rest
+
+-- the same behind the bytes that have come of a piece
+abbrev pub InString : (List ℕ → Type 0) → Place → List ℕ → Type 0
+InString P Plain w = Pieces P w
+InString P Escape w = Pieces P (92 ∷ w)
+InString P (Hex more) w = (digits : List ℕ) → list_all is_hex digits ≡ true → length digits + more ≡ 3 → Pieces P (92 ∷ 117 ∷ (digits ++ w))
+InString P (Sequence n tail) w = (come : List ℕ) → ((t : List ℕ) → Completes t tail → IsChar (come ++ t)) → Pieces P (come ++ w)
+
+-- no byte that goes on with a number comes first
+abbrev pub Quiet : List ℕ → Type 0
+Quiet w = Stops extends_number w
+
+-- What is left over when the value has ended is given.
+module _ (limit : ℕ) (left : List ℕ) where
+  -- The values behind a comma in a container, and what follows its closing bracket.
+  pub record Listed (bracket : Bracket) (st : List Bracket) (P : List ℕ → Type 0) (w : List ℕ) : Type 0 where
+    pub values : Values
+    pub rest : List ℕ
+    pub good : AreGood (container_of bracket) values
+    pub shallow : values_depth values ≤ limit - suc (length st)
+    pub spells : w ≡ values_spelling values ++ closing (container_of bracket) ∷ rest
+    pub follows : P rest
+
+  -- after a value
+  abbrev pub Rest : List Bracket → List ℕ → Type 0
+  Rest [] w = w ≡ left
+  Rest (bracket ∷ st) w =
+      Blank (λ r. Byte (closing (container_of bracket)) (Rest st) r ⊎ Byte 44 (Listed bracket st (Rest st)) r) w
+
+  -- a value, and what follows it
+  pub record Starts (st : List Bracket) (w : List ℕ) : Type 0 where
+    pub tree : Tree
+    pub rest : List ℕ
+    pub good : IsGood tree
+    pub shallow : depth tree ≤ limit - length st
+    pub spells : w ≡ spelling tree ++ rest
+    pub ends : Follows (spelling tree) rest
+    pub follows : Rest st rest
+
+  abbrev pub AfterName : List Bracket → List ℕ → Type 0
+  AfterName st w = Blank (Byte 58 (Blank (Starts st))) w
+
+  abbrev pub AfterString : Role → List Bracket → List ℕ → Type 0
+  AfterString Role.Name st w = AfterName st w
+  AfterString Role.Value st w = Rest st w
+
+  abbrev pub First : Bracket → List Bracket → List ℕ → Type 0
+  First Square st w = Starts st w
+  First Curly st w = Byte 34 (InString (AfterName st) Plain) w
+
+  -- what completes a value from this state
+  abbrev pub Finishes : Mode → List Bracket → List ℕ → Type 0
+  Finishes Mode.Value st w = Blank (Starts st) w
+  Finishes Fresh [] w = w ≡ left
+  Finishes Fresh (bracket ∷ st) w = Blank (λ r. Byte (closing (container_of bracket)) (Rest st) r ⊎ First bracket (bracket ∷ st) r) w
+  Finishes Name st w = Blank (First Curly st) w
+  Finishes Colon st w = AfterName st w
+  Finishes After st w = Rest st w
+  Finishes (Quoted r place) st w = InString (AfterString r st) place w
+  Finishes (Number part) st w = Front (λ s. ends s part ≡ true) (λ r. Quiet r × Rest st r) w
+  Finishes (Word letters) st w = Bytes (letters_of letters) (Rest st) w
+
+-- what completes a value from there, with what is left over when it has ended
+abbrev pub Reaches : ℕ → List ℕ → Outcome → List ℕ → Type 0
+Reaches limit left (state m st) w = Finishes limit left m st w
+Reaches limit left (ended b) w = b ∷ w ≡ left
+Reaches limit left refused w = ⊥
 
 -- ---- a byte more in front of a string
 module _ {P : List ℕ → Type 0} where
@@ -112,12 +195,6 @@ pub lead_char : (r : Role) (b : ℕ) (tail : Tail) → tail_led b ≡ Some tail 
 lead_char r b tail e =
     let high : 192 ≤ b = led_high b tail e in
     rw (ne_eqb b 34 (λ q. omega arith), ne_eqb b 92 (λ q. omega arith), le-ltb b 32 (omega arith), le-ltb b 128 (omega arith), e) refl
-
-pub bare_char : (r : Role) (b : ℕ) → is_bare b ≡ true → string_move r Plain b ≡ To (Quoted r Plain)
-bare_char r b is = grind arith
-
-pub escape_letter : (r : Role) (b : ℕ) → letter_meaning b ≢ 0 → string_move r Escape b ≡ To (Quoted r Plain)
-escape_letter r b h = grind arith
 
 -- what begins so is no number
 no_number : (b : ℕ) (s w : List ℕ) → part_begun b ≡ None → Follows (b ∷ s) w
@@ -215,7 +292,7 @@ module _ (limit : ℕ) (left : List ℕ) where
   part_back part st b w (Some other) e = λ f. record { front = b ∷ f.front; rest = f.rest; holds = rw e f.holds; spells = ap (λ x. b ∷ x) f.spells; follows = f.follows }
 
   -- the letter and those that follow it
-  letters_back : (letters : Letters) (st : List Bracket) (b : ℕ) (w : List ℕ) → Moves st b w (word_on (letters_after letters)) → Bytes (letters_of letters) (Rest limit left st) (first_letter letters ∷ w)
+  letters_back : (letters : Letters) (st : List Bracket) (b : ℕ) (w : List ℕ) → Moves st b w (To (after_letter letters)) → Bytes (letters_of letters) (Rest limit left st) (first_letter letters ∷ w)
   letters_back L st b w r = (w, refl, r)
   letters_back E st b w r = (w, refl, r)
   letters_back letters st b w r = (r.0, ap (λ x. first_letter letters ∷ x) r.1, r.2)

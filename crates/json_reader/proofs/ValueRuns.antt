@@ -1,22 +1,168 @@
--- What a text that begins a value, and one that a value stands in, say of the machine's run, and the other way round.
--- Where the machine ends, a value stands; where it is refused, none stands.
-use Rattle.std.proofs.Common.{◌≡◌, ℕ, zero, suc, List, [], ◌∷◌, ◌++◌, true, refl, inl, arith, sym, ap, subst, ◌∙◌, append_assoc, append-nil, take, Some, false, None}
-use Rattle.json_text.specs.Tree.{closing, spelling, IsNumber}
-use Rattle.json_reader.specs.Machine.{Part, Zero, Tail, One, Two, Three, Long3, Low3, Long4, Low4, Bracket, Square, Curly, Role, Plain, Escape, Hex, Sequence, Mode, Fresh, Name, Colon, After, Quoted, Number, Word, Ull, Place, applied, letters_of}
-use Rattle.json_reader.specs.Machine.{container_of, Outcome, state, ended, refused, step}
-use Rattle.json_reader.proofs.NumberRuns.{ends}
-use Rattle.json_reader.proofs.Sequences.{Completes}
-use Rattle.json_reader.proofs.Machines.{go, run-append, Quiet, Rest, Finishes, run, start, Reaches}
-use Rattle.json_reader.proofs.Steps.{here}
-use Rattle.json_reader.proofs.Steps.{backward}
-use Rattle.json_reader.proofs.TreeRuns.{tail_over, IsDone, IsOver, done_moved, blank_over, tree_over}
-use Rattle.json_text.specs.Compact.{compact}
-use Rattle.json_text.specs.Characters.{is_blank}
-use Rattle.json_text.specs.Value.{extends_number, Value, Follows, Stands, Begins, IsFaulty}
-use Rattle.std.specs.Prelude.{slice_get}
+-- What is spelled is run over, and behind its spelling a value is done. What a text that begins a value, and one that a value
+-- stands in, say of the machine's run, and the other way round: where the machine ends, a value stands; where it is refused,
+-- none stands.
+use Rattle.std.proofs.Common.{◌≡◌, ◌==◌, ◌&&◌, not, ◌<◌, ◌≤◌, ◌-◌, ◌+◌, ℕ, suc, List, [], ◌∷◌, ◌++◌, length, Bool, true, false, Option, Some, refl, ap, ◌∙◌, inl, inr, arith, append_assoc, None, zero, sym, subst, append-nil, flat_map, lt-ltb}
+use Rattle.std.specs.List.{AllByRecursion}
+use Rattle.std.proofs.lemmas.Bool.{cases_lt, and_parts}
+use Rattle.std.proofs.lemmas.Bool.Decides.{nat_tests}
+use Rattle.std.proofs.lemmas.Str.{encode_ascii}
 use Rattle.std.proofs.lemmas.List.{append_cancel_right}
-use Rattle.std.proofs.lemmas.Option.{slice_get_within, get_or_from_slice_get}
-use Rattle.std.proofs.Math.Seq.{take-suc}
+use Rattle.json_text.specs.Characters.{is_space, is_blank}
+use Rattle.json_text.specs.Tree.{Piece, bare, letter, unit, IsPiece, piece_spelling, array, object, opening, closing, Label, unnamed, named, label_spelling, IsLabel, Tree, scalar, text, empty, filled, spelling, IsGood, depth, Values, last, next, values_spelling, AreGood, values_depth, IsNumber}
+use Rattle.json_text.specs.Value.{extends_number, Value, Follows, Stands, Begins, IsFaulty}
+use Rattle.json_text.specs.Compact.{compact}
+use Rattle.json_reader.specs.Machine.{Part, Tail, One, Bracket, Square, Curly, Role, Plain, Escape, Hex, Sequence, Mode, Fresh, Name, Colon, After, Quoted, Number, Move, To, Close, state, top, applied, moved, container_of, after_string, after_comma, after_move, part_begun, part_after, is_complete, value_begun, number_move_on, tail_length, Zero, Two, Three, Long3, Low3, Long4, Low4, Word, Ull, Place, letters_of, Outcome, ended, refused, step}
+use Rattle.json_text.proofs.Reading.{space-ends, spread, regroup-last, regroup-next}
+use Rattle.json_text.proofs.Strings.{four-hex}
+use Rattle.json_reader.proofs.NumberRuns.{ends, IsRun, number_run, ended_part, some_part}
+use Rattle.json_reader.proofs.Sequences.{Completes, char_led}
+use Rattle.json_reader.proofs.Steps.{run, lead_char, here, backward, go, run-append, Quiet, Rest, Finishes, start, Reaches}
+
+-- a value is done in this mode, and what follows it is read as behind one
+abbrev pub IsDone : List ℕ → Mode → Type 0
+IsDone value After = Unit {0}
+IsDone value (Number part) = (is_complete part ≡ true) × IsNumber value
+IsDone value m = ⊥
+
+done_moved : (value : List ℕ) (m : Mode) (top : Option Bracket) (b : ℕ) → IsDone value m → (IsNumber value → extends_number b ≡ false) → moved m top b ≡ after_move top b
+done_moved value After top b done quiet = refl
+done_moved value (Number part) top b done quiet = let ends = quiet done.1 in rw (ended_part part b ends, done.0, ends) refl
+done_moved value m top b done quiet = absurd done
+
+-- a value comes next, and no white space and no closing bracket
+abbrev Awaits : Mode → List Bracket → Type 0
+Awaits m st = (b : ℕ) → is_space b ≡ false → (b == 93) ≡ false → moved m (top st) b ≡ value_begun b
+
+-- the first value of a container, or a further one
+abbrev begins_in : Bracket → Bool → Mode
+begins_in bracket true = Fresh
+begins_in bracket false = after_comma bracket
+
+module _ (limit : ℕ) where
+  byte_over : (m : Mode) (st : List Bracket) (b : ℕ) (move : Move) (rest : List ℕ) → moved m (top st) b ≡ move → run limit (state m st) (b ∷ rest) ≡ run limit (applied limit st b move) rest
+  byte_over m st b move rest is = ap (λ x. run limit (applied limit st b x) rest) is
+
+  pub blank_over : (m : Mode) (st : List Bracket) → ((b : ℕ) → is_space b ≡ true → moved m (top st) b ≡ To m) → (blank rest : List ℕ) → is_blank blank ≡ true → run limit (state m st) (blank ++ rest) ≡ run limit (state m st) rest
+  blank_over m st keeps [] rest is = refl
+  blank_over m st keeps (b ∷ blank) rest is =
+      let both = and_parts (is_space b) (is_blank blank) is in rw (run, keeps b both.0) (blank_over m st keeps blank rest both.1)
+
+  -- strings
+  pub tail_over : (r : Role) (st : List Bracket) (n : ℕ) (more rest : List ℕ) (tail : Tail) → Completes more tail → run limit (state (Quoted r (Sequence n tail)) st) (more ++ rest) ≡ run limit (state (Quoted r Plain) st) rest
+  tail_over r st n [] rest tail c = absurd c
+  tail_over r st n (b ∷ more) rest One c = rw (run, c.0, c.1) refl
+  tail_over r st n (b ∷ more) rest tail c = rw (run, c.0) (tail_over r st n more rest _ c.1)
+
+  piece_over : (r : Role) (st : List Bracket) (piece : Piece) (rest : List ℕ) → IsPiece piece → run limit (state (Quoted r Plain) st) (piece_spelling piece ++ rest) ≡ run limit (state (Quoted r Plain) st) rest
+  piece_over r st (bare c) rest good = elim (cases_lt c 128) [
+    | inl small ↦ rw (encode_ascii c small) (byte_over (Quoted r Plain) st c (To (Quoted r Plain)) rest (grind (arith, nat_tests)))
+    | inr big ↦ let l = char_led c good.0 big in rw l.spells (byte_over (Quoted r Plain) st l.first _ (l.more ++ rest) (lead_char r l.first l.tail l.led) ∙ tail_over r st (tail_length l.tail + 1) l.more rest l.tail l.completes)
+  ]
+  piece_over r st (letter b) rest good = byte_over (Quoted r Escape) st b (To (Quoted r Plain)) rest (grind arith)
+  piece_over r st (unit a b c d) rest good = let h = four-hex a b c d good in rw (run, h.0, h.1, h.2, h.3) refl
+
+  string_over : (r : Role) (st : List Bracket) (pieces : List Piece) (rest : List ℕ) → AllByRecursion IsPiece pieces
+      → run limit (state (Quoted r Plain) st) (flat_map piece_spelling pieces ++ 34 ∷ rest) ≡ run limit (state (after_string r) st) rest
+  string_over r st [] rest good = refl
+  string_over r st (piece ∷ pieces) rest good = rw append_assoc (piece_over r st piece (flat_map piece_spelling pieces ++ 34 ∷ rest) good.0 ∙ string_over r st pieces rest good.1)
+
+  number_over : (s : List ℕ) (part : Part) (st : List Bracket) → ends s part ≡ true
+      → (next : Part) × (is_complete next ≡ true) × ((rest : List ℕ) → run limit (state (Number part) st) (s ++ rest) ≡ run limit (state (Number next) st) rest)
+  number_over [] part st is = (part, is, λ rest. refl)
+  number_over (b ∷ s) part st is =
+      let p = some_part s (part_after part b) is in
+      let n = number_over s p.0 st p.2 in
+      (n.0, n.1, λ rest. byte_over (Number part) st b (To (Number p.0)) (s ++ rest) (ap (λ o. number_move_on o (is_complete part && not (extends_number b)) (top st) b) p.1) ∙ n.2 rest)
+
+  -- a value's spelling leads from this mode to where it is done
+  pub record IsOver (value : List ℕ) (m : Mode) (st : List Bracket) : Type 0 where
+    pub next : Mode
+    pub done : IsDone value next
+    pub runs : (rest : List ℕ) → run limit (state m st) (value ++ rest) ≡ run limit (state next st) rest
+
+  module _ (m : Mode) (st : List Bracket) (awaits : Awaits m st) where
+    first_over : (b : ℕ) (rest : List ℕ) → is_space b ≡ false → (b == 93) ≡ false → run limit (state m st) (b ∷ rest) ≡ run limit (applied limit st b (value_begun b)) rest
+    first_over b rest solid inside = byte_over m st b (value_begun b) rest (awaits b solid inside)
+
+    scalar_over : (literal : List ℕ) → IsNumber literal → IsRun literal → IsOver literal m st
+    scalar_over [] number is = absurd is
+    scalar_over (b ∷ s) number is =
+        let p = some_part s (part_begun b) is in
+        let first : part_begun b ≡ Some p.0 = p.1 in
+        let n = number_over s p.0 st p.2 in
+        let begun : value_begun b ≡ number_move_on (part_begun b) false None b = grind arith in
+        record { next = Number n.0; done = (n.1, number); runs = λ rest. byte_over m st b (To (Number p.0)) (s ++ rest) (awaits b (grind arith) (grind arith) ∙ begun ∙ ap (λ o. number_move_on o false None b) first) ∙ n.2 rest }
+
+    open_over : (bracket : Bracket) (rest : List ℕ) → length st < limit → run limit (state m st) (opening (container_of bracket) ∷ rest) ≡ run limit (state Fresh (bracket ∷ st)) rest
+    open_over Square rest room = first_over 91 rest refl refl ∙ (rw (lt-ltb (length st) limit room) refl)
+    open_over Curly rest room = first_over 123 rest refl refl ∙ (rw (lt-ltb (length st) limit room) refl)
+
+    -- a value that is done with its last byte
+    whole : (value : List ℕ) → ((rest : List ℕ) → run limit (state m st) (value ++ rest) ≡ run limit (state After st) rest) → IsOver value m st
+    whole value runs = record { next = After; done = tt; runs = runs }
+
+    -- a container whose inner bytes lead to what closes it
+    held : (bracket : Bracket) (inner : List ℕ) → length st < limit → ((rest : List ℕ) → run limit (state Fresh (bracket ∷ st)) (inner ++ closing (container_of bracket) ∷ rest) ≡ run limit (state After st) rest)
+        → IsOver (opening (container_of bracket) ∷ (inner ++ closing (container_of bracket) ∷ [])) m st
+    held bracket inner room runs = whole _ (λ rest. rw append_assoc (open_over bracket (inner ++ closing (container_of bracket) ∷ rest) room ∙ runs rest))
+
+  -- containers
+  label_over : (bracket : Bracket) (label : Label) (first : Bool) (st : List Bracket) → IsLabel (container_of bracket) label
+      → (next : Mode) × Awaits next (bracket ∷ st) × ((rest : List ℕ) → run limit (state (begins_in bracket first) (bracket ∷ st)) (label_spelling label ++ rest) ≡ run limit (state next (bracket ∷ st)) rest)
+  label_over Square (unnamed before) true st good = (Fresh, (λ b solid inside. rw (solid, inside) refl), λ rest. blank_over Fresh (Square ∷ st) (λ b s. rw s refl) before rest good)
+  label_over Square (unnamed before) false st good = (Mode.Value, (λ b solid inside. rw solid refl), λ rest. blank_over Mode.Value (Square ∷ st) (λ b s. rw s refl) before rest good)
+  label_over Square (named before name between after) first st good = absurd good
+  label_over Curly (unnamed before) first st good = absurd good
+  label_over Curly (named before name between after) first st good = (
+    Mode.Value,
+    (λ b solid inside. rw solid refl),
+    λ rest. rw spread (quote first (flat_map piece_spelling name ++ 34 ∷ (between ++ 58 ∷ (after ++ rest)))
+        ∙ string_over Role.Name (Curly ∷ st) name (between ++ 58 ∷ (after ++ rest)) good.1 ∙ blank_over Colon (Curly ∷ st) (λ b s. rw s refl) between (58 ∷ (after ++ rest)) good.2
+        ∙ blank_over Mode.Value (Curly ∷ st) (λ b s. rw s refl) after rest good.3),
+  )
+    where
+      quote : (first : Bool) (rest : List ℕ) → run limit (state (begins_in Curly first) (Curly ∷ st)) (before ++ 34 ∷ rest) ≡ run limit (state (Quoted Role.Name Plain) (Curly ∷ st)) rest
+      quote true rest = blank_over Fresh (Curly ∷ st) (λ b s. rw s refl) before (34 ∷ rest) good.0
+      quote false rest = blank_over Name (Curly ∷ st) (λ b s. rw s refl) before (34 ∷ rest) good.0
+
+  behind_over : (bracket : Bracket) (st : List Bracket) (value : List ℕ) (m : Mode) → IsDone value m → (blank : List ℕ) → is_blank blank ≡ true → (b : ℕ) (move : Move) (rest : List ℕ)
+      → (after_move (Some bracket) b ≡ move) × (extends_number b ≡ false) → run limit (state m (bracket ∷ st)) (blank ++ b ∷ rest) ≡ run limit (applied limit (bracket ∷ st) b move) rest
+  behind_over bracket st value m done [] is b move rest mark = rw (run, done_moved value m (Some bracket) b done (λ n. mark.1), mark.0) refl
+  behind_over bracket st value m done (c ∷ blank) is b move rest mark =
+      let both = and_parts (is_space c) (is_blank blank) is in
+      rw (run, done_moved value m (Some bracket) c done (λ n. space-ends c both.0), both.0) (behind_over bracket st value After tt blank both.1 b move rest mark)
+
+  -- what ends the last value of a container, and the others
+  marks : (bracket : Bracket) → (after_move (Some bracket) (closing (container_of bracket)) ≡ Close) × (extends_number (closing (container_of bracket)) ≡ false) × (after_move (Some bracket) 44 ≡ To (after_comma bracket))
+  marks Square = (refl, refl, refl)
+  marks Curly = (refl, refl, refl)
+
+  mutual
+    pub tree_over : (tree : Tree) (m : Mode) (st : List Bracket) → Awaits m st → IsGood tree → depth tree ≤ limit - length st → IsOver (spelling tree) m st
+    tree_over (scalar literal) m st awaits (inl number) shallow = scalar_over m st awaits literal number (number_run literal number)
+    tree_over (scalar literal) m st awaits (inr (inl word)) shallow = rw word (whole m st awaits _ (λ rest. first_over m st awaits 110 (117 ∷ 108 ∷ 108 ∷ rest) refl refl))
+    tree_over (scalar literal) m st awaits (inr (inr (inl word))) shallow = rw word (whole m st awaits _ (λ rest. first_over m st awaits 116 (114 ∷ 117 ∷ 101 ∷ rest) refl refl))
+    tree_over (scalar literal) m st awaits (inr (inr (inr word))) shallow = rw word (whole m st awaits _ (λ rest. first_over m st awaits 102 (97 ∷ 108 ∷ 115 ∷ 101 ∷ rest) refl refl))
+    tree_over (text pieces) m st awaits good shallow = whole m st awaits _ (λ rest. rw append_assoc (first_over m st awaits 34 (flat_map piece_spelling pieces ++ 34 ∷ rest) refl refl ∙ string_over Role.Value st pieces rest good))
+    tree_over (empty array blank) m st awaits good shallow = held m st awaits Square blank (omega arith) (λ rest. blank_over Fresh (Square ∷ st) (λ b s. rw s refl) blank (93 ∷ rest) good)
+    tree_over (empty object blank) m st awaits good shallow = held m st awaits Curly blank (omega arith) (λ rest. blank_over Fresh (Curly ∷ st) (λ b s. rw s refl) blank (125 ∷ rest) good)
+    tree_over (filled array values) m st awaits good shallow = held m st awaits Square (values_spelling values) (omega arith) (values_over Square values true st good (omega arith))
+    tree_over (filled object values) m st awaits good shallow = held m st awaits Curly (values_spelling values) (omega arith) (values_over Curly values true st good (omega arith))
+
+    values_over : (bracket : Bracket) (values : Values) (first : Bool) (st : List Bracket) → AreGood (container_of bracket) values → values_depth values ≤ limit - suc (length st) → (rest : List ℕ)
+        → run limit (state (begins_in bracket first) (bracket ∷ st)) (values_spelling values ++ closing (container_of bracket) ∷ rest) ≡ run limit (state After st) rest
+    values_over bracket (last label value blank) first st good shallow rest =
+        let l = label_over bracket label first st good.0 in
+        let v = tree_over value l.0 (bracket ∷ st) l.1 good.1 (omega arith) in
+        let more : List ℕ = blank ++ closing (container_of bracket) ∷ rest in
+        rw regroup-last (l.2 (spelling value ++ more) ∙ v.runs more ∙ behind_over bracket st (spelling value) v.next v.done blank good.2 (closing (container_of bracket)) Close rest ((marks bracket).0, (marks bracket).1))
+    values_over bracket (next label value blank values) first st good shallow rest =
+        let l = label_over bracket label first st good.0 in
+        let v = tree_over value l.0 (bracket ∷ st) l.1 good.1 (omega arith) in
+        let others : List ℕ = values_spelling values ++ closing (container_of bracket) ∷ rest in
+        rw regroup-next (l.2 (spelling value ++ (blank ++ 44 ∷ others)) ∙ v.runs (blank ++ 44 ∷ others)
+        ∙ behind_over bracket st (spelling value) v.next v.done blank good.2 44 (To (after_comma bracket)) others ((marks bracket).2, refl)
+        ∙ values_over bracket values false st good.3 (omega arith) rest)
 
 -- ---- every state can be brought to the end of a value
 pub tail_closed : (tail : Tail) → (t : List ℕ) × Completes t tail
@@ -89,22 +235,22 @@ module _ (limit : ℕ) where
   ended_stays b [] m st e = cc
   ended_stays b (x ∷ xs) m st e = refused_stays xs m st e
 
-  -- ---- what begins a value is run over, and no other text
-  runs_less : (xs ys : List ℕ) (m : Mode) (st : List Bracket) → run limit start (xs ++ ys) ≡ state m st → Runs limit start xs
-  runs_less xs ys m st is = by (run limit start xs) refl (sym (run-append limit start xs ys) ∙ is)
-    where
-      by : (o : Outcome) → run limit start xs ≡ o → run limit o ys ≡ state m st → Runs limit start xs
-      by (state m0 st0) reached e = record { mode = m0; brackets = st0; reached = reached }
-      by (ended b) reached e = absurd (ended_stays b ys m st e)
-      by refused reached e = absurd (refused_stays ys m st e)
+  pub was_state : (o : Outcome) (xs : List ℕ) (m : Mode) (st : List Bracket) → run limit o xs ≡ state m st → Runs limit o []
+  was_state (state m0 st0) xs m st e = record { mode = m0; brackets = st0; reached = refl }
+  was_state (ended b) xs m st e = absurd (ended_stays b xs m st e)
+  was_state refused xs m st e = absurd (refused_stays xs m st e)
 
-  pub value_runs : (blank value text : List ℕ) → is_blank blank ≡ true → Value limit value text → (next : Mode) × IsDone value next × (run limit start (blank ++ value) ≡ state next [])
-  value_runs blank value text space v =
+  -- ---- what begins a value is run over, and no other text
+  pub value_runs : (blank value found : List ℕ) → is_blank blank ≡ true → Value limit value found → (ending : Mode) × IsDone value ending × (run limit start (blank ++ value) ≡ state ending [])
+  value_runs blank value found space v =
       let o = subst (λ x. IsOver limit x Mode.Value []) v.spells (tree_over limit v.tree Mode.Value [] (λ b solid inside. rw solid refl) v.good (omega (arith, v.shallow))) in
       (o.next, o.done, blank_over limit Mode.Value [] (λ b s. rw s refl) blank value space ∙ ap (run limit start) (sym (append-nil value)) ∙ o.runs [])
 
   pub begins_runs : (bytes : List ℕ) → Begins limit bytes → Runs limit start bytes
-  begins_runs bytes b = let v = value_runs b.blank b.value b.text b.space b.reads in runs_less bytes b.more v.0 [] (ap (run limit start) b.parts ∙ v.2)
+  begins_runs bytes b =
+      let v = value_runs b.blank b.value b.text b.space b.reads in
+      let s = was_state (run limit start bytes) b.more v.0 [] (sym (run-append limit start bytes b.more) ∙ ap (run limit start) b.parts ∙ v.2) in
+      record { mode = s.mode; brackets = s.brackets; reached = s.reached }
 
   pub runs_begins : (bytes : List ℕ) → Runs limit start bytes → Begins limit bytes
   runs_begins bytes r =
@@ -128,22 +274,21 @@ module _ (limit : ℕ) where
 -- ---- where a value stands
 pub start_stands : (bytes rest : List ℕ) → Reaches 128 rest start bytes → (text : List ℕ) × Stands bytes text rest
 start_stands bytes rest r =
-    let b = r in
-    let s = b.follows in (
+    let s = r.follows in (
       compact s.tree,
       record {
-        blank = b.front;
+        blank = r.front;
         value = spelling s.tree;
-        parts = b.spells ∙ ap (λ x. b.front ++ x) (s.spells ∙ ap (λ x. spelling s.tree ++ x) s.follows);
-        space = b.holds;
+        parts = r.spells ∙ ap (λ x. r.front ++ x) (s.spells ∙ ap (λ x. spelling s.tree ++ x) s.follows);
+        space = r.holds;
         reads = record { tree = s.tree; good = s.good; shallow = omega (arith, s.shallow); spells = refl; means = refl };
         ends = subst (Follows (spelling s.tree)) s.follows s.ends;
       },
     )
 
 -- a value is one whatever follows it
-pub Stands-cut : (xs text rest : List ℕ) → Stands (xs ++ rest) text rest → Stands xs text []
-Stands-cut xs text rest s = record {
+pub Stands-cut : (xs found rest : List ℕ) → Stands (xs ++ rest) found rest → Stands xs found []
+Stands-cut xs found rest s = record {
   blank = s.blank;
   value = s.value;
   parts = append_cancel_right xs (s.blank ++ s.value) rest (s.parts ∙ sym (append_assoc s.blank s.value rest)) ∙ ap (λ x. s.blank ++ x) (sym (append-nil s.value));
@@ -152,14 +297,9 @@ Stands-cut xs text rest s = record {
   ends = tt;
 }
 
-pub take_one : (xs : List ℕ) (n b : ℕ) → slice_get xs n ≡ Some b → take (suc n) xs ≡ take n xs ++ b ∷ []
-take_one xs n b got = grind (arith, take-suc xs n 0, slice_get_within xs n b got, get_or_from_slice_get xs n b 0 got)
-
 -- ---- what follows a value that is done
 done_ends : (value : List ℕ) (m : Mode) → IsDone value m → (b : ℕ) → (IsNumber value → extends_number b ≡ false) → step 128 m [] b ≡ ended b
-done_ends value After done b quiet = refl
-done_ends value (Number part) done b quiet = ap (applied 128 [] b) (done_moved value (Number part) None b done (quiet done.1))
-done_ends value m done b quiet = absurd done
+done_ends value m done b quiet = ap (applied 128 [] b) (done_moved value m None b done quiet)
 
 -- the machine refuses none of these bytes, and white space ends the value where they are none
 abbrev Goes : Mode → List Bracket → List ℕ → Type 0
@@ -171,18 +311,18 @@ done_goes value m done [] follows = done_ends value m done 32 (λ number. refl)
 done_goes value m done (b ∷ rest) follows = λ stuck. let e = done_ends value m done b follows in cc
 
 -- the machine has run over xs, and over ys to where a value is done
-goes_on : (value : List ℕ) (next : Mode) → IsDone value next → (xs ys left rest : List ℕ) (o : Outcome) (m : Mode) (st : List Bracket) → run 128 o ys ≡ state next [] → run 128 o xs ≡ state m st
+goes_on : (value : List ℕ) (ending : Mode) → IsDone value ending → (xs ys left rest : List ℕ) (o : Outcome) (m : Mode) (st : List Bracket) → run 128 o ys ≡ state ending [] → run 128 o xs ≡ state m st
     → xs ++ left ≡ ys ++ rest → Follows value rest → Goes m st left
-goes_on value next done [] [] left rest o m st over is e follows =
-    let same : state next [] ≡ state m st = sym over ∙ is in
-    let mode : next ≡ m = cc in
+goes_on value ending done [] [] left rest o m st over is e follows =
+    let same : state ending [] ≡ state m st = sym over ∙ is in
+    let mode : ending ≡ m = cc in
     let open' : [] ≡ st = cc in
-    rw (← mode, ← open', e) (done_goes value next done rest follows)
-goes_on value next done [] (y ∷ ys) left rest o m st over is e follows = rw e (λ stuck. refused_stays 128 ys next [] (rw (is, stuck) at over))
-goes_on value next done (x ∷ xs) [] left rest o m st over is e follows =
-    absurd (ended_stays 128 x xs m st (ap (λ o. run 128 o xs) (sym (done_ends value next done x (subst (Follows value) (sym e) follows))) ∙ (rw over at is)))
-goes_on value next done (x ∷ xs) (y ∷ ys) left rest o m st over is e follows =
-    let same : x ≡ y = cc in goes_on value next done xs ys left rest (go 128 o x) m st (rw (← same) at over) is (cc) follows
+    rw (← mode, ← open', e) (done_goes value ending done rest follows)
+goes_on value ending done [] (y ∷ ys) left rest o m st over is e follows = rw e (λ stuck. refused_stays 128 ys ending [] (rw (is, stuck) at over))
+goes_on value ending done (x ∷ xs) [] left rest o m st over is e follows =
+    absurd (ended_stays 128 x xs m st (ap (λ o. run 128 o xs) (sym (done_ends value ending done x (subst (Follows value) (sym e) follows))) ∙ (rw over at is)))
+goes_on value ending done (x ∷ xs) (y ∷ ys) left rest o m st over is e follows =
+    let same : x ≡ y = cc in goes_on value ending done xs ys left rest (go 128 o x) m st (rw (← same) at over) is (cc) follows
 
 -- ---- the machine stands so behind these bytes
 module _ (front : List ℕ) (m : Mode) (st : List Bracket) (is : run 128 start front ≡ state m st) where

@@ -4,16 +4,13 @@ use Rattle.json_text.specs.Compact.{compact}
 use Rattle.json_text.specs.Tree.{spelling}
 use Rattle.json_text.specs.Value.{Stands}
 use Rattle.json_reader.specs.Drafts.{fresh, grown}
-use Rattle.json_reader.specs.Machine.{state, top, moved}
-use Rattle.json_reader.specs.Runs.{EndsBefore}
+use Rattle.json_reader.specs.Machine.{Machine, To, state, top, moved}
 use Rattle.std.specs.List.{AllByRecursion}
-use Rattle.json_reader.specs.declared.machine.Machine.{Machine}
-use Rattle.json_reader.specs.declared.machine.Move.TheVariants.{To}
-use Rattle.json_reader.specs.declared.writing.Writer.{Writer}
-use Rattle.json_reader.specs.Writing.{between, deed_at, Ready, HasWritten, stretch, writing_at, Fits, CanPut, HasPut, HasRead, EndsIn, GoesOn}
-use Rattle.json_reader.proofs.Machines.{run, start}
+use Rattle.json_reader.specs.Writing.{Writer, between, deed_at, Ready, HasWritten, stretch, writing_at, Fits, Can, HasPut, HasRead, Ends, Came, GoesOn}
+use Rattle.json_reader.specs.declared.reader.Taken.TheVariants as taken
+use Rattle.json_reader.proofs.Steps.{run, start}
 use Rattle.json_reader.proofs.ValueRuns.{runs_begins}
-use Rattle.json_reader.proofs.Outcomes.{parted, one_more, stretch_more, whole_value, read_on, stayed}
+use Rattle.json_reader.proofs.Outcomes.{parted, one_more, stretch_more, whole_value, read_on, stayed, ends_stands}
 use Rattle.json_reader.proofs.Ready.{blank-ready, tree-ready}
 use Rattle.json_reader.proofs.Copying.{alone}
 
@@ -25,21 +22,21 @@ written_starts blank more tree is good e =
 
 -- along the machine
 module _ (bytes : List ℕ) (at next : ℕ) (machine : Machine) (writer : Writer) (read : HasRead bytes at next machine writer) where
-  pub value-written : (text : List ℕ) → Stands (drop at bytes) text (drop next bytes) → writing_at bytes next writer ≡ between (grown fresh text) []
-  value-written text s =
-      read.written s.blank [] s.reads.tree s.space s.reads.good (ap (λ x. s.blank ++ x) s.reads.spells ∙ sym (whole_value bytes at next read.low text s) ∙ sym (append-nil (stretch bytes at next)))
-      ∙ ap (λ t. between (grown fresh t) []) s.reads.means
+  -- where it ends a value stands, and is written
+  pub value-written : Ends machine.mode machine.brackets (drop next bytes)
+      → (text : List ℕ) × Stands (drop at bytes) text (drop next bytes) × (writing_at bytes next writer ≡ between (grown fresh text) [])
+  value-written ends =
+      let front = stretch bytes at next in
+      let found = ends_stands front machine.mode machine.brackets read.runs (drop next bytes) ends in
+      let s : Stands (drop at bytes) found.0 (drop next bytes) = subst (λ xs. Stands xs found.0 (drop next bytes)) (sym (parted bytes at next read.low)) found.1 in (
+        found.0,
+        s,
+        read.written s.blank [] s.reads.tree s.space s.reads.good (ap (λ x. s.blank ++ x) s.reads.spells ∙ sym (whole_value bytes at next read.low found.0 s) ∙ sym (append-nil front))
+            ∙ ap (λ t. between (grown fresh t) []) s.reads.means,
+      )
 
-  -- where it ends, a value has ended
-  pub has-ended : EndsBefore machine.mode machine.brackets (drop next bytes) → EndsIn (drop at bytes) (drop next bytes)
-  has-ended ends = record {
-    mode = machine.mode;
-    brackets = machine.brackets;
-    front = stretch bytes at next;
-    parts = parted bytes at next read.low;
-    ran = read.runs;
-    ends = ends;
-  }
+  pub has-ended : ((more : List ℕ) → Ends machine.mode machine.brackets (drop next bytes ++ more)) → (value : List ℕ) → Stands (drop at bytes) value (drop next bytes) → Came bytes at (taken.Ended value next)
+  has-ended ends value stands = (read.low, read.high, record { mode = machine.mode; brackets = machine.brackets; ran = read.runs; ends = ends }, stands)
 
   -- what is read on
   module _ (end : ℕ) (after : Machine) (new : Writer) (up : next ≤ end) (high : end ≤ length bytes) where
@@ -65,7 +62,7 @@ module _ (bytes : List ℕ) (at next : ℕ) (machine : Machine) (writer : Writer
     ran : run 128 start (stretch bytes at (next + 1)) ≡ state after.mode after.brackets
     ran = read_on bytes at next read.low machine.mode machine.brackets read.runs (state after.mode after.brackets) high goes
 
-    pub can_put : CanPut bytes next writer
+    pub can_put : Can (deed_at (writing_at bytes next writer) (get_or bytes next 0)) (writing_at bytes next writer) (get_or bytes next 0)
     can_put =
         let b = get_or bytes next 0 in
         let front = stretch bytes at next in

@@ -111,22 +111,16 @@ letters_of E = 101 ∷ []
 abbrev pub first_letter : Letters → ℕ
 first_letter letters = slice_index (letters_of letters) 0
 
--- the letters that must come after it
-abbrev pub letters_after : Letters → Option Letters
-letters_after Ull = Some Ll
-letters_after Ll = Some L
-letters_after L = None
-letters_after Rue = Some Ue
-letters_after Ue = Some E
-letters_after Alse = Some Lse
-letters_after Lse = Some Se
-letters_after Se = Some E
-letters_after E = None
-
--- what a letter does, by what must come after it
-abbrev pub word_on : Option Letters → Move
-word_on (Some letters) = To (Word letters)
-word_on None = To After
+-- what must come after it: the other letters, or what follows a value
+abbrev pub after_letter : Letters → Mode
+after_letter Ull = Word Ll
+after_letter Ll = Word L
+after_letter Rue = Word Ue
+after_letter Ue = Word E
+after_letter Alse = Word Lse
+after_letter Lse = Word Se
+after_letter Se = Word E
+after_letter letters = After
 
 -- ---- between values
 -- what the bracket opens
@@ -184,10 +178,6 @@ abbrev pub led_on : Role → Option Tail → Move
 led_on r (Some tail) = To (Quoted r (Sequence (tail_length tail + 1) tail))
 led_on r None = Refuse
 
--- an ASCII character that stands in a string as it is
-abbrev pub is_bare : ℕ → Bool
-is_bare b = nat_le 0x20 b && (nat_lt b 0x80 && (not (b == 34) && not (b == 92)))
-
 -- behind a digit of base 16 that so many more must follow
 abbrev pub after_digit : ℕ → Place
 after_digit zero = Plain
@@ -222,7 +212,7 @@ moved Colon top b = if is_space b then To Colon else (if b == 58 then To Mode.Va
 moved After top b = after_move top b
 moved (Quoted r place) top b = string_move r place b
 moved (Number part) top b = number_move_on (part_after part b) (is_complete part && not (extends_number b)) top b
-moved (Word letters) top b = if first_letter letters == b then word_on (letters_after letters) else Refuse
+moved (Word letters) top b = if first_letter letters == b then To (after_letter letters) else Refuse
 
 -- What comes of a byte: a mode and the open brackets, the innermost first; the value has ended before this byte; or no
 -- value goes on with it.

@@ -3,7 +3,7 @@ use Rattle.std.specs.Prelude.{ℕ, ◌+◌, ◌-◌, ◌*◌, ◌/◌, ◌%◌, 
 use Rattle.json_text.specs.Characters.{quote}
 use Rattle.json_text.specs.Compact.{Member}
 use Rattle.json_reader.specs.declared.collapsing.Span.{Span}
-use Rattle.json_reader.specs.declared.collapsing.Place.{Place}
+pub use Rattle.json_reader.specs.declared.collapsing.Place.{Place}
 
 abbrev pub cut : List ℕ → Span → List ℕ
 cut bytes span = take (span.end - span.start) (drop span.start bytes)

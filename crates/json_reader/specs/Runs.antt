@@ -1,7 +1,7 @@
 -- Runs of the machine. Only contracts of private functions cite this.
-use Rattle.std.specs.Prelude.{◌≡◌, ℕ, List, [], ◌∷◌, None, Bool, true, false}
+use Rattle.std.specs.Prelude.{◌≡◌, ℕ, List, [], ◌∷◌, Bool, true, false}
 use Rattle.json_reader.specs.Feeding.{behind_space}
-use Rattle.json_reader.specs.Machine.{Bracket, Mode, After, Fresh, JsonFault, Outcome, state, ended, refused, top, step, fault_of}
+use Rattle.json_reader.specs.Machine.{Bracket, Mode, After, Fresh, Outcome, state, ended, refused, step}
 
 -- what comes of a byte more, where at most so many brackets may be open
 abbrev pub go : ℕ → Outcome → ℕ → Outcome
@@ -24,11 +24,6 @@ is_over After [] = true
 is_over Fresh [] = true
 is_over m st = false
 
--- The value has ended before these bytes, whatever follows them.
-abbrev pub EndsBefore : Mode → List Bracket → List ℕ → Type 0
-EndsBefore m st [] = is_over m st ≡ true
-EndsBefore m st (b ∷ more) = step 128 m st b ≡ ended b
-
 -- The bytes of a value under way, which are nothing or begin with no white space: the value isn't over.
 pub record IsKept (rest : List ℕ) : Type 0 where
   pub mode : Mode
@@ -36,11 +31,3 @@ pub record IsKept (rest : List ℕ) : Type 0 where
   pub ran : run 128 start rest ≡ state mode brackets
   pub begun : behind_space rest ≡ rest
   pub goes_on : is_over mode brackets ≡ false
-
--- The rest is no whole value, and this fault is told of it at the stream's end.
-pub record IsCutOff (rest : List ℕ) (used : ℕ) (fault : JsonFault) : Type 0 where
-  pub mode : Mode
-  pub brackets : List Bracket
-  pub ran : run 128 start rest ≡ state mode brackets
-  pub undone : step 128 mode brackets 32 ≡ ended 32 → ⊥
-  pub told : fault ≡ fault_of mode (top brackets) None used

@@ -1,6 +1,6 @@
 -- What each byte of a value makes of what was written of the value. Only contracts of private functions cite this.
 -- This project's own, over RFC 8259, sections 2 to 7.
-use Rattle.std.specs.Prelude.{◌≡◌, ℕ, ◌+◌, ◌-◌, ◌<◌, ◌≤◌, length, take, drop, slice_index, List, [], ◌∷◌, ◌++◌, Option, None, Some, Bool, true, false, ◌==◌, ◌&&◌, ◌⊎◌, if◌then◌else◌}
+use Rattle.std.specs.Prelude.{◌≡◌, ℕ, ◌+◌, ◌-◌, ◌<◌, ◌≤◌, length, take, drop, slice_get, slice_index, slice_index_or, List, [], ◌∷◌, ◌++◌, Option, None, Some, Bool, true, false, ◌==◌, ◌&&◌, ◌⊎◌, if◌then◌else◌}
 use Rattle.std.specs.List.{AllByRecursion}
 use Rattle.json_text.specs.Characters.{is_space, is_blank, is_plain, is_digit, quote}
 use Rattle.json_text.specs.Compact.{compact}
@@ -8,20 +8,16 @@ use Rattle.json_text.specs.Walk.{Place, outside, inside, place_of, Quoted}
 use Rattle.json_text.specs.Tree.{Tree, IsGood, spelling}
 use Rattle.json_text.specs.Value.{Stands}
 use Rattle.json_reader.specs.Drafts.{Drafted, fresh, grown, named, parted, closed, IsWhole}
-use Rattle.json_reader.specs.Machine.{state, refused, top, step, fault_of}
-use Rattle.json_reader.specs.Runs.{run, start, is_over, EndsBefore, IsKept}
-use Rattle.json_reader.specs.declared.brackets.Bracket.{Bracket}
-use Rattle.json_reader.specs.declared.fault.JsonFault.{JsonFault}
-use Rattle.json_reader.specs.declared.machine.Machine.{Machine}
-use Rattle.json_reader.specs.declared.machine.Mode.{Mode}
-use Rattle.json_reader.specs.declared.reader.Reader.{Reader}
+use Rattle.json_reader.specs.Machine.{Bracket, JsonFault, Machine, Mode, state, ended, refused, top, step, fault_of}
+use Rattle.json_reader.specs.Runs.{run, start, is_over, IsKept}
+pub use Rattle.json_reader.specs.declared.reader.Reader.{Reader}
 use Rattle.json_reader.specs.declared.reader.Taken.{Taken}
 use Rattle.json_reader.specs.declared.reader.Taken.TheVariants as taken
 use Rattle.json_reader.specs.declared.staying.Ground.{Ground}
 use Rattle.json_reader.specs.declared.staying.Ground.TheVariants as ground
-use Rattle.json_reader.specs.declared.writing.Deed.{Deed}
-use Rattle.json_reader.specs.declared.writing.Deed.TheVariants.{Skip, Begin, Keep, Slash, Finish, Open, Shut, Name, Part, Deepen, Rise, Push}
-use Rattle.json_reader.specs.declared.writing.Writer.{Writer}
+pub use Rattle.json_reader.specs.declared.writing.Deed.{Deed}
+pub use Rattle.json_reader.specs.declared.writing.Deed.TheVariants.{Skip, Begin, Keep, Slash, Finish, Open, Shut, Name, Part, Deepen, Rise, Push}
+pub use Rattle.json_reader.specs.declared.writing.Writer.{Writer}
 
 -- Where a writer stands: in a string, of which these bytes came, an escape among them; in the innermost object that is open,
 -- and in those around it, the outermost first.
@@ -125,10 +121,7 @@ AreAlike ground.Between bytes = AllByRecursion (λ b. is_space b ≡ true) bytes
 abbrev pub copied : List ℕ → ℕ → Writer → Writer
 copied bytes to w = record w { here = grown w.here (stretch bytes w.from to); from = to }
 
--- what it takes to do with the byte at an offset what is to be done, and what comes of it
-abbrev pub CanPut : List ℕ → ℕ → Writer → Type 0
-CanPut bytes next w = Can (deed_at (writing_at bytes next w) (slice_index bytes next)) (writing_at bytes next w) (slice_index bytes next)
-
+-- what comes of the byte at an offset
 pub record HasPut (d : Deed) (bytes : List ℕ) (next : ℕ) (old new : Writer) : Type 0 where
   pub done : Done d (writing_at bytes next old) (slice_index bytes next) (writing_at bytes (next + 1) new)
   pub fits : Fits (next + 1) new
@@ -164,38 +157,49 @@ ReadsOn bytes next machine writer end after written =
 abbrev pub IsRead : List ℕ → ℕ → Reader → Type 0
 IsRead bytes at reader = HasRead bytes at reader.next reader.machine reader.writer
 
--- The value of these bytes has ended before what is left of them.
-pub record EndsIn (bytes left : List ℕ) : Type 0 where
+-- The value has ended before these bytes, or ends before white space where there are none.
+abbrev pub Ends : Mode → List Bracket → List ℕ → Type 0
+Ends m st left = step 128 m st (slice_index_or left 0 32) ≡ ended (slice_index_or left 0 32)
+
+-- The value that begins at an offset has ended before a later one, whatever follows these bytes.
+pub record EndsAt (bytes : List ℕ) (at end : ℕ) : Type 0 where
   pub mode : Mode
   pub brackets : List Bracket
-  pub front : List ℕ
-  pub parts : bytes ≡ front ++ left
-  pub ran : run 128 start front ≡ state mode brackets
-  pub ends : EndsBefore mode brackets left
+  pub ran : run 128 start (stretch bytes at end) ≡ state mode brackets
+  pub ends : (more : List ℕ) → Ends mode brackets (drop end bytes ++ more)
 
 -- what came of reading on in these bytes, which were read from an offset on
 abbrev pub Came : List ℕ → ℕ → Taken → Type 0
 Came bytes at (taken.Through reader) = IsRead bytes at reader × (reader.next ≡ length bytes) × (is_over reader.machine.mode reader.machine.brackets ≡ false)
-Came bytes at (taken.Ended value end) = (at ≤ end) × (end ≤ length bytes) × EndsIn (drop at bytes) (drop end bytes) × Stands (drop at bytes) value (drop end bytes)
+Came bytes at (taken.Ended value end) = (at ≤ end) × (end ≤ length bytes) × EndsAt bytes at end × Stands (drop at bytes) value (drop end bytes)
 Came bytes at (taken.Refused machine next) =
     (at ≤ next) × (next < length bytes) × (run 128 start (stretch bytes at next) ≡ state machine.mode machine.brackets)
     × (step 128 machine.mode machine.brackets (slice_index bytes next) ≡ refused)
 
--- A byte of these is refused, and this fault is told of it, where so many bytes came with them in all.
-pub record IsRefusedIn (bytes : List ℕ) (total : ℕ) (fault : JsonFault) : Type 0 where
+-- No value goes on with these bytes, or none is whole where there are none.
+abbrev pub Breaks : Mode → List Bracket → List ℕ → Type 0
+Breaks m st [] = Ends m st [] → ⊥
+Breaks m st (b ∷ more) = step 128 m st b ≡ refused
+
+-- No value goes on with what is left of these bytes, and this fault is told of it, where so many bytes came with them in all.
+pub record IsBroken (bytes left : List ℕ) (total : ℕ) (fault : JsonFault) : Type 0 where
   pub mode : Mode
   pub brackets : List Bracket
   pub front : List ℕ
-  pub byte : ℕ
-  pub left : List ℕ
   pub place : ℕ
-  pub parts : bytes ≡ front ++ byte ∷ left
-  pub counted : place + length (byte ∷ left) ≡ total
+  pub parts : bytes ≡ front ++ left
+  pub counted : place + length left ≡ total
   pub ran : run 128 start front ≡ state mode brackets
-  pub stuck : step 128 mode brackets byte ≡ refused
-  pub told : fault ≡ fault_of mode (top brackets) (Some byte) place
+  pub breaks : Breaks mode brackets left
+  pub told : fault ≡ fault_of mode (top brackets) (slice_get left 0) place
+
+-- a byte of these is refused
+pub record IsRefusedIn (bytes : List ℕ) (total : ℕ) (fault : JsonFault) : Type 0 where
+  pub byte : ℕ
+  pub more : List ℕ
+  pub broken : IsBroken bytes (byte ∷ more) total fault
 
 -- What is left of these bytes, whose last ones are a piece, of which so many were used: all, where the value is under way.
 abbrev pub HasFed : List ℕ → List ℕ → List ℕ → ℕ → Option (List ℕ) → Type 0
 HasFed bytes piece left used None = (used ≡ length piece) × (left ≡ bytes) × IsKept left
-HasFed bytes piece left used (Some text) = (left ≡ []) × (used ≤ length piece) × EndsIn bytes (drop used piece) × Stands bytes text (drop used piece)
+HasFed bytes piece left used (Some text) = (left ≡ []) × (used ≤ length piece) × (end : ℕ) × (used + length bytes ≡ end + length piece) × Came bytes 0 (taken.Ended text end)

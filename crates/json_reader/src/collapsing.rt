@@ -136,6 +136,7 @@ fn keep_last(kept: &mut Vec<Place>, first: usize, value: Span)
 }
 
 /// The members that stand at these places, between commas.
+#[tactic(auto, using(crate::proofs::Drafting::text_steps))]
 fn text_of(alloc: Global, bytes: &[u8], places: &[Place]) -> Result<Vec<u8>, AllocError>
     requires { AreWithin (length bytes.now) places.now }
     ensures { IfOk result (λ text. text.items ≡ pairs_text (entries bytes.now places.now)) }

@@ -5,8 +5,8 @@ ghost use Rattle.json_text.specs.Characters.{is_blank};
 ghost use Rattle.json_text.specs.Value.{Stands};
 ghost use Rattle.json_reader.specs.Faults.{IsFirstFault};
 ghost use Rattle.json_reader.specs.Feeding.{behind_space, IsAt, IsUnderWay};
-ghost use Rattle.json_reader.specs.Runs.{IsCutOff, IsKept};
-ghost use Rattle.json_reader.specs.Writing.{Came, HasFed, IsRead, IsRefusedIn};
+ghost use Rattle.json_reader.specs.Runs.{IsKept};
+ghost use Rattle.json_reader.specs.Writing.{Came, HasFed, IsBroken, IsRead, IsRefusedIn};
 ghost use Rattle.json_reader.specs.declared.fault.JsonFault.{JsonFault};
 
 use crate::fault::JsonFault;
@@ -82,6 +82,7 @@ impl Feed {
 
     /// Uses the piece up to the end of the first value that ends in it, or all of it. A fault is the first one of the
     /// stream, with its place there, as soon as no continuation makes a value; it is kept.
+    #[tactic(auto, using(crate::proofs::Feeds::going_on))]
     pub fn feed(&mut self, piece: &[u8]) -> Result<Fed, Stop<JsonFault>>
         requires { self.old.used + length piece.now < 2 ^ 64 }
         ensures used { IfOk result (λ fed. fed.used ≤ length piece.now) }
@@ -191,7 +192,7 @@ fn read_piece(
 }
 
 /// Reads the first piece of a value where it stands, behind white space, and keeps it only where the value goes on.
-#[tactic(auto, using(crate::proofs::Feeds::space_within))]
+#[tactic(auto, using(crate::proofs::Feeds::space_within, crate::proofs::Feeds::first_bytes, crate::proofs::Feeds::fed_steps))]
 fn read_first(
     reader: &mut Reader,
     rest: &mut Vec<u8>,
@@ -228,6 +229,7 @@ fn read_first(
 }
 
 /// Reads a further piece of a value, behind the rest. Where memory is wanting, the next reading begins with the rest anew.
+#[tactic(auto, using(crate::proofs::Feeds::behind_on, crate::proofs::Feeds::late_ended, crate::proofs::Feeds::late_refused, crate::proofs::Feeds::fed_steps))]
 fn read_more(
     reader: &mut Reader,
     rest: &mut Vec<u8>,
@@ -274,6 +276,7 @@ fn read_more(
 }
 
 /// The value that only the stream's end has ended, of which the rest is all; or the fault there, with this place.
+#[tactic(auto, using(crate::proofs::Feeds::end_steps))]
 fn read_end(
     alloc: Global,
     reader: &mut Reader,
@@ -283,7 +286,7 @@ fn read_end(
     requires read { IsRead rest.now 0 reader.old }
     requires kept { IsKept rest.now }
     ensures value { IfOk result (λ value. Stands rest.now value []) }
-    ensures fault { (fault : JsonFault) → result ≡ Err (Stop.Fault fault) → IsCutOff rest.now place fault }
+    ensures fault { (fault : JsonFault) → result ≡ Err (Stop.Fault fault) → IsBroken rest.now [] place fault }
     ensures read { (bytes : List ℕ) → IsRead bytes 0 reader.new }
 {
     match read_on(alloc, reader, rest)? {

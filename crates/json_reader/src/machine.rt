@@ -5,7 +5,7 @@
 ghost use Rattle.std.specs.Prelude.{◌≡◌, ◌↔◌, ◌-◌, ◌≤◌, IsTrue, [], false, take, drop, length};
 ghost use Rattle.std.specs.List.{AllByRecursion};
 ghost use Rattle.json_text.specs.Characters.{is_space, is_hex};
-ghost use Rattle.json_reader.specs.Machine.{first_move, closes_bracket, after_comma, after_string, value_begun, after_move, led_on, tail_led, string_move, first_letter, letters_after, moved, string_fault, bracket_fault, fault_of, top, step, state, ended, Stepped};
+ghost use Rattle.json_reader.specs.Machine.{first_move, closes_bracket, after_comma, after_string, value_begun, after_move, led_on, tail_led, string_move, first_letter, after_letter, moved, string_fault, bracket_fault, fault_of, top, step, state, ended, Stepped};
 ghost use Rattle.json_reader.specs.Runs.{is_over};
 ghost use Rattle.json_reader.specs.Writing.{AreAlike};
 ghost use Rattle.json_reader.specs.declared.machine.Move.TheVariants.{To};
@@ -134,6 +134,7 @@ impl Machine {
     }
 
     /// Where a stretch from `at` on ends whose bytes all leave the machine as it is, on this ground.
+    #[inline(always)]
     pub(crate) fn stay_end(&self, ground: Ground, bytes: &[u8], at: usize) -> usize
         requires { at ≤ length bytes.now }
         ensures within { (at ≤ result) × (result ≤ length bytes.now) }
@@ -143,28 +144,53 @@ impl Machine {
         stay_end(self.mode, self.brackets.top(), ground, bytes, at)
     }
 
-    /// Takes the end of a string between two characters, the colon behind a name, and a space where a value must come;
-    /// other bytes it leaves.
+    /// Takes the byte that most often follows: the beginning of a string, a space where a value must come, a letter of a word,
+    /// and the comma behind a value; other bytes it leaves.
     #[inline(always)]
-    pub(crate) fn end_string(&mut self, byte: u8) -> bool
+    pub(crate) fn follow(&mut self, byte: u8) -> bool
         ensures taken { IsTrue result → step 128 self.old.mode self.old.brackets byte ≡ state self.new.mode self.new.brackets }
         ensures left { result ≡ false → self.new ≡ self.old }
     {
         match (self.mode, byte) {
-            (Mode::Quoted(role, Place::Plain), b'"') => self.mode = after_string(role),
-            (Mode::Colon, b':') => self.mode = Mode::Value,
+            (Mode::Name, b'"') => self.mode = Mode::Quoted(Role::Name, Place::Plain),
+            (Mode::Value, b'"') => self.mode = Mode::Quoted(Role::Value, Place::Plain),
             (Mode::Value, b' ') => {}
+            (Mode::Word(letters), _) if byte == letters.first() => self.mode = letters.after(),
+            (Mode::After | Mode::Number(Part::Zero | Part::Whole | Part::Fraction), b',') => {
+                match self.brackets.top() {
+                    Some(bracket) => self.mode = after_comma(bracket),
+                    None => return false,
+                }
+            }
             _ => return false,
         }
         true
     }
 
-    /// The ground on which it stands.
-    pub(crate) fn ground(&self) -> Ground {
-        match self.mode {
-            Mode::Quoted(_, _) => Ground::Quoted,
-            _ => Ground::Between,
-        }
+    /// Takes the end of a string between two characters; other bytes it leaves.
+    #[inline(always)]
+    pub(crate) fn end_string(&mut self, byte: u8) -> bool
+        ensures taken { IsTrue result → step 128 self.old.mode self.old.brackets byte ≡ state self.new.mode self.new.brackets }
+        ensures left { result ≡ false → self.new ≡ self.old }
+    {
+        let (Mode::Quoted(role, Place::Plain), b'"') = (self.mode, byte) else {
+            return false;
+        };
+        self.mode = after_string(role);
+        true
+    }
+
+    /// Takes the colon behind a name; other bytes it leaves.
+    #[inline(always)]
+    pub(crate) fn end_name(&mut self, byte: u8) -> bool
+        ensures taken { IsTrue result → step 128 self.old.mode self.old.brackets byte ≡ state self.new.mode self.new.brackets }
+        ensures left { result ≡ false → self.new ≡ self.old }
+    {
+        let (Mode::Colon, b':') = (self.mode, byte) else {
+            return false;
+        };
+        self.mode = Mode::Value;
+        true
     }
 
     /// The value may end here: white space would end it too.
@@ -415,12 +441,10 @@ fn number_move(part: Part, top: Option<Bracket>, byte: u8) -> Move
 fn word_move(letters: Letters, byte: u8) -> Move
     ensures { result ≡ moved (Mode.Word letters) None byte }
 {
-    if letters.first() != byte {
-        return Move::Refuse;
-    }
-    match letters.after() {
-        Some(letters) => Move::To(Mode::Word(letters)),
-        None => Move::To(Mode::After),
+    if letters.first() == byte {
+        Move::To(letters.after())
+    } else {
+        Move::Refuse
     }
 }
 
@@ -439,19 +463,19 @@ impl Letters {
         }
     }
 
-    /// The letters that must come after it, if any must.
-    fn after(self) -> Option<Letters>
-        ensures { result ≡ letters_after self }
+    /// What must come after it: the other letters, or what follows a value.
+    fn after(self) -> Mode
+        ensures { result ≡ after_letter self }
     {
         match self {
-            Letters::Ull => Some(Letters::Ll),
-            Letters::Ll => Some(Letters::L),
-            Letters::Rue => Some(Letters::Ue),
-            Letters::Ue => Some(Letters::E),
-            Letters::Alse => Some(Letters::Lse),
-            Letters::Lse => Some(Letters::Se),
-            Letters::Se => Some(Letters::E),
-            Letters::L | Letters::E => None,
+            Letters::Ull => Mode::Word(Letters::Ll),
+            Letters::Ll => Mode::Word(Letters::L),
+            Letters::Rue => Mode::Word(Letters::Ue),
+            Letters::Ue => Mode::Word(Letters::E),
+            Letters::Alse => Mode::Word(Letters::Lse),
+            Letters::Lse => Mode::Word(Letters::Se),
+            Letters::Se => Mode::Word(Letters::E),
+            Letters::L | Letters::E => Mode::After,
         }
     }
 }

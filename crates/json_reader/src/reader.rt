@@ -2,15 +2,15 @@
 //!
 //! The machine says of each byte whether a value goes on with it, and the writer takes it in the same pass.
 
-ghost use Rattle.std.specs.Prelude.{◌≡◌, ℕ, ◌<◌, ◌≤◌, List, None, Err, length, drop, slice_index, IfOk};
+ghost use Rattle.std.specs.Prelude.{◌≡◌, ℕ, ◌+◌, ◌<◌, ◌≤◌, List, [], Err, length, drop, slice_index, IfOk, OnOk};
 ghost use Rattle.json_text.specs.Value.{Stands};
-ghost use Rattle.json_reader.specs.Machine.{step, ended, fault_of, top};
-ghost use Rattle.json_reader.specs.Writing.{Came, Fits, GoesOn, HasRead, IsRead, ReadsOn};
+ghost use Rattle.json_reader.specs.Writing.{Came, Ends, Fits, GoesOn, HasRead, IsBroken, IsRead, ReadsOn};
 ghost use Rattle.json_reader.specs.declared.fault.JsonFault.{JsonFault};
 ghost use Rattle.json_reader.specs.declared.machine.Machine.{Machine};
 
 use crate::fault::JsonFault;
 use crate::machine::{Machine, Step};
+use crate::staying::Ground;
 use crate::writing::Writer;
 use board_io::Stop;
 use json_text::Raw;
@@ -81,9 +81,7 @@ impl Reader {
     pub(crate) fn finish(self, bytes: &[u8], place: usize) -> Result<Raw, Stop<JsonFault>>
         requires { (at : ℕ) × IsRead bytes.now at self × (self.next ≡ length bytes.now) }
         ensures value { IfOk result (λ value. (at : ℕ) → IsRead bytes.now at self → Stands (drop at bytes.now) value (drop self.next bytes.now)) }
-        ensures undone { (fault : JsonFault) → result ≡ Err (Stop.Fault fault) → step 128 self.machine.mode self.machine.brackets 32 ≡ ended 32 → ⊥ }
-        ensures fault { (fault : JsonFault) → result ≡ Err (Stop.Fault fault)
-            → fault ≡ fault_of self.machine.mode (top self.machine.brackets) None place }
+        ensures fault { (fault : JsonFault) → result ≡ Err (Stop.Fault fault) → (at : ℕ) → IsRead bytes.now at self → IsBroken (drop at bytes.now) [] place fault }
     {
         let Reader {
             machine,
@@ -100,15 +98,15 @@ impl Reader {
 
 /// The value that stands before an offset.
 fn value_of(writer: Writer, bytes: &[u8], end: usize) -> Result<Raw, AllocError>
-    requires { (at : ℕ) × (machine : Machine) × HasRead bytes.now at end machine writer × ((text : List ℕ) × Stands (drop at bytes.now) text (drop end bytes.now)) }
-    ensures { IfOk result (λ value. (at : ℕ) (machine : Machine) (text : List ℕ) → HasRead bytes.now at end machine writer
-        → Stands (drop at bytes.now) text (drop end bytes.now) → text ≡ value) }
+    requires { (at : ℕ) × (machine : Machine) × HasRead bytes.now at end machine writer × Ends machine.mode machine.brackets (drop end bytes.now) }
+    ensures { IfOk result (λ value. (at : ℕ) (machine : Machine) → HasRead bytes.now at end machine writer
+        → Ends machine.mode machine.brackets (drop end bytes.now) → Stands (drop at bytes.now) value (drop end bytes.now)) }
 {
     Ok(Raw::from_compact(writer.into_text(bytes, end)?)?)
 }
 
-/// Writes the byte at an offset, which the machine has taken, and takes the bytes behind it that are taken together with
-/// it. It gives the offset after them.
+/// Writes the byte at an offset, which the machine has taken, and takes the stretch behind it that leaves the machine as it
+/// is. It gives the offset after them.
 #[inline(always)]
 fn take(
     alloc: Global,
@@ -123,18 +121,33 @@ fn take(
     ensures read { IfOk result (λ end. (at : ℕ) (before : Machine) → HasRead bytes.now at next before writer.old
         → GoesOn before (slice_index bytes.now next) machine.old → HasRead bytes.now at end machine.new writer.new) }
 {
-    writer.put(alloc, bytes, next)?;
+    put(alloc, machine, writer, bytes, next)?;
     let end = pass(machine, writer, bytes, next + 1)?;
-    if bytes[next] == b'"' {
-        end_string(alloc, machine, writer, bytes, end)
-    } else {
-        Ok(end)
-    }
+    follow(alloc, machine, writer, bytes, end)
 }
 
-/// Takes the end of a string and the colon behind a name, and a space behind that, where they stand at an offset.
+/// Writes the byte at an offset, which the machine has taken.
 #[inline(always)]
-fn end_string(
+fn put(
+    alloc: Global,
+    machine: &Machine,
+    writer: &mut Writer,
+    bytes: &[u8],
+    next: usize,
+) -> Result<(), AllocError>
+    requires within { next < length bytes.now }
+    requires read { (at : ℕ) × (before : Machine) × HasRead bytes.now at next before writer.old × GoesOn before (slice_index bytes.now next) machine.now }
+    ensures { OnOk result ((at : ℕ) (before : Machine) → HasRead bytes.now at next before writer.old
+        → GoesOn before (slice_index bytes.now next) machine.now → HasRead bytes.now at (next + 1) machine.now writer.new) }
+{
+    writer.put(alloc, bytes, next)?;
+    Ok(())
+}
+
+/// Takes what most often follows at an offset, with the strings that begin there up to a character that is escaped or isn't
+/// ASCII. It gives the offset after that.
+#[inline(always)]
+fn follow(
     alloc: Global,
     machine: &mut Machine,
     writer: &mut Writer,
@@ -145,11 +158,40 @@ fn end_string(
     ensures { IfOk result (λ end. ReadsOn bytes.now at machine.old writer.old end machine.new writer.new) }
 {
     let mut next = at;
-    while next < bytes.len() && machine.end_string(bytes[next]) {
-        writer.put(alloc, bytes, next)?;
+    while next < bytes.len() && machine.follow(bytes[next]) {
+        put(alloc, machine, writer, bytes, next)?;
         next += 1;
+        if matches!(writer.ground(), Ground::Quoted) {
+            next = finish_string(alloc, machine, writer, bytes, next)?;
+        }
     }
     Ok(next)
+}
+
+/// Takes what is left of a string, up to a character that is escaped or isn't ASCII, its end, and the colon behind a name.
+/// It gives the offset after that.
+#[inline(always)]
+fn finish_string(
+    alloc: Global,
+    machine: &mut Machine,
+    writer: &mut Writer,
+    bytes: &[u8],
+    at: usize,
+) -> Result<usize, AllocError>
+    requires { (from : ℕ) × HasRead bytes.now from at machine.old writer.old }
+    ensures { IfOk result (λ end. ReadsOn bytes.now at machine.old writer.old end machine.new writer.new) }
+{
+    let end = pass(machine, writer, bytes, at)?;
+    if end == bytes.len() || !machine.end_string(bytes[end]) {
+        return Ok(end);
+    }
+    put(alloc, machine, writer, bytes, end)?;
+    let next = end + 1;
+    if next == bytes.len() || !machine.end_name(bytes[next]) {
+        return Ok(next);
+    }
+    put(alloc, machine, writer, bytes, next)?;
+    Ok(next + 1)
 }
 
 /// Takes the stretch from `at` on that leaves the machine as it is, and gives the offset after it.

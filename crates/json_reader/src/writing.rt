@@ -6,7 +6,7 @@
 ghost use Rattle.std.specs.Prelude.{◌≡◌, ℕ, ◌+◌, ◌<◌, ◌≤◌, List, [], ◌++◌, true, false, length, slice_index, IfOk, OnOk};
 ghost use Rattle.json_text.specs.Walk.{outside, inside};
 ghost use Rattle.json_reader.specs.Drafts.{fresh, grown};
-ghost use Rattle.json_reader.specs.Writing.{between, deed, deed_at, stretch, copied, ground_of, writing_at, AreAlike, Can, CanPut, Fits, HasPut, Ready};
+ghost use Rattle.json_reader.specs.Writing.{between, deed, deed_at, stretch, copied, ground_of, writing_at, AreAlike, Can, Fits, HasPut, Ready};
 ghost use Rattle.json_reader.specs.declared.writing.Deed.TheVariants.{Skip, Begin, Finish, Open, Shut, Name, Part, Deepen, Rise, Push};
 
 use crate::draft::Draft;
@@ -100,7 +100,7 @@ impl Writer {
     pub(crate) fn put(&mut self, alloc: Global, bytes: &[u8], next: usize) -> Result<(), AllocError>
         requires within { next < length bytes.now }
         requires fits { Fits next self.old }
-        requires can { CanPut bytes.now next self.old }
+        requires can { Can (deed_at (writing_at bytes.now next self.old) (slice_index bytes.now next)) (writing_at bytes.now next self.old) (slice_index bytes.now next) }
         ensures { OnOk result (HasPut (deed_at (writing_at bytes.now next self.old) (slice_index bytes.now next)) bytes.now next self.old self.new) }
     {
         if self.quoted {

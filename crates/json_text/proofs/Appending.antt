@@ -1,5 +1,6 @@
 -- What stands behind the bytes that were there.
 use Rattle.std.proofs.Common.{◌≡◌, ℕ, List, [], ◌++◌, sym, ap, ◌∙◌, append_assoc, append-nil, Result, Ok, Err, OnErr}
+use Rattle.std.proofs.lemmas.Result.{on_err_weaker}
 use Rattle.json_text.specs.Appending.{Extends}
 
 -- bytes that are as before, and those behind which some were appended
@@ -18,9 +19,7 @@ on_err (Ok a) p = tt
 on_err (Err e) p = p
 
 pub on_err_same : {A E : Type 0} (r : Result A E) (a b : List ℕ) → OnErr r (b ≡ a) → OnErr r (Extends a b)
-on_err_same (Ok x) a b h = tt
-on_err_same (Err x) a b h = extends_same a b h
+on_err_same r a b = on_err_weaker r (extends_same a b)
 
 pub on_err_then : {A E : Type 0} (r : Result A E) (a b c : List ℕ) → Extends a b → OnErr r (Extends b c) → OnErr r (Extends a c)
-on_err_then (Ok x) a b c one two = tt
-on_err_then (Err x) a b c one two = extends_then a b c one two
+on_err_then r a b c one = on_err_weaker r (extends_then a b c one)

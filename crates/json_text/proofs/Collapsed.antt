@@ -1,5 +1,5 @@
 -- Members of an object whose names are kept once.
-use Rattle.std.proofs.Common.{◌≡◌, ℕ, List, [], ◌∷◌, ◌++◌, Bool, true, false, if◌then◌else◌, refl, sym, ◌∙◌, filter, bytes_eq, arith}
+use Rattle.std.proofs.Common.{◌≡◌, ℕ, List, [], ◌∷◌, ◌++◌, Bool, true, false, if◌then◌else◌, refl, sym, ◌∙◌, filter, map, bytes_eq, arith}
 use Rattle.std.proofs.lemmas.Bool.{false_from_ne_true, false≢true}
 use Rattle.std.proofs.lemmas.Map.Made.{IsDistinct-keys_filter}
 use Rattle.std.proofs.lemmas.Slice.Eq.{bytes_eq-Decides}
@@ -37,7 +37,7 @@ filter-All : (P : Member → Type 0) (p : Member → Bool) (ms : List Member) �
 filter-All P p [] h = tt
 filter-All P p (m ∷ ms) h = grind (arith, filter-All P p ms)
 
-last_value-All : (P : List ℕ → Type 0) (name value : List ℕ) (ms : List Member) → P value → AllByRecursion (λ m. P m.1) ms → P (last_value name value ms)
+last_value-All : (P : List ℕ → Type 0) (name value : List ℕ) (ms : List Member) → P value → AllByRecursion P (map (λ m. m.1) ms) → P (last_value name value ms)
 last_value-All P name value [] here h = here
 last_value-All P name value (m ∷ ms) here h = grind (arith, last_value-All P name m.1 ms, last_value-All P name value ms)
 
@@ -45,7 +45,7 @@ pub collapsed-names : (P : List ℕ → Type 0) (ms : List Member) → AllByRecu
 collapsed-names P [] h = tt
 collapsed-names P (m ∷ ms) h = (h.0, filter-All (λ m. P m.0) (has_other_name m.0) (collapsed ms) (collapsed-names P ms h.1))
 
-pub collapsed-values : (P : List ℕ → Type 0) (ms : List Member) → AllByRecursion (λ m. P m.1) ms → AllByRecursion (λ m. P m.1) (collapsed ms)
+pub collapsed-values : (P : List ℕ → Type 0) (ms : List Member) → AllByRecursion P (map (λ m. m.1) ms) → AllByRecursion (λ m. P m.1) (collapsed ms)
 collapsed-values P [] h = tt
 collapsed-values P (m ∷ ms) h = grind (arith, last_value-All P m.0 m.1 ms, filter-All (λ n. P n.1) (has_other_name m.0), collapsed-values P ms)
 
@@ -96,13 +96,5 @@ filter-insert_entry-other name value other (m ∷ ms) apart = grind (arith, filt
 -- one more member at the end
 pub collapsed-push : (ms : List Member) (name value : List ℕ) → collapsed (ms ++ (name, value) ∷ []) ≡ insert_entry (collapsed ms) name value
 collapsed-push [] name value = refl
-collapsed-push (m ∷ ms) name value = grind (
-  arith,
-  last_value-push m.0 m.1 ms (name, value),
-  collapsed-push ms name value,
-  bytes_eq-true m.0 name,
-  bytes_eq-same name,
-  bytes_eq-flip m.0 name,
-  filter-insert_entry-same name value (collapsed ms),
-  filter-insert_entry-other name value m.0 (collapsed ms),
-)
+collapsed-push (m ∷ ms) name value =
+    grind (arith, last_value-push, collapsed-push ms name value, bytes_eq-true m.0 name, bytes_eq-same, bytes_eq-flip, filter-insert_entry-same, filter-insert_entry-other)

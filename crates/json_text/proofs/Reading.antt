@@ -1,15 +1,70 @@
--- A text is read in one way alone: trees whose spellings begin one text are equal, and so is what follows them.
-use Rattle.std.proofs.Common.{◌≡◌, ℕ, List, [], ◌∷◌, ◌++◌, Bool, true, false, ◌||◌, ◌==◌, refl, sym, ap, ◌∙◌, eqb, arith, append_assoc, ◌⊎◌, inl, inr, flat_map}
-use Rattle.std.proofs.lemmas.Bool.{and_parts, both_ways}
+-- Numbers and words; and that a text is read in one way alone: trees whose spellings begin one text are equal, and so is
+-- what follows them.
+use Rattle.std.proofs.Common.{◌≡◌, ℕ, List, [], ◌∷◌, ◌++◌, Bool, true, false, ◌||◌, ◌==◌, refl, sym, ap, ◌∙◌, eqb, arith, append_assoc, ◌⊎◌, flat_map, ◌<◌, ◌^◌, not, ◌&&◌, subst, decimal, get_or, append-nil, eq-zero-or-pos, inl, inr, ⊎_elim}
+use Rattle.std.proofs.lemmas.Bool.{and_parts, both_ways, or_left}
 use Rattle.std.proofs.lemmas.Bool.Decides.{nat_tests}
 use Rattle.std.specs.List.{list_all}
-use Rattle.json_text.specs.Characters.{is_digit, is_space, is_blank}
-use Rattle.json_text.specs.Tree.{Piece, piece_spelling, Container, array, object, opening, closing, Label, unnamed, named, label_spelling, Tree, scalar, text, empty, filled, Values, last, next, IsNumber, IsWord, IsGood, AreGood, IsLabel, spelling, values_spelling}
+use Rattle.std.specs.Str.Parse.{AllDigits}
+use Rattle.std.proofs.lemmas.Fmt.{decimal_digit, decimal_is_IsNumeral, first_decimal}
+use Rattle.std.proofs.lemmas.List.Folds.{list_all-append}
+use Rattle.std.proofs.lemmas.Str.Parse.{tells_digits}
+use Rattle.json_text.specs.Characters.{is_digit, is_space, is_blank, is_opening, is_closing}
+use Rattle.json_text.specs.Tree.{Piece, piece_spelling, Container, array, object, opening, closing, Label, unnamed, named, label_spelling, Tree, scalar, text, empty, filled, Values, last, next, IsNumber, IsWord, IsGood, AreGood, IsLabel, spelling, values_spelling, IsSign, IsIntegerPart, IsFraction, IsExponent}
 use Rattle.json_text.specs.Compact.{compact}
 use Rattle.json_text.specs.Value.{extends_number, Follows, Stands}
-use Rattle.json_text.proofs.Literals.{number-extends}
 use Rattle.json_text.proofs.Strings.{pieces-once, heads-differ}
 
+-- a byte that is no white space and neither opens, ends nor parts a value
+abbrev pub is_part_of_literal : ℕ → Bool
+is_part_of_literal b = not (is_space b) && (not (b == 34) && (not (b == 44 || b == 58) && (not (is_opening b) && not (is_closing b))))
+
+-- what holds of each byte
+pub list_all-each : (p q : ℕ → Bool) → ((b : ℕ) → p b ≡ true → q b ≡ true) → (xs : List ℕ) → list_all p xs ≡ true → list_all q xs ≡ true
+list_all-each p q all [] h = refl
+list_all-each p q all (x ∷ xs) h = grind (arith, all x, list_all-each p q all xs)
+
+-- ---- each byte of a number may go on with one
+digits-extend : (s : List ℕ) → list_all is_digit s ≡ true → list_all extends_number s ≡ true
+digits-extend = list_all-each is_digit extends_number (λ b h. or_left (is_digit b) _ h)
+
+exponent-extends : (s : List ℕ) → IsExponent s → list_all extends_number s ≡ true
+exponent-extends s h = grind (arith, nat_tests, digits-extend, list_all-append extends_number)
+
+pub number-extends : (s : List ℕ) → IsNumber s → list_all extends_number s ≡ true
+number-extends s n =
+    let signed : list_all extends_number n.sign ≡ true = let h = n.signed in grind (arith, nat_tests) in
+    let counted : list_all extends_number n.whole ≡ true = let h = n.counted in grind (arith, nat_tests, digits-extend) in
+    let parted : list_all extends_number n.fraction ≡ true = let h = n.parted in grind (arith, nat_tests, digits-extend) in
+    rw (n.spells, list_all-append, list_all-append, list_all-append, signed, counted, parted, exponent-extends n.exponent n.scaled) refl
+
+-- ---- neither numbers nor words open, end or part a value
+pub literal-plain : (s : List ℕ) → IsNumber s ⊎ IsWord s → list_all is_part_of_literal s ≡ true
+literal-plain s (inl n) = list_all-each extends_number is_part_of_literal (λ b h. grind (arith, nat_tests)) s (number-extends s n)
+literal-plain s (inr word) = grind (arith, nat_tests)
+
+-- ---- how numbers are spelled
+-- four parts spell a number, and a whole part alone does
+pub number : (sign whole fraction exponent : List ℕ) → IsSign sign → IsIntegerPart whole → IsFraction fraction → IsExponent exponent → IsNumber (sign ++ (whole ++ (fraction ++ exponent)))
+number sign whole fraction exponent s w f e =
+    record { sign = sign; whole = whole; fraction = fraction; exponent = exponent; spells = refl; signed = s; counted = w; parted = f; scaled = e }
+
+pub whole_number : (s : List ℕ) → IsIntegerPart s → IsNumber s
+whole_number s w = subst IsNumber (append-nil s) (number [] s [] [] (inl refl) w (inl refl) (inl refl))
+
+-- a printed number is a number: `0` alone, or digits that don't begin with `0`
+digits-pass : (ds : List ℕ) → AllDigits 10 ds → list_all is_digit ds ≡ true
+digits-pass [] h = refl
+digits-pass (d ∷ ds) h = let both = tells_digits.parts d ds h in grind (arith, nat_tests, digits-pass ds)
+
+positive_part : (ds : List ℕ) → 48 < get_or ds 0 0 → list_all is_digit ds ≡ true → IsIntegerPart ds
+positive_part [] above all = absurd (omega arith)
+positive_part (d ∷ ds) above all = inr (d, ds, refl, omega arith, all)
+
+pub decimal-number : (n : ℕ) → n < 2 ^ 64 → IsNumber (decimal n)
+decimal-number n h = whole_number (decimal n)
+    (⊎_elim (λ e. inl (rw e (decimal_digit 0 (omega arith)))) (λ p. positive_part _ (first_decimal n p h) (digits-pass _ (decimal_is_IsNumeral n h).0.1)) (eq-zero-or-pos n))
+
+-- ---- what stands first, and what stops a run
 -- the list is empty, or its first number fails the test
 abbrev pub Stops : (ℕ → Bool) → List ℕ → Type 0
 Stops p [] = Unit {0}
@@ -74,11 +129,9 @@ Follows-Stops s [] n h = tt
 Follows-Stops s (b ∷ bs) n h = h n
 
 scalar-once : (s u r t : List ℕ) → IsNumber s ⊎ IsWord s → IsNumber u ⊎ IsWord u → Follows s r → Follows u t → s ++ r ≡ u ++ t → (s ≡ u) × (r ≡ t)
-scalar-once s u r t (inl n) (inl m) before after e =
-    run-once extends_number s u r t (number-extends s n) (number-extends u m) (Follows-Stops s r n before) (Follows-Stops u t m after) e
-scalar-once s u r t (inl n) (inr w) before after e = grind (arith, nat_tests, number-Head s n)
-scalar-once s u r t (inr w) (inl n) before after e = grind (arith, nat_tests, number-Head u n)
-scalar-once s u r t (inr w) (inr v) before after e = grind arith
+scalar-once s u r t good fine before after e =
+    let numbers = λ (n : IsNumber s) (m : IsNumber u). run-once extends_number s u r t (number-extends s n) (number-extends u m) (Follows-Stops s r n before) (Follows-Stops u t m after) e in
+    grind (arith, nat_tests, number-Head s, number-Head u, numbers)
 
 -- what follows a value in a container: white space and then a byte that no number goes on with
 pub space-ends : (b : ℕ) → is_space b ≡ true → extends_number b ≡ false
@@ -200,9 +253,7 @@ mutual
 -- At the front of a text stands one value at most.
 pub Stands-once : {bytes a b r s : List ℕ} → Stands bytes a r → Stands bytes b s → (a ≡ b) × (r ≡ s)
 Stands-once {bytes} {a} {b} {r} {s} x y =
-    let t = x.reads.tree in
-    let u = y.reads.tree in
-    let space = run-once is_space x.blank y.blank (spelling t ++ r) (spelling u ++ s) x.space y.space (tree-Stops t r x.reads.good) (tree-Stops u s y.reads.good)
-    (rw (x.reads.spells, y.reads.spells) (sym x.parts ∙ y.parts)) in
-    let tree = tree-once t u r s x.reads.good y.reads.good (rw (← x.reads.spells) at x.ends) (rw (← y.reads.spells) at y.ends) space.1 in
-    (sym x.reads.means ∙ ap compact tree.0 ∙ y.reads.means, tree.1)
+    let t = x.reads in let u = y.reads in
+    let space = run-once is_space x.blank y.blank _ _ x.space y.space (tree-Stops t.tree r t.good) (tree-Stops u.tree s u.good) (rw (t.spells, u.spells) (sym x.parts ∙ y.parts)) in
+    let tree = tree-once t.tree u.tree r s t.good u.good (rw (← t.spells) at x.ends) (rw (← u.spells) at y.ends) space.1 in
+    (sym t.means ∙ ap compact tree.0 ∙ u.means, tree.1)

@@ -1,13 +1,13 @@
 -- Strings: what their pieces stand for is UTF-8, and each text of UTF-8 has a quote made of pieces.
-use Rattle.std.proofs.Common.{◌≡◌, ◌≢◌, ◌<◌, ◌≤◌, ℕ, ◌/◌, ◌%◌, List, [], ◌∷◌, ◌++◌, true, false, ◌&&◌, ◌||◌, ◌==◌, nat_le, if◌then◌else◌, refl, ap, ◌∙◌, eqb, arith, map, flat_map, IsUtf8, encode_utf8_all, append_assoc}
+use Rattle.std.proofs.Common.{◌≡◌, ◌≢◌, ◌<◌, ℕ, List, [], ◌∷◌, ◌++◌, true, ◌&&◌, refl, ap, ◌∙◌, eqb, arith, map, flat_map, IsUtf8, encode_utf8_all, append_assoc, append-nil, one-add, take, drop, take_all, drop_of_length-le, position, None, false, ◌+◌, add-one, get_or, length, drop-cons, Some}
 use Rattle.std.proofs.lemmas.Bool.{eqb-false}
 use Rattle.std.proofs.lemmas.Bool.Decides.{nat_tests}
 use Rattle.std.proofs.lemmas.Str.{encode_ascii, encode_same}
 use Rattle.std.proofs.lemmas.List.Concat.{flat_map-append}
 use Rattle.std.specs.Char.{IsScalar, encode_utf8}
-use Rattle.std.specs.List.{AllByRecursion, list_all}
+use Rattle.std.specs.List.{AllByRecursion, list_all, position_or_len}
 use lib.Utf8.{scalar, scalars}
-use Rattle.json_text.specs.Characters.{hex_digit, hex_value, is_hex, is_plain, quote, quoted_byte}
+use Rattle.json_text.specs.Characters.{hex_value, is_hex, is_plain, needs_escape, quote, quoted_byte}
 use Rattle.json_text.specs.Tree.{Piece, bare, letter, unit, IsPiece, piece_spelling, string_spelling}
 use Rattle.json_text.specs.Compact.{piece_value, is_high, is_low, paired, lone, characters, content}
 
@@ -38,39 +38,48 @@ content-utf8 ps h = (characters (map piece_value ps), (characters-scalars ps h, 
 pub lone-same : (u : ℕ) → scalar u ≡ true → lone u ≡ u
 lone-same u h = grind (arith, nat_tests)
 
-pub characters-same : (us : List ℕ) → scalars us ≡ true → characters us ≡ us
+pub lone-first : (u : ℕ) (us : List ℕ) → scalar u ≡ true → characters (u ∷ us) ≡ u ∷ characters us
+lone-first u [] h = rw (lone-same u h) refl
+lone-first u (v ∷ us) h = grind (arith, nat_tests)
+
+characters-same : (us : List ℕ) → scalars us ≡ true → characters us ≡ us
 characters-same [] h = refl
-characters-same (u ∷ []) h = grind (arith, nat_tests)
-characters-same (u ∷ v ∷ us) h = grind (arith, nat_tests, characters-same (v ∷ us))
+characters-same (u ∷ us) h = grind (arith, lone-first u us, characters-same us)
 
 -- the piece by which a character stands in a quote
+abbrev piece_with : ℕ → List ℕ → Piece
+piece_with c (a ∷ b ∷ []) = letter b
+piece_with c (a ∷ b ∷ d ∷ e ∷ f ∷ g ∷ []) = unit d e f g
+piece_with c bytes = bare c
+
 abbrev pub piece_of : ℕ → Piece
-piece_of c =
-    if c == 34 || c == 92 then letter c
-    else (if nat_le 32 c then bare c
-    else (if c == 8 then letter 98
-    else (if c == 9 then letter 116
-    else (if c == 10 then letter 110
-    else (if c == 12 then letter 102
-    else (if c == 13 then letter 114
-    else unit 48 48 (hex_digit (c / 16)) (hex_digit (c % 16))))))))
-
-high_bytes : (c : ℕ) → 128 ≤ c → AllByRecursion (λ b. 128 ≤ b) (encode_utf8 c)
-unfolding encode_utf8
-high_bytes c h = grind (arith, nat_tests)
-
-quoted-same : (bs : List ℕ) → AllByRecursion (λ b. 128 ≤ b) bs → flat_map quoted_byte bs ≡ bs
-quoted-same [] h = refl
-quoted-same (b ∷ bs) h = grind (arith, nat_tests, quoted-same bs)
+piece_of c = piece_with c (quoted_byte c)
 
 -- the bytes of a character other than `"` and `\` are others too
 pub plain-bare : (c : ℕ) → c ≢ 34 → c ≢ 92 → list_all is_plain (encode_utf8 c) ≡ true
 unfolding encode_utf8
 plain-bare c a b = grind (arith, nat_tests)
 
+-- the bytes before the first that needs an escape are copied
+pub plain_front : (xs : List ℕ) →
+    flat_map quoted_byte xs ≡ take (position_or_len needs_escape xs) xs ++ flat_map quoted_byte (drop (position_or_len needs_escape xs) xs)
+plain_front [] = refl
+plain_front (x ∷ xs) = rw one-add (grind (arith, nat_tests, plain_front xs))
+
+pub quoted-None : (xs : List ℕ) → None ≡ position needs_escape xs → flat_map quoted_byte xs ≡ xs
+quoted-None xs h = grind (arith, nat_tests, plain_front xs, take_all (position_or_len needs_escape xs) xs, drop_of_length-le xs, append-nil xs)
+
+-- the bytes before the first that needs an escape, that byte and the others
+pub quoted-Some : (xs : List ℕ) (k : ℕ) → Some k ≡ position needs_escape xs →
+    (k < length xs) × (flat_map quoted_byte xs ≡ take k xs ++ (quoted_byte (get_or xs k 0) ++ flat_map quoted_byte (drop (k + 1) xs)))
+quoted-Some xs k h =
+    let first : (k < length xs) × (k ≡ position_or_len needs_escape xs) = grind (arith, nat_tests) in
+    (first.0, plain_front xs ∙ rw (← first.1) (rw (drop-cons xs k 0 first.0, add-one) refl))
+
 -- a character that stands in a string as it is stands so in a quote too
 pub quoted-bare : (c : ℕ) → IsPiece (bare c) → flat_map quoted_byte (encode_utf8 c) ≡ encode_utf8 c
-quoted-bare c h = grind (arith, nat_tests, encode_ascii c, quoted-same (encode_utf8 c), high_bytes c)
+unfolding encode_utf8
+quoted-bare c h = let none : None ≡ position needs_escape (encode_utf8 c) = grind (arith, nat_tests) in quoted-None (encode_utf8 c) none
 
 -- how a character stands in a quote, and a list of characters
 scalar-quoted : (c : ℕ) → IsScalar c → IsPiece (piece_of c) × (piece_value (piece_of c) ≡ c) × (piece_spelling (piece_of c) ≡ flat_map quoted_byte (encode_utf8 c))
@@ -90,14 +99,12 @@ pub record Quotes (text : List ℕ) : Type 0 where
 
 pub utf8-Quotes : (text : List ℕ) → IsUtf8 text → Quotes text
 unfolding quote content
-utf8-Quotes text (cs, (ok, e)) =
-    let all = scalars-quoted cs ok in
-    record {
-      pieces = map piece_of cs;
-      good = all.0;
-      spells = ap (λ s. 34 ∷ (s ++ 34 ∷ [])) (all.2 ∙ ap (flat_map quoted_byte) e);
-      means = rw (all.1, characters-same cs ok) e;
-    }
+utf8-Quotes text (cs, (ok, e)) = let all = scalars-quoted cs ok in record {
+  pieces = map piece_of cs;
+  good = all.0;
+  spells = ap (λ s. 34 ∷ (s ++ 34 ∷ [])) (all.2 ∙ ap (flat_map quoted_byte) e);
+  means = rw (all.1, characters-same cs ok) e;
+}
 
 -- two lists whose first numbers differ
 pub heads-differ : (a b : ℕ) (s t : List ℕ) → eqb a b ≡ false → a ∷ s ≡ b ∷ t → ⊥
@@ -134,4 +141,4 @@ plain-slash b h = grind (arith, nat_tests)
 pub hex-plain : (b : ℕ) → is_hex b ≡ true → is_plain b ≡ true
 hex-plain b h = grind (arith, nat_tests)
 
-pub ruleset digit_steps = (four-hex)
+pub ruleset string_steps = (quoted-None, quoted-Some, four-hex)

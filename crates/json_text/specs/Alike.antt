@@ -2,12 +2,8 @@
 use Rattle.std.specs.Prelude.{◌≡◌, ℕ, List, [], ◌∷◌, not, false, bytes_eq, filter, if◌then◌else◌}
 use Rattle.std.specs.List.{list_any}
 use Rattle.json_text.specs.Tree.{Tree, scalar, text, empty, filled, array, object, Values, last, next}
-use Rattle.json_text.specs.Compact.{content, label_name}
-
--- the names of an object's members, as they come
-abbrev pub value_names : Values → List (List ℕ)
-value_names (last label value blank) = label_name label ∷ []
-value_names (next label value blank values) = label_name label ∷ value_names values
+use Rattle.json_text.specs.Compact.{content, label_name, members}
+use Rattle.json_text.specs.Parts.{names_of}
 
 -- each name once, at its first place
 abbrev pub first_names : List (List ℕ) → List (List ℕ)
@@ -30,7 +26,7 @@ abbrev mutual
   AreAlike (empty container blank) (empty other more) = container ≡ other
   AreAlike (filled array values) (filled array others) = AreItemsAlike values others
   AreAlike (filled object values) (filled object others) =
-      (first_names (value_names values) ≡ first_names (value_names others)) × AreLastAlike values others
+      (first_names (names_of (members values)) ≡ first_names (names_of (members others))) × AreLastAlike values others
   AreAlike _ _ = ⊥
 
   -- there are as many items, and they are alike one by one
@@ -44,6 +40,6 @@ abbrev mutual
   pub AreLastAlike : Values → Values → Type 0
   AreLastAlike (last label value blank) others = AreAlike value (last_named (label_name label) value others)
   AreLastAlike (next label value blank values) others =
-      (list_any (bytes_eq (label_name label)) (value_names values) ≡ false
+      (list_any (bytes_eq (label_name label)) (names_of (members values)) ≡ false
       → AreAlike value (last_named (label_name label) value others))
       × AreLastAlike values others

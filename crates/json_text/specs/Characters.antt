@@ -26,6 +26,14 @@ is_closing b = b == 93 || b == 125
 abbrev pub ends_value : ℕ → Bool
 ends_value b = b == comma || is_closing b
 
+-- a byte that plays no part in where a container ends: no quotation mark and no bracket
+abbrev pub is_quiet : ℕ → Bool
+is_quiet b = not (b == quotation_mark) && (not (is_opening b) && not (is_closing b))
+
+-- a byte that plays no part in where a value ends: no comma either
+abbrev pub is_inert : ℕ → Bool
+is_inert b = not (b == quotation_mark) && (not (is_opening b) && not (ends_value b))
+
 -- white space: a space, a tab, a line feed or a carriage return. RFC 8259, section 2.
 abbrev pub is_space : ℕ → Bool
 is_space b = b == 32 || (b == 9 || (b == 10 || b == 13))
@@ -52,6 +60,10 @@ hex_digit n = if nat_lt n 10 then n + 48 else n + 87
 -- a byte that neither ends a string nor begins an escape. RFC 8259, section 7.
 abbrev pub is_plain : ℕ → Bool
 is_plain b = not (b == 34) && not (b == 92)
+
+-- an ASCII character that stands in a string as it is
+abbrev pub is_bare : ℕ → Bool
+is_bare b = nat_le 0x20 b && (nat_lt b 0x80 && (not (b == 34) && not (b == 92)))
 
 -- a byte that can't stand in a string as it is: a control character, `"` or `\`. RFC 8259, section 7.
 abbrev pub needs_escape : ℕ → Bool

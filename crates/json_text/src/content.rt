@@ -1,9 +1,9 @@
 //! The text of a string in a text that is known to be JSON.
 
 ghost use Rattle.std.specs.Prelude.{◌≡◌, ◌≢◌, ℕ, [], ◌∷◌, true, ◌+◌, ◌*◌, ◌^◌, ◌<◌, ◌≤◌, List, ◌++◌, drop, length, slice_get, slice_index, Some, IfOk, OnOk, IfSome, IfNone, encode_utf8};
-ghost use Rattle.std.specs.List.{prefix_len, list_all};
+ghost use Rattle.std.specs.List.{list_all};
 ghost use Rattle.json_text.specs.Characters;
-ghost use Rattle.json_text.specs.Characters.{is_hex, is_plain};
+ghost use Rattle.json_text.specs.Characters.{is_hex};
 ghost use Rattle.json_text.specs.Spans.{between};
 ghost use Rattle.json_text.specs.Tree.{unit, IsPiece};
 ghost use Rattle.json_text.specs.Compact.{lone, piece_value};
@@ -11,6 +11,7 @@ ghost use Rattle.json_text.specs.Compact;
 ghost use Rattle.json_text.specs.Tree;
 ghost use Rattle.json_text.specs.Walk.{Quoted, Unread, Takes, StartsWithUnit, unit_at};
 
+use crate::runs::run_end;
 use crate::text::{Raw, Text};
 use std::alloc::{AllocError, Global};
 
@@ -48,29 +49,8 @@ pub fn content_of(alloc: Global, bytes: &[u8], at: usize) -> Result<(Text, usize
     }
 }
 
-/// Where the first `"` or `\` stands from an offset on.
-pub fn run_end(bytes: &[u8], at: usize) -> usize
-    requires { at ≤ length bytes.now }
-    ensures value { result ≡ at + prefix_len is_plain (drop at bytes.now) }
-    ensures within { (at ≤ result) × (result ≤ length bytes.now) }
-{
-    for i in at..bytes.len() {
-        if !is_plain(bytes[i]) {
-            return i;
-        }
-    }
-    bytes.len()
-}
-
-/// A byte that stands in a string as it is. Most are letters.
-fn is_plain(byte: u8) -> bool
-    ensures { result ≡ is_plain byte }
-{
-    matches!(byte, b']'..) || !matches!(byte, b'"' | b'\\')
-}
-
 /// Appends the character of the escape at the front, or of a pair of surrogates, and tells how many bytes that takes.
-#[tactic(auto, using(crate::proofs::Escapes::escape_steps))]
+#[tactic(auto, using(crate::proofs::Contents::letter_takes))]
 fn push_escape(out: &mut Vec<u8>, rest: &[u8]) -> Result<usize, AllocError>
     requires unread { (text after : List ℕ) × Unread rest.now text after }
     requires escape { slice_index rest.now 0 ≡ 92 }
@@ -116,7 +96,7 @@ fn second_unit(first: u32, tail: &[u8]) -> Option<u32>
 }
 
 /// The number of four digits of base 16.
-#[tactic(auto, using(crate::proofs::Strings::digit_steps))]
+#[tactic(auto, using(crate::proofs::Strings::string_steps))]
 fn unit_of(a: u8, b: u8, c: u8, d: u8) -> u32
     requires { list_all is_hex (a ∷ b ∷ c ∷ d ∷ []) ≡ true }
     ensures value { result ≡ piece_value (unit a b c d) }

@@ -17,7 +17,7 @@ pub fn value_is_unique()
 {}
 
 /// A text that is one value is read whole, and its compact text is read as itself.
-#[tactic(auto, using(crate::proofs::Spellings::read_whole))]
+#[tactic(auto, using(crate::proofs::CompactLaws::read_whole))]
 pub fn value_is_read_whole()
     ensures whole { (bytes text : List ℕ) → Value 128 bytes text → Stands bytes text [] }
     ensures compact { (bytes text : List ℕ) → Value 128 bytes text → Stands text text [] }
@@ -25,7 +25,7 @@ pub fn value_is_read_whole()
 
 /// White space outside strings, the spelling of characters and the earlier values of repeated names, at any depth, play
 /// no part in the compact text.
-#[tactic(auto, using(crate::proofs::Spellings::read_alike))]
+#[tactic(auto, using(crate::proofs::CompactLaws::alike_compact, crate::proofs::CompactLaws::alike_stand))]
 pub fn spelling_and_earlier_values_play_no_part()
     ensures trees { (tree other : Tree) → AreAlike tree other → compact tree ≡ compact other }
     ensures texts { (tree other : Tree) → IsGood tree → IsGood other → depth tree ≤ 128 → depth other ≤ 128

@@ -6,12 +6,14 @@ pub mod laws;
 mod order;
 mod quote_bytes;
 mod quotes;
+mod runs;
 mod space;
 mod stretch;
 mod text;
 
-pub use content::{content_of, run_end, text_at};
+pub use content::{content_of, text_at};
 pub use quote_bytes::QuoteBytes;
 pub use quotes::{push_quote, push_quoted, whole_or_cut};
+pub use runs::{bare_end, inert_end, quiet_end, run_end};
 pub use space::{is_space, skip_space};
 pub use text::{Member, Raw, Text};

@@ -73,7 +73,7 @@ fn push_quote_parts(out: &mut Vec<u8>, text: &[u8]) -> Result<(), AllocError>
 }
 
 /// Appends what stands between the quotation marks. Bytes that stand for themselves are copied together.
-#[tactic(auto, using(crate::proofs::Appending::extends_same, crate::proofs::Appending::extends_by, crate::proofs::Appending::extends_then, crate::proofs::Quoting::quote_steps))]
+#[tactic(auto, using(crate::proofs::Appending::extends_same, crate::proofs::Appending::extends_by, crate::proofs::Appending::extends_then, crate::proofs::Strings::string_steps))]
 fn push_escaped(out: &mut Vec<u8>, text: &[u8]) -> Result<(), AllocError>
     ensures ok { OnOk result (out.new.items ≡ out.old.items ++ flat_map quoted_byte text.now) }
     ensures kept { OnErr result (Extends out.old.items out.new.items) }

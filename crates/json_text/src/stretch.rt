@@ -127,7 +127,7 @@ impl Stretch {
     }
 
     /// The bytes between two offsets. It takes no memory, and fails only as `try_clone` does.
-    #[tactic(auto, using(crate::proofs::Spans::span_steps))]
+    #[tactic(auto, using(crate::proofs::Spans::between_between, crate::proofs::Spans::quoted_between))]
     pub(crate) fn cut(&self, start: usize, end: usize) -> Result<Stretch, AllocError>
         requires { (start ≤ end) × (end ≤ length self.now) }
         ensures { IfOk result (λ stretch. stretch ≡ between self.now start end) }
@@ -140,7 +140,7 @@ impl Stretch {
     }
 
     /// The bytes between two offsets, with their quote around them. It takes no memory, and fails only as `try_clone` does.
-    #[tactic(auto, using(crate::proofs::Spans::span_steps))]
+    #[tactic(auto, using(crate::proofs::Spans::between_between, crate::proofs::Spans::quoted_between))]
     pub(crate) fn cut_quoted(&self, start: usize, end: usize) -> Result<Stretch, AllocError>
         requires { StandsQuoted self.now start end }
         ensures { IfOk result (λ stretch. stretch ≡ between self.now start end) }

@@ -1,17 +1,22 @@
 -- How the table is laid between given members. Only contracts of private functions cite this.
-use Rattle.std.specs.Prelude.{◌≡◌, ◌≢◌, ℕ, List, [], ◌∷◌, Option, Some, None, map, bytes_eq, if◌then◌else◌}
+use Rattle.std.specs.Prelude.{◌≡◌, ◌≢◌, ℕ, Bool, List, [], ◌∷◌, Option, Some, None, map, bytes_eq, if◌then◌else◌}
 use Rattle.std.specs.Cmp.Lexicographic.{slice_cmp}
 use Rattle.std.specs.List.{AllByRecursion, IsDistinct}
-use Rattle.std.specs.Ordering.{nat_cmp, match_ordering}
+use Rattle.std.specs.Ordering.{nat_cmp, is_lt, match_ordering}
 use Rattle.std.specs.Str.{IsUtf8}
 use Rattle.json_text.specs.Characters.{quote}
 use Rattle.json_text.specs.Compact.{Member as Pair, array_text}
 use Rattle.json_text.specs.Parts.{names_of}
 use Rattle.json_text.specs.Tree.{null_word}
+use Rattle.json_text.specs.declared.text.Member.{Member}
 use Rattle.scene_json.specs.Named.{value_at}
 use Rattle.scene_json.specs.TheOne.{IsTheOne}
 use Rattle.restore_table.specs.declared.table.Row.{Row}
 use Rattle.restore_table.specs.Restored.{HasOldListing, listing_name, old_name, listing_text}
+
+-- by their names
+abbrev pub comes_before : Member → Member → Bool
+comes_before a b = is_lt (slice_cmp nat_cmp a.name b.name)
 
 abbrev pub row_pair : Row → Pair
 row_pair row = (row.name.now, row.default.now)

@@ -1,11 +1,13 @@
 //! Members with the defaults of those that are missing.
 
 ghost use Rattle.std.specs.Prelude.{◌≡◌, ◌≤◌, ◌++◌, ℕ, List as Items, map, All, IfOk, OnOk, bytes_eq};
+ghost use Rattle.std.specs.Int.{w64, from_be_bytes};
 ghost use Rattle.std.specs.List.{IsDistinct, AllByRecursion};
+ghost use Rattle.std.specs.List.Sorted.{IsPermutation, IsSortedBy};
 ghost use Rattle.json_text.specs.Compact.{Member as Pair};
 ghost use Rattle.json_text.specs.Members.{pairs, pair_of};
 ghost use Rattle.json_text.specs.Value.{IsCompact};
-ghost use Rattle.restore_table.specs.Merged.{row_pair, chosen, spliced, merged};
+ghost use Rattle.restore_table.specs.Merged.{comes_before, row_pair, chosen, spliced, merged};
 ghost use Rattle.restore_table.specs.Restored.{AreRestored};
 ghost use Rattle.restore_table.specs.Table.{defaults};
 
@@ -36,8 +38,34 @@ pub fn into_restored(alloc: Global, members: List<Member>) -> Result<List<Member
         → IfOk result (λ restored. All (λ member. IsCompact limit member.value) restored) }
 {
     let mut members = updated(alloc, members)?;
-    members.sort_by(|a, b| a.name.cmp(&b.name))?;
+    sort_by_names(&mut members)?;
     Ok(List::from_vec(between_defaults(alloc, members)?))
+}
+
+/// Puts the members in the order of their names. Where they aren't in it, the fronts of the names are sorted first: they
+/// compare and move faster than members, and the sort that decides then finds little to do.
+fn sort_by_names(members: &mut Vec<Member>) -> Result<(), AllocError>
+    ensures permutation { IsPermutation members.old.items members.new.items }
+    ensures sorted { OnOk result (IsSortedBy comes_before members.new.items) }
+{
+    if members.is_sorted_by(|a, b| a.name <= b.name) {
+        return Ok(());
+    }
+    members.sort_by_cached_key(|member| front_of(member.name.as_bytes()))?;
+    members.sort_by(|a, b| a.name.cmp(&b.name))?;
+    Ok(())
+}
+
+/// The first 8 bytes of a name as one number, the first of them the highest, with zeros behind a shorter name.
+fn front_of(name: &[u8]) -> u64
+    ensures { result ≡ from_be_bytes w64 name.now }
+{
+    if let Some(bytes) = name.first_chunk() {
+        return u64::from_be_bytes(*bytes);
+    }
+    let mut bytes = [0; 8];
+    bytes[..name.len()].copy_from_slice(name);
+    u64::from_be_bytes(bytes)
 }
 
 /// The members, whose names rise, between the defaults of those that are missing; a null has its default.

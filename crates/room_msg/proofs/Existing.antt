@@ -10,7 +10,7 @@ use Rattle.json_reader.specs.declared.fault.JsonFault.TheVariants.{Syntax}
 use Rattle.scene_json.specs.Named.{value_at}
 use Rattle.json_text.proofs.Collapsed.{bytes_eq-true, bytes_eq-same}
 use Rattle.json_text.proofs.CompactLaws.{Value-compact}
-use Rattle.json_text.proofs.Decided.{array-or-not, object-or-not}
+use Rattle.json_text.proofs.Forms.{array-or-not, object-or-not}
 use Rattle.json_reader.proofs.Outcomes.{value-or-fault}
 use Rattle.elem.specs.ElementValue.{ElementValue}
 use Rattle.elem.specs.Forms.{IsObject}

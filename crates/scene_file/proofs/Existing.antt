@@ -9,7 +9,7 @@ use Rattle.json_text.specs.Value.{IsCompact, Stands}
 use Rattle.scene_json.specs.Named.{value_at, AreSameMembers, HaveRisingNames}
 use Rattle.json_text.proofs.Collapsed.{bytes_eq-true, bytes_eq-same}
 use Rattle.json_text.proofs.CompactLaws.{Value-compact}
-use Rattle.json_text.proofs.Decided.{array-or-not, object-or-not}
+use Rattle.json_text.proofs.Forms.{array-or-not, object-or-not}
 use Rattle.json_reader.proofs.Outcomes.{value-or-fault}
 use Rattle.scene_json.proofs.Rising.{tabled}
 use Rattle.elem.specs.Forms.{find_in, IsText, IsObject}

@@ -1,14 +1,15 @@
 -- Where a string ends.
-use Rattle.std.proofs.Common.{◌≡◌, ℕ, suc, ◌+◌, ◌<◌, ◌≤◌, min, get_or, drop, drop-drop, drop-cons, drop_of_length-le, length-drop, List, [], ◌∷◌, ◌++◌, Bool, true, false, not, ◌&&◌, ◌==◌, length, flat_map, refl, sym, ap, ◌∙◌, append_assoc, arith}
+use Rattle.std.proofs.Common.{◌≡◌, ◌≢◌, ℕ, ◌+◌, ◌<◌, ◌≤◌, min, get_or, drop, drop-drop, drop_of_length-le, length-drop, List, [], ◌∷◌, ◌++◌, Bool, true, false, not, ◌&&◌, ◌==◌, length, flat_map, refl, sym, ap, ◌∙◌, append_assoc, arith}
 use Rattle.std.specs.List.{list_all, AllByRecursion, prefix_len}
 use Rattle.std.specs.Char.{encode_utf8}
 use Rattle.std.proofs.lemmas.List.{get_or-drop}
-use Rattle.std.proofs.lemmas.List.Sums.{prefix_len-le-length, prefix_len_stops}
+use Rattle.std.proofs.lemmas.List.Sums.{prefix_len_stops}
 use Rattle.std.proofs.lemmas.Bool.Decides.{nat_tests}
 use Rattle.json_text.specs.Characters.{is_hex, is_plain}
 use Rattle.json_text.specs.Tree.{Piece, bare, letter, unit, IsPiece, piece_spelling}
 use Rattle.scene_json.specs.Passes.{behind_string}
-use Rattle.json_text.proofs.Literals.{list_all-each}
+use Rattle.scene_json.proofs.ItemsLeft.{front}
+use Rattle.json_text.proofs.Reading.{list_all-each}
 use Rattle.json_text.proofs.Strings.{plain-bare, hex-plain}
 
 pub length-behind_string : (escaped : Bool) (bs : List ℕ) → length (behind_string escaped bs) ≤ length bs
@@ -35,38 +36,30 @@ pub behind-run : (bs : List ℕ) → behind_string false (drop (prefix_len is_pl
 behind-run [] = refl
 behind-run (b ∷ bs) = grind (arith, nat_tests, drop-drop (prefix_len is_plain bs) 1 (b ∷ bs), behind-run bs)
 
--- Behind a run of plain bytes, what stands behind the string is still to come.
-pub record IsMarked (bytes : List ℕ) (next : ℕ) : Type 0 where
-  pub within : next ≤ length bytes
-  pub same : behind_string false (drop next bytes) ≡ behind_string false bytes
-  pub stops : next < length bytes → is_plain (get_or bytes next 0) ≡ false
-
-pub marked-run : (bytes : List ℕ) (at end : ℕ) → at ≤ length bytes → behind_string false (drop at bytes) ≡ behind_string false bytes → end ≡ at + prefix_len is_plain (drop at bytes)
-    → IsMarked bytes end
-marked-run bytes at end low same is =
-    let there : drop end bytes ≡ drop (prefix_len is_plain (drop at bytes)) (drop at bytes) = ap (λ k. drop k bytes) is ∙ sym (drop-drop (prefix_len is_plain (drop at bytes)) at bytes) in
-    record {
-      within = omega (arith, is, prefix_len-le-length is_plain (drop at bytes), length-drop at bytes);
-      same = ap (behind_string false) there ∙ behind-run (drop at bytes) ∙ same;
-      stops = λ low. rw (is, ← get_or-drop at bytes (prefix_len is_plain (drop at bytes)) 0) (prefix_len_stops is_plain (drop at bytes) 0 (omega (arith, length-drop at bytes)));
-    }
-
-pub marked_past : (bytes : List ℕ) (next : ℕ) → IsMarked bytes next → length bytes ≤ next → [] ≡ behind_string false bytes
-marked_past bytes next marked past = ap (behind_string false) (sym (drop_of_length-le bytes past)) ∙ marked.same
-
 -- the byte behind a `\` plays no part
 passed : (bs : List ℕ) → behind_string false (drop 1 bs) ≡ behind_string false (92 ∷ bs)
 passed [] = refl
 passed (b ∷ bs) = grind (arith, nat_tests)
 
--- behind the escape, of which the bytes may break off
-pub marked-next : (bytes : List ℕ) (next k end : ℕ) → end ≡ k + prefix_len is_plain (drop k bytes) → k ≡ min (length bytes) (next + 2) →
-    IsMarked bytes next → next < length bytes → (get_or bytes next 0 ≡ 34 → ⊥) → IsMarked bytes end
-marked-next bytes next k end run is marked high other =
-    let split = drop-cons bytes next 0 high in
-    let solid = marked.stops high in
-    let slash : get_or bytes next 0 ≡ 92 = grind (arith, nat_tests) in
-    let two : next + 2 ≡ suc next + 1 = omega arith in
-    let all : behind_string false (drop (next + 2) bytes) ≡ behind_string false bytes =
-    rw (two, ← drop-drop 1 (suc next) bytes) (passed (drop (suc next) bytes) ∙ ap (behind_string false) (sym (rw slash at split)) ∙ marked.same) in
-    marked-run bytes k end (omega (arith, is)) (grind (arith, all, drop_of_length-le)) run
+-- At the end of a run what stands behind the string is still to come: nothing where the bytes break off, or what follows
+-- its closing quotation mark, or what stands behind an escape.
+module _ (bytes : List ℕ) (at end : ℕ) (is : end ≡ at + prefix_len is_plain (drop at bytes)) (same : behind_string false (drop at bytes) ≡ behind_string false bytes) where
+  stopped : behind_string false (drop end bytes) ≡ behind_string false bytes
+  stopped =
+      let run = prefix_len is_plain (drop at bytes) in
+      ap (λ k. behind_string false (drop k bytes)) is ∙ ap (behind_string false) (sym (drop-drop run at bytes)) ∙ behind-run (drop at bytes) ∙ same
+
+  pub string_broken : length bytes ≡ end → [] ≡ behind_string false bytes
+  string_broken past = ap (behind_string false) (sym (drop_of_length-le bytes (omega arith))) ∙ stopped
+
+  pub string_closed : end < length bytes → get_or bytes end 0 ≡ 34 → drop (end + 1) bytes ≡ behind_string false bytes
+  string_closed within mark = ap (behind_string false) (sym (front bytes end within mark)) ∙ stopped
+
+  pub string_escaped : (next : ℕ) → end < length bytes → at ≤ length bytes → get_or bytes end 0 ≢ 34 → next ≡ min (length bytes) (end + 2) → behind_string false (drop next bytes) ≡ behind_string false bytes
+  string_escaped next within low other e =
+      let inside = prefix_len_stops is_plain (drop at bytes) 0 (omega (arith, length-drop at bytes)) in
+      let solid : is_plain (get_or bytes end 0) ≡ false = rw (is, ← get_or-drop at bytes (prefix_len is_plain (drop at bytes)) 0) inside in
+      let slash : get_or bytes end 0 ≡ 92 = grind (arith, nat_tests) in
+      let all : behind_string false (drop (end + 1 + 1) bytes) ≡ behind_string false bytes =
+      rw (← drop-drop 1 (end + 1) bytes) (passed (drop (end + 1) bytes) ∙ ap (behind_string false) (sym (front bytes end within slash)) ∙ stopped) in
+      grind (arith, all, drop_of_length-le)

@@ -8,7 +8,7 @@ mod Spread
 pub mod Laid
 pub mod ItemsLeft
 pub mod MembersLeft
-mod WalksLeft
+mod FirstBytes
 pub mod Pairs
 pub mod Lookups
 pub mod Rising

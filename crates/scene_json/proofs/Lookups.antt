@@ -1,5 +1,6 @@
 -- Looking members up by their names.
-use Rattle.std.proofs.Common.{◌≡◌, ℕ, zero, suc, ◌+◌, ◌<◌, List, [], ◌∷◌, length, drop, get_or, Some, None, Option, bytes_eq, refl, sym, subst, ap, ◌∙◌, true, false, nat_cmp, map, arith}
+use Rattle.std.proofs.Common.{◌≡◌, ℕ, zero, suc, ◌+◌, ◌<◌, List, [], ◌∷◌, length, drop, get_or, Some, None, bytes_eq, refl, sym, subst, ap, ◌∙◌, true, false, nat_cmp, map, cond, ◌↔◌, arith}
+use Rattle.std.proofs.lemmas.Float.{T_from_true}
 use Rattle.std.specs.Cmp.Lexicographic.{slice_cmp, nat_list_cmp_total, nat_list_eq_equiv, texts_ties}
 use Rattle.std.specs.List.{AllByRecursion, IsDistinct}
 use Rattle.std.specs.List.Sorted.{IsPermutation, IsSortedBy, IsStrictlySortedBy}
@@ -7,14 +8,18 @@ use Rattle.std.specs.Ordering.{is_eq, is_lt, ordering_reverse}
 use Rattle.std.specs.declared.cmp.Ordering.TheVariants.{Less, Equal, Greater}
 use Rattle.std.proofs.lemmas.List.Sorted.{Contains-permutation, IsPermutation-sym, IsPermutation-map}
 use Rattle.std.proofs.lemmas.Map.Entries.{lookup_tail}
-use Rattle.std.proofs.lemmas.Map.Keys.{IsDistinct-IsPermutation}
+use Rattle.std.specs.FinMap.{slice_cmp-IsAntisymmetric, nat_cmp-IsAntisymmetric}
+use Rattle.std.specs.FinMap.Entries.{find, is_sorted, below_all, same_entries}
+use Rattle.std.proofs.lemmas.List.{length-map, get_or-map}
+use Rattle.std.proofs.lemmas.Map.Keys.{IsDistinct-IsPermutation, IsDistinct-from_sorted, apart_from_distinct, sorted_from_all_adjacent}
+use Rattle.scene_json.proofs.Pairs.{names-pairs}
 use Rattle.std.proofs.lemmas.Map.Views.{Contains-from_lookup, lookup-from_Contains}
 use Rattle.json_text.specs.Compact.{Member as Pair}
 use Rattle.json_text.specs.Members.{pairs}
 use Rattle.json_text.specs.Parts.{names_of}
 use Rattle.json_text.specs.declared.text.Member.{Member}
 use Rattle.scene_json.specs.Named.{value_at, AreSameMembers, HaveRisingNames}
-use Rattle.json_text.proofs.Collapsed.{bytes_eq-true, bytes_eq-same}
+use Rattle.json_text.proofs.Collapsed.{bytes_eq-true}
 
 -- what a look-up from a place on finds there
 pub value_at-found : (name : List ℕ) (ms : List Member) (i : ℕ) (m : Member) → i < length ms → m ≡ get_or ms i m → bytes_eq name m.name ≡ true →
@@ -34,16 +39,11 @@ pub distinct_moved : (ms ns : List Pair) → IsPermutation ms ns → IsDistinct 
 distinct_moved ms ns moved apart =
     IsDistinct-IsPermutation bytes_eq nat_list_eq_equiv.symm (names_of ms) (names_of ns) (IsPermutation-map (λ (m : Pair). m.0) ms ns moved) apart
 
-both : (a b : Option (List ℕ)) → ((v : List ℕ) → a ≡ Some v → b ≡ Some v) → ((v : List ℕ) → b ≡ Some v → a ≡ Some v) → a ≡ b
-both None None f g = refl
-both None (Some v) f g = g v refl
-both (Some v) b f g = sym (f v refl)
-
 pub same_moved : (ms ns : List Pair) → IsDistinct bytes_eq (names_of ms) → IsPermutation ms ns → AreSameMembers ms ns
 same_moved ms ns apart moved name =
-    both (value_at name ms) (value_at name ns)
-    (λ value. found_moved name value ms ns (distinct_moved ms ns moved apart) moved)
-    (λ value. found_moved name value ns ms apart (IsPermutation-sym ms ns moved))
+    let there = λ (value : List ℕ). found_moved name value ms ns (distinct_moved ms ns moved apart) moved in
+    let back = λ (value : List ℕ). found_moved name value ns ms apart (IsPermutation-sym ms ns moved) in
+    grind (arith, there, back)
 
 -- ---- members whose names rise
 -- the name is less than those of all these members
@@ -81,50 +81,48 @@ unfolding IsStrictlySortedBy
 rising_none = tt
 
 pub rising_distinct : (ms : List Pair) → HaveRisingNames ms → IsDistinct bytes_eq (names_of ms)
-unfolding IsDistinct
-rising_distinct [] rise = tt
-rising_distinct (m ∷ ms) rise = (apart ms (rising_parts m ms rise).0, rising_distinct ms (rising_parts m ms rise).1)
-  where
-    apart : (ns : List Pair) → IsBelow m.0 ns → AllByRecursion (λ other. bytes_eq m.0 other ≡ false) (names_of ns)
-    apart [] below = tt
-    apart (n ∷ ns) below = (bytes_eq-less m.0 n.0 below.0, apart ns below.1)
+rising_distinct ms rise =
+    subst (λ same. IsDistinct same (names_of ms)) (λ i a b. sym (texts_ties a b) i) (IsDistinct-from_sorted (slice_cmp nat_cmp) (names_of ms) rise)
 
 -- a sort of members of distinct names makes them rise
 pub rising_from_sort : (vs : List Member) → IsSortedBy (λ (a : Member) (b : Member). is_lt (slice_cmp nat_cmp a.name b.name)) vs →
     IsDistinct bytes_eq (map (λ (v : Member). v.name) vs) → HaveRisingNames (pairs vs)
-unfolding IsDistinct
-rising_from_sort [] up apart = rising_none
-rising_from_sort (v ∷ []) up apart = rising_from (v.name, v.value) [] tt rising_none
-rising_from_sort (v ∷ w ∷ vs) up apart =
-    let first : slice_cmp nat_cmp v.name w.name ≡ Less =
-    grind (arith, nat_list_cmp_total.antisymm v.name w.name, texts_ties v.name w.name, apart.0.0, up 0 v (omega arith) (omega arith)) in
-    let tail : IsSortedBy (λ (a : Member) (b : Member). is_lt (slice_cmp nat_cmp a.name b.name)) (w ∷ vs) = λ k d low high.
-    let next : suc k + 1 ≡ suc (k + 1) = omega arith in
-    rw next at (up (suc k) d (omega arith) (omega arith)) in
-    let others = rising_from_sort (w ∷ vs) tail apart.1 in
-    let above = rising_parts (w.name, w.value) (pairs vs) others in
-    rising_from (v.name, v.value) (pairs (w ∷ vs)) (first, IsBelow-less v.name w.name (pairs vs) first above.0) others
+rising_from_sort vs up apart =
+    let names = map (λ (v : Member). v.name) vs in
+    let none : Member = record { name = []; value = [] } in
+    subst (IsStrictlySortedBy (slice_cmp nat_cmp)) (sym (names-pairs vs)) (sorted_from_all_adjacent nat_list_cmp_total names [] (λ k h.
+    let within : k + 1 < length vs = simp length-map at h in
+    grind (
+      arith,
+      nat_list_cmp_total.antisymm (get_or names k []) (get_or names (k + 1) []),
+      texts_ties (get_or names k []) (get_or names (k + 1) []),
+      apart_from_distinct bytes_eq names k (k + 1) [] apart (omega arith) h,
+      get_or-map (λ (v : Member). v.name) vs k none [] (omega arith),
+      get_or-map (λ (v : Member). v.name) vs (k + 1) none [] within,
+      up k none (omega arith) within,
+    )))
+
+-- the same as a finite map says it
+below_same : (name : List ℕ) (ms : List Pair) → (below_all (slice_cmp nat_cmp) name ms ≡ true) ↔ IsBelow name ms
+below_same name [] = (λ h. tt, λ h. refl)
+below_same name (m ∷ ms) = let others = below_same name ms in (λ h. grind (arith, others), λ h. grind (arith, others))
+
+pub sorted_same : (ms : List Pair) → (is_sorted (slice_cmp nat_cmp) ms ≡ true) ↔ HaveRisingNames ms
+unfolding IsStrictlySortedBy
+sorted_same [] = (λ h. tt, λ h. refl)
+sorted_same (m ∷ ms) =
+    let first = below_same m.0 ms in
+    let others = sorted_same ms in (λ h. grind (arith, first, others), λ h. grind (arith, first, others))
+
+pub find_same : (name : List ℕ) (ms : List Pair) → find (slice_cmp nat_cmp) name ms ≡ value_at name ms
+find_same name [] = refl
+find_same name (m ∷ ms) = λ i. cond (sym (texts_ties name m.0) i) (Some m.1) (find_same name ms i)
 
 -- members whose names rise are told by their look-ups
-absent : (m n : Pair) (ms ns : List Pair) → slice_cmp nat_cmp m.0 n.0 ≡ Less → HaveRisingNames (n ∷ ns) → value_at m.0 (m ∷ ms) ≡ value_at m.0 (n ∷ ns) → ⊥
-absent m n ms ns less rise same =
-    let below = value_at-below m.0 (n ∷ ns) (less, IsBelow-less m.0 n.0 ns less (rising_parts n ns rise).0) in
-    grind (arith, bytes_eq-same m.0)
-
 pub rising_same : (ms ns : List Pair) → HaveRisingNames ms → HaveRisingNames ns → AreSameMembers ms ns → ms ≡ ns
-rising_same [] [] rise other same = refl
-rising_same [] (n ∷ ns) rise other same = absurd (grind (arith, same n.0, bytes_eq-same n.0))
-rising_same (m ∷ ms) [] rise other same = absurd (grind (arith, same m.0, bytes_eq-same m.0))
-rising_same (m ∷ ms) (n ∷ ns) rise other same =
-    elim (slice_cmp nat_cmp m.0 n.0) as (λ o. slice_cmp nat_cmp m.0 n.0 ≡ o → (m ∷ ms) ≡ (n ∷ ns)) [
-      | Less ↦ λ less. absurd (absent m n ms ns less other (same m.0))
-      | Equal ↦ λ tied.
-          let first : m ≡ n = grind (arith, bytes_eq-tied m.0 n.0 tied, same m.0, bytes_eq-same m.0, bytes_eq-true m.0 n.0) in
-          let above : IsBelow m.0 ns = subst (λ (o : Pair). IsBelow o.0 ns) (sym first) (rising_parts n ns other).0 in
-          let others = rising_same ms ns (rising_parts m ms rise).1 (rising_parts n ns other).1
-          (λ name. grind (arith, same name, first, bytes_eq-true name m.0, value_at-below m.0 ms (rising_parts m ms rise).0, value_at-below m.0 ns above)) in
-          ap (λ rest. m ∷ rest) others ∙ ap (λ o. o ∷ ns) first
-      | Greater ↦ λ more. absurd (absent n m ns ms (less_turned m.0 n.0 more) rise (sym (same n.0)))
-    ] refl
+rising_same ms ns rise other same =
+    let sorted = λ (ms : List Pair) (rise : HaveRisingNames ms). T_from_true (is_sorted (slice_cmp nat_cmp) ms) ((sorted_same ms).1 rise) in
+    same_entries (slice_cmp nat_cmp) nat_list_cmp_total (slice_cmp-IsAntisymmetric nat_cmp-IsAntisymmetric) ms ns (sorted ms rise) (sorted ns other)
+    (λ name. find_same name ms ∙ same name ∙ sym (find_same name ns))
 
 pub ruleset lookup_steps = (value_at-found)

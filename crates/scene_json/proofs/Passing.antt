@@ -1,16 +1,12 @@
 -- What a pass that counts brackets makes of the text of a value.
-use Rattle.std.proofs.Common.{◌≡◌, ℕ, ◌+◌, ◌≤◌, max, List, [], ◌∷◌, ◌++◌, Bool, true, false, not, ◌&&◌, ◌==◌, refl, append_assoc, arith}
+use Rattle.std.proofs.Common.{◌≡◌, ℕ, ◌+◌, ◌≤◌, max, List, [], ◌∷◌, ◌++◌, true, false, refl, append_assoc, arith}
 use Rattle.std.specs.List.{list_all}
 use Rattle.std.proofs.lemmas.Bool.Decides.{nat_tests}
-use Rattle.json_text.specs.Characters.{is_space, is_opening, ends_value}
+use Rattle.json_text.specs.Characters.{is_space, is_inert}
 use Rattle.json_text.specs.Tree.{Container, array, object, opening, closing, Label, unnamed, named, IsLabel, label_spelling, Tree, scalar, text, empty, filled, Values, last, next, spelling, values_spelling, IsGood, AreGood, depth, values_depth}
 use Rattle.scene_json.specs.Passes.{behind_string}
-use Rattle.json_text.proofs.Literals.{is_part_of_literal, list_all-each, literal-plain}
+use Rattle.json_text.proofs.Reading.{is_part_of_literal, list_all-each, literal-plain}
 use Rattle.scene_json.proofs.Behind.{pieces-behind}
-
--- a byte that is no quotation mark, no bracket and no comma
-abbrev pub is_inert : ℕ → Bool
-is_inert b = not (b == 34) && (not (is_opening b) && not (ends_value b))
 
 -- What a pass makes of the text from here on depends on how many brackets are open and on the most that were so far.
 pub record IsPass (X : Type 0) (f : ℕ → ℕ → List ℕ → X) : Type 0 where

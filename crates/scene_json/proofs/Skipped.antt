@@ -1,8 +1,9 @@
 -- How a pass over a text finds the end of a value in a container.
-use Rattle.std.proofs.Common.{◌≡◌, ℕ, ◌+◌, max, List, [], ◌∷◌, ◌++◌, Bool, false, not, ◌&&◌, ◌==◌, if◌then◌else◌, refl, sym, ap, ◌∙◌, arith}
+use Rattle.std.proofs.Common.{◌≡◌, ℕ, ◌+◌, ◌<◌, max, drop, drop-drop, List, [], ◌∷◌, ◌++◌, Bool, false, not, ◌&&◌, ◌==◌, if◌then◌else◌, refl, sym, ap, ◌∙◌, arith}
 use Rattle.std.proofs.lemmas.Bool.Decides.{nat_tests}
+use Rattle.std.specs.List.{prefix_len}
 use Rattle.json_text.specs.Tree.{depth}
-use Rattle.json_text.specs.Characters.{ends_value}
+use Rattle.json_text.specs.Characters.{ends_value, is_inert, is_quiet}
 use Rattle.json_text.specs.Walk.{Place, outside, inside}
 use Rattle.scene_json.specs.Passes.{behind_string, Compacted, IsEnd}
 use Rattle.scene_json.proofs.Behind.{length-behind_string}
@@ -21,6 +22,15 @@ skipped (inside escaped) level (b ∷ bs) =
 pub inside-string : (escaped : Bool) (level : ℕ) (bs : List ℕ) → skipped (inside escaped) level bs ≡ skipped outside level (behind_string escaped bs)
 inside-string escaped level [] = refl
 inside-string escaped level (b ∷ bs) = grind (arith, inside-string (b == 92 && not escaped) level bs)
+
+-- nor do bytes that play no part in where a value ends
+pub inert-run : (level : ℕ) (bs : List ℕ) → skipped outside level (drop (prefix_len is_inert bs) bs) ≡ skipped outside level bs
+inert-run level [] = refl
+inert-run level (b ∷ bs) = grind (arith, nat_tests, drop-drop (prefix_len is_inert bs) 1 (b ∷ bs), inert-run level bs)
+
+pub quiet-run : (level : ℕ) (bs : List ℕ) → 0 < level → skipped outside level (drop (prefix_len is_quiet bs) bs) ≡ skipped outside level bs
+quiet-run level [] some = refl
+quiet-run level (b ∷ bs) some = grind (arith, nat_tests, drop-drop (prefix_len is_quiet bs) 1 (b ∷ bs), quiet-run level bs)
 
 pub end-step : (rest : List ℕ) → IsEnd rest → skipped outside 0 rest ≡ rest
 end-step [] h = absurd h
@@ -41,4 +51,4 @@ skipped-value bytes found rest h =
     ∙ tree-steps pass v.tree 0 0 (max 0 (0 + depth v.tree)) rest v.good (omega arith) refl ∙ end-step rest h.ends
 
 -- what a pass that looks for the end of a value goes by at a string
-pub ruleset skip_steps = (inside-string, length-behind_string)
+pub ruleset skip_steps = (inside-string, inert-run, quiet-run, length-behind_string)

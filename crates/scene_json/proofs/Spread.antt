@@ -2,8 +2,7 @@
 use Rattle.std.proofs.Common.{◌≡◌, ℕ, zero, suc, ◌+◌, ◌*◌, eqb, length, ◌<◌, List, [], ◌∷◌, ◌++◌, Bool, true, false, take, drop, flat_map, refl, sym, ap, ◌∙◌, append-nil, append_assoc, one-add, arith}
 use Rattle.std.specs.List.{list_all, AllByRecursion, prefix_len}
 use Rattle.std.specs.Char.{encode_utf8}
-use Rattle.std.proofs.lemmas.List.{take-append-drop}
-use Rattle.std.proofs.lemmas.List.{nil_from_length, replicate-append-replicate}
+use Rattle.std.proofs.lemmas.List.{take-append-drop, nil_from_length, replicate-append-replicate}
 use Rattle.std.proofs.lemmas.Bool.{eqb-true}
 use Rattle.std.proofs.lemmas.Bool.Decides.{nat_tests}
 use Rattle.json_text.specs.Characters.{is_space, is_hex, is_plain, is_closing}
@@ -11,9 +10,8 @@ use Rattle.json_text.specs.Tree.{Piece, bare, letter, unit, IsPiece, piece_spell
 use Rattle.json_text.specs.Walk.{outside, inside}
 use Rattle.scene_json.specs.Layout.{line, label_laid_out, laid_out, values_laid_out}
 use Rattle.scene_json.specs.Lines.{IsLaidOutSoFar, Standing, layout, layout_from}
-use Rattle.json_text.proofs.Literals.{is_part_of_literal, list_all-each, literal-plain}
 use Rattle.json_text.proofs.Strings.{plain-bare, hex-plain}
-use Rattle.json_text.proofs.Reading.{begins_value, begins-no-space, values-Front, regroup-last}
+use Rattle.json_text.proofs.Reading.{begins_value, begins-no-space, values-Front, regroup-last, is_part_of_literal, list_all-each, literal-plain}
 
 -- plain characters of a string are copied
 run-steps : (xs : List ℕ) (first : Bool) (spaces : ℕ) (bs : List ℕ) → list_all is_plain xs ≡ true → layout (inside false) first spaces (xs ++ bs) ≡ xs ++ layout (inside false) first spaces bs
@@ -58,12 +56,7 @@ string-steps [] spaces bs good = refl
 string-steps (p ∷ ps) spaces bs good = simp append_assoc (grind (arith, piece-steps p spaces (flat_map piece_spelling ps ++ 34 ∷ bs), string-steps ps spaces bs))
 
 opening-step : (c : Container) (spaces : ℕ) (bs : List ℕ) → layout outside false spaces (opening c ∷ bs) ≡ opening c ∷ layout outside true spaces bs
-opening-step array spaces bs = refl
-opening-step object spaces bs = refl
-
-empty-step : (c : Container) (spaces : ℕ) (bs : List ℕ) → layout outside true spaces (closing c ∷ bs) ≡ closing c ∷ layout outside false spaces bs
-empty-step array spaces bs = refl
-empty-step object spaces bs = refl
+opening-step c spaces bs = grind arith
 
 closing-step : (c : Container) (spaces : ℕ) (bs : List ℕ) → layout outside false (spaces + 2) (closing c ∷ bs) ≡ line spaces ++ (closing c ∷ layout outside false spaces bs)
 closing-step c spaces bs = grind (arith, λ (b : ℕ). append_assoc (line spaces) (b ∷ []) (layout outside false spaces bs))
@@ -95,7 +88,7 @@ mutual
   tree-steps : (t : Tree) (spaces : ℕ) (bs : List ℕ) → IsGood t → layout outside false spaces (spelling t ++ bs) ≡ spelling (laid_out spaces t) ++ layout outside false spaces bs
   tree-steps (scalar literal) spaces bs good = plain-steps literal spaces bs (literal-plain literal good)
   tree-steps (text pieces) spaces bs good = ap (λ x. 34 ∷ x) (simp append_assoc (string-steps pieces spaces bs good))
-  tree-steps (empty c blank) spaces bs good = rw (opening-step c spaces) (simp append_assoc (grind (arith, blank-steps blank true spaces, empty-step c)))
+  tree-steps (empty c blank) spaces bs good = rw (opening-step c spaces) (simp append_assoc (grind (arith, blank-steps blank true spaces)))
   tree-steps (filled c values) spaces bs good = rw (opening-step c spaces) (simp append_assoc (grind (arith, values-line c values spaces, values-steps c values spaces)))
 
   values-steps : (c : Container) (vs : Values) (spaces : ℕ) (bs : List ℕ) → AreGood c vs → line (spaces + 2) ++ layout outside false (spaces + 2) (values_spelling vs ++ closing c ∷ bs) ≡ values_spelling (values_laid_out spaces vs) ++ closing c ∷ layout outside false spaces bs

@@ -1,5 +1,5 @@
 -- What a pass over the bytes of a text meets. Only contracts of private functions cite this.
-use Rattle.std.specs.Prelude.{◌≡◌, ℕ, ◌+◌, ◌-◌, List, [], ◌∷◌, ◌++◌, Bool, true, not, ◌&&◌, ◌==◌, if◌then◌else◌}
+use Rattle.std.specs.Prelude.{◌≡◌, ℕ, ◌+◌, ◌-◌, List, [], ◌∷◌, ◌++◌, Bool, true, not, ◌&&◌, ◌==◌, if◌then◌else◌, take, drop}
 use Rattle.json_text.specs.Characters.{quotation_mark, comma, colon, backslash, is_closing, ends_value}
 use Rattle.json_text.specs.Value.{IsCompact}
 use Rattle.scene_json.specs.Layout.{line}
@@ -36,3 +36,8 @@ pub record Compacted (bytes text rest : List ℕ) : Type 0 where
   pub compact : IsCompact 127 text
   pub parts : bytes ≡ text ++ rest
   pub ends : IsEnd rest
+
+-- What stands from one offset on is a value in a container, which ends at the other one.
+abbrev pub EndsAt : List ℕ → ℕ → ℕ → Type 0
+EndsAt bytes at end =
+    (text rest : List ℕ) → Compacted (drop at bytes) text rest → (drop end bytes ≡ rest) × (take (end - at) (drop at bytes) ≡ text)

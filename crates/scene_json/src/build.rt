@@ -77,9 +77,7 @@ pub fn raw_array(alloc: Global, items: &List<Raw>) -> Result<Raw, AllocError>
     let mut out = Vec::new(alloc);
     out.push(b'[')?;
     for (i, item) in items.as_slice().iter().enumerate() {
-        if i > 0 {
-            out.push(b',')?;
-        }
+        push_comma(&mut out, i)?;
         out.extend_from_slice(item.as_bytes())?;
     }
     out.push(b']')?;
@@ -96,9 +94,7 @@ pub fn raw_object(alloc: Global, members: &List<Member>) -> Result<Raw, AllocErr
     let mut out = Vec::new(alloc);
     out.push(b'{')?;
     for (i, member) in members.as_slice().iter().enumerate() {
-        if i > 0 {
-            out.push(b',')?;
-        }
+        push_comma(&mut out, i)?;
         push_member(&mut out, &member.name, &member.value)?;
     }
     out.push(b'}')?;

@@ -57,16 +57,19 @@ pub(crate) fn opens(byte: u8) -> bool
 }
 
 /// What stands behind the string that these bytes are the rest of.
-#[tactic(auto, using(crate::proofs::Behind::marked_past))]
+#[tactic(auto, using(crate::proofs::Behind::string_broken))]
 pub(crate) fn after_string(bytes: &[u8]) -> &[u8]
     ensures { result.now ≡ behind_string false bytes.now }
 {
-    let mut next = run_end(bytes, 0);
-    while next < bytes.len() {
-        if bytes[next] == b'"' {
-            return &bytes[next + 1..];
+    let mut at = 0;
+    loop {
+        let end = run_end(bytes, at);
+        if end == bytes.len() {
+            return &[];
         }
-        next = run_end(bytes, bytes.len().min(next + 2));
+        if bytes[end] == b'"' {
+            return &bytes[end + 1..];
+        }
+        at = bytes.len().min(end + 2);
     }
-    &[]
 }

@@ -1,19 +1,19 @@
 //! Taking values apart.
 
-ghost use Rattle.std.specs.Prelude.{◌≡◌, ◌≢◌, ◌-◌, ◌<◌, ◌≤◌, ◌^◌, ℕ, List as Items, [], ◌∷◌, ◌++◌, length, take, drop, false, IsTrue, IfOk, IfSome, MatchOption};
+ghost use Rattle.std.specs.Prelude.{◌≡◌, ◌≢◌, ◌-◌, ◌<◌, ◌≤◌, ◌^◌, ℕ, List as Items, [], ◌∷◌, ◌++◌, length, take, drop, false, IsTrue, IfOk, IfSome, MatchOption, OnErr};
 ghost use Rattle.std.specs.Str.{IsUtf8};
-ghost use Rattle.std.specs.List.{AllByRecursion};
-ghost use Rattle.json_text.specs.Characters.{quote, ends_value};
+ghost use Rattle.std.specs.List.{AllByRecursion, prefix_len};
+ghost use Rattle.json_text.specs.Characters.{quote, ends_value, is_inert, is_quiet};
 ghost use Rattle.json_text.specs.Compact.{Member as Pair, array_text, object_text};
 ghost use Rattle.json_text.specs.Members.{pairs};
 ghost use Rattle.json_text.specs.Parts.{AreMembers};
 ghost use Rattle.json_text.specs.Value.{IsCompact};
-ghost use Rattle.scene_json.specs.Passes.{Compacted};
+ghost use Rattle.scene_json.specs.Passes.{Compacted, EndsAt};
 ghost use Rattle.scene_json.specs.Walks.{AreLeft, IsTakenApart};
 
 use crate::nesting::after_string;
 use board_io::{List, Stop};
-use json_text::{Member, Raw, Text, text_at};
+use json_text::{Member, Raw, Text, inert_end, quiet_end, text_at};
 use std::alloc::{AllocError, Global};
 use std::marker::Model;
 
@@ -57,32 +57,36 @@ pub fn items(alloc: Global, value: &Raw) -> Result<List<Raw>, Stop<Shape>>
     ensures shape { result ≡ Err (Stop.Fault (record {})) → (others : Items (Items ℕ)) → value.now ≢ array_text others }
 {
     let bytes = value.as_bytes();
-    if !begins_with(bytes, b'[') {
+    let Some(first) = first_item(value) else {
         return Err(Stop::Fault(Shape));
-    }
-    let (_bracket, rest) = bytes.split_at(1);
-    if begins_with(rest, b']') {
-        return Ok(List::new(alloc));
-    }
-    Ok(List::from_vec(items_from(alloc, value)?))
-}
-
-/// The items of an array that has some.
-fn items_from(alloc: Global, value: &Raw) -> Result<Vec<Raw>, AllocError>
-    requires { (first : Items ℕ) × (more : Items (Items ℕ)) × AllByRecursion (IsCompact 127) (first ∷ more) × (value.now ≡ array_text (first ∷ more)) }
-    ensures { IfOk result (λ found. (all : Items (Items ℕ)) → AllByRecursion (IsCompact 127) all → value.now ≡ array_text all → found.items ≡ all) }
-{
-    let bytes = value.as_bytes();
+    };
     let mut found = Vec::new(alloc);
-    let mut at = 1;
-    loop {
+    let mut at = first;
+    while at < bytes.len() {
         let end = next_end(bytes, at);
         found.push(value.cut(at, end)?)?;
-        if bytes[end] == b']' {
-            return Ok(found);
-        }
         at = end + 1;
     }
+    Ok(List::from_vec(found))
+}
+
+/// The offset of the first item of an array, or of the array's end where it has none. `None` comes exactly where the value
+/// is no array.
+#[tactic(auto, using(crate::proofs::ItemsLeft::closed_left, crate::proofs::ItemsLeft::open_left))]
+fn first_item(array: &Raw) -> Option<usize>
+    ensures shape { MatchOption result ((others : Items (Items ℕ)) → array.now ≢ array_text others)
+        (λ _. (all : Items (Items ℕ)) × AllByRecursion (IsCompact 127) all × (array.now ≡ array_text all)) }
+    ensures left { IfSome result (λ at. (all : Items (Items ℕ)) → AllByRecursion (IsCompact 127) all → array.now ≡ array_text all → AreLeft (record { array = array.now; at = at }) all) }
+    ensures within { IfSome result (λ at. at ≤ length array.now) }
+{
+    let bytes = array.as_bytes();
+    if !begins_with(bytes, b'[') {
+        return None;
+    }
+    if bytes[1] == b']' {
+        return Some(2);
+    }
+    Some(1)
 }
 
 /// The members of an object, in their order. `Shape` comes exactly where the value is no object.
@@ -100,32 +104,16 @@ pub fn members(alloc: Global, value: &Raw) -> Result<List<Member>, Stop<Shape>>
 }
 
 /// The members of the object at an offset, and the offset after it.
-fn members_at(alloc: Global, value: &Raw, at: usize) -> Result<(List<Member>, usize), AllocError>
-    requires { (all : Items Pair) × (rest : Items ℕ) × AreMembers 127 all × (drop at value.now ≡ object_text all ++ rest) }
-    ensures found { IfOk result (λ found. (all : Items Pair) (rest : Items ℕ) → AreMembers 127 all → drop at value.now ≡ object_text all ++ rest
-        → (pairs found.0 ≡ all) × (drop found.1 value.now ≡ rest)) }
-    ensures within { IfOk result (λ found. (at < found.1) × (found.1 ≤ length value.now)) }
-{
-    let bytes = value.as_bytes();
-    if bytes[at + 1] == b'}' {
-        return Ok((List::new(alloc), at + 2));
-    }
-    let (found, end) = members_from(alloc, value, at)?;
-    Ok((List::from_vec(found), end))
-}
-
-/// The members of the object at an offset, which has some, and the offset after it.
-fn members_from(
-    alloc: Global,
-    value: &Raw,
-    start: usize,
-) -> Result<(Vec<Member>, usize), AllocError>
-    requires { (first : Pair) × (more : Items Pair) × (rest : Items ℕ) × AreMembers 127 (first ∷ more) × (drop start value.now ≡ object_text (first ∷ more) ++ rest) }
+fn members_at(alloc: Global, value: &Raw, start: usize) -> Result<(List<Member>, usize), AllocError>
+    requires { (all : Items Pair) × (rest : Items ℕ) × AreMembers 127 all × (drop start value.now ≡ object_text all ++ rest) }
     ensures found { IfOk result (λ found. (all : Items Pair) (rest : Items ℕ) → AreMembers 127 all → drop start value.now ≡ object_text all ++ rest
-        → (pairs found.0.items ≡ all) × (drop found.1 value.now ≡ rest)) }
+        → (pairs found.0 ≡ all) × (drop found.1 value.now ≡ rest)) }
     ensures within { IfOk result (λ found. (start < found.1) × (found.1 ≤ length value.now)) }
 {
     let bytes = value.as_bytes();
+    if bytes[start + 1] == b'}' {
+        return Ok((List::new(alloc), start + 2));
+    }
     let mut found = Vec::with_capacity(alloc, FEW)?;
     let mut at = start + 1;
     loop {
@@ -134,7 +122,7 @@ fn members_from(
         let value = value.cut(colon + 1, end)?;
         found.push(Member { name, value })?;
         if bytes[end] == b'}' {
-            return Ok((found, end + 1));
+            return Ok((List::from_vec(found), end + 1));
         }
         at = end + 1;
     }
@@ -164,14 +152,8 @@ impl<'a> Objects<'a> {
         ensures { MatchOption result ((others : Items (Items ℕ)) → array.now ≢ array_text others)
             (λ walk. (all : Items (Items ℕ)) × (array.now ≡ array_text all) × AreLeft walk all) }
     {
-        let bytes = array.as_bytes();
-        if !begins_with(bytes, b'[') {
-            return None;
-        }
-        if bytes[1] == b']' {
-            return Some(Objects { array, at: 2 });
-        }
-        Some(Objects { array, at: 1 })
+        let at = first_item(array)?;
+        Some(Objects { array, at })
     }
 
     /// The members of the next item, or `None` where it is no object. The outer `None` comes exactly where no item is left.
@@ -180,6 +162,7 @@ impl<'a> Objects<'a> {
             (λ next. (item : Items ℕ) × (others : Items (Items ℕ)) × (left ≡ item ∷ others) × AreLeft self.new others × IsTakenApart item next)) }
         ensures taken { IfOk result (λ found. IfSome found (λ next. (item : Items ℕ) × IsTakenApart item next)) }
         ensures passed { IfOk result (λ found. IfSome found (λ next. (self.old.at < self.new.at) × (self.new.at < 2 ^ 64))) }
+        ensures unchanged { OnErr result (self.new ≡ self.old) }
     {
         if self.at == self.array.as_bytes().len() {
             return Ok(None);
@@ -214,15 +197,31 @@ fn item_at(
 fn next_end(bytes: &[u8], at: usize) -> usize
     requires { at ≤ length bytes.now }
     ensures within { (at ≤ result) × (result ≤ length bytes.now) }
-    ensures end { (text rest : Items ℕ) → Compacted (drop at bytes.now) text rest → (drop result bytes.now ≡ rest) × (take (result - at) (drop at bytes.now) ≡ text) }
+    ensures end { EndsAt bytes.now at result }
 {
     bytes.len() - after_value(&bytes[at..]).len()
+}
+
+/// What stands behind the compact text at the front. Most values are strings, numbers and words.
+#[tactic(auto, using(crate::proofs::Skipped::skip_steps))]
+fn after_value(bytes: &[u8]) -> &[u8]
+    ensures within { length result.now ≤ length bytes.now }
+    ensures found { (text rest : Items ℕ) → Compacted bytes.now text rest → result.now ≡ rest }
+{
+    let rest = match bytes.split_first() {
+        Some((b'"', others)) => after_string(others),
+        _ => after_inert(bytes),
+    };
+    match rest.split_first() {
+        Some((byte, _more)) if ends_value(*byte) => rest,
+        _ => after_brackets(bytes),
+    }
 }
 
 /// What stands behind the compact text at the front: the first comma or closing bracket outside strings and brackets, and
 /// all that follows it.
 #[tactic(auto, using(crate::proofs::Skipped::skip_steps))]
-fn after_value(bytes: &[u8]) -> &[u8]
+fn after_brackets(bytes: &[u8]) -> &[u8]
     ensures within { length result.now ≤ length bytes.now }
     ensures found { (text rest : Items ℕ) → Compacted bytes.now text rest → result.now ≡ rest }
 {
@@ -237,10 +236,29 @@ fn after_value(bytes: &[u8]) -> &[u8]
             b'"' => rest = after_string(others),
             b'[' | b'{' => level += 1,
             b']' | b'}' => level -= 1,
+            _ if level > 0 => rest = after_quiet(others),
             _ => {}
         }
     }
     rest
+}
+
+/// What stands behind the bytes at the front that play no part in where a value ends.
+#[inline(always)]
+fn after_inert(bytes: &[u8]) -> &[u8]
+    ensures inert { result.now ≡ drop (prefix_len is_inert bytes.now) bytes.now }
+    ensures within { length result.now ≤ length bytes.now }
+{
+    &bytes[inert_end(bytes, 0)..]
+}
+
+/// What stands behind the bytes at the front that play no part in where a container ends.
+#[inline(always)]
+fn after_quiet(bytes: &[u8]) -> &[u8]
+    ensures quiet { result.now ≡ drop (prefix_len is_quiet bytes.now) bytes.now }
+    ensures within { length result.now ≤ length bytes.now }
+{
+    &bytes[quiet_end(bytes, 0)..]
 }
 
 /// Whether a value in a container may end before this byte.

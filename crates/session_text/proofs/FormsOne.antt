@@ -10,8 +10,7 @@ use Rattle.json_text.specs.declared.text.Member.{Member}
 use Rattle.scene_json.specs.Named.{value_at}
 use Rattle.json_text.proofs.Collapsed.{bytes_eq-true, bytes_eq-same}
 use Rattle.json_text.proofs.CompactLaws.{Value-deeper}
-use Rattle.json_text.proofs.Decided.{array-or-not, object-or-not, nests-or-not}
-use Rattle.json_text.proofs.Forms.{StartsWith, quote-starts, array-starts, object-starts}
+use Rattle.json_text.proofs.Forms.{StartsWith, quote-starts, array-starts, object-starts, array-or-not, object-or-not, nests-or-not}
 use Rattle.json_text.proofs.Strings.{heads-differ}
 use Rattle.scene_json.proofs.Decimals.{digit_of_decimal}
 use Rattle.first_texts.specs.FirstOccurrences.{first_texts}

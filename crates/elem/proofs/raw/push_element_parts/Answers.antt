@@ -46,7 +46,7 @@ loop-header-preserved c =
     let below = rw name at c.in_ok-rest.ensures in
     merging-step 119 out c.loop-header.out.items low c.push_header.new.out.items (header_pair e h) (map (header_pair e) (drop (i + 1) hs)) c.loop-header.rest.now c.in_ok-rest.rest.now (header_pairs e e.kind) e.rest
     so_far (λ first is. below.begun out first at is) below.left (recursion_from_All (λ (m : Member). IsUtf8 m.name) _ below.named)
-    (λ first is. c.in_ok-push_header.ensures.begun out first at is) c.in_ok-push_header.ensures.sound.0 c.in_ok-push_header.ensures.sound.1
+    (λ first is. c.in_ok-push_header.ensures.begun out first at is) below.utf8 c.in_ok-push_header.ensures.nests
 
 valid : (c : In_ok-push) → IsElement c.args.e.now
 valid c = subst IsElement c.e.view_is c.e.invariant

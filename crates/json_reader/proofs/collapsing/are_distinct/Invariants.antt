@@ -1,4 +1,4 @@
-use Rattle.json_reader.proofs.Marks.{AreSeen}
+use Rattle.json_reader.proofs.Placing.{AreSeen}
 use Rattle.json_reader.proofs.collapsing.are_distinct.Given as goal
 
 abbrev pub invariant-loop-i : goal.invariant-loop-i

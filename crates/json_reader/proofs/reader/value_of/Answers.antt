@@ -1,5 +1,5 @@
-use Rattle.std.proofs.Common.{sym, subst, ◌∙◌}
-use Rattle.json_text.specs.Value.{IsCompact}
+use Rattle.std.proofs.Common.{drop, sym, subst, ◌∙◌}
+use Rattle.json_text.specs.Value.{IsCompact, Stands}
 use Rattle.json_text.proofs.CompactLaws.{Value-compact}
 use Rattle.json_reader.proofs.Written.{value-written}
 use Rattle.json_reader.proofs.reader.value_of.Goals as goal
@@ -7,14 +7,16 @@ use Rattle.json_reader.proofs.reader.value_of.Goals as goal
 pub into_text-requires-clause-whole : goal.into_text-requires-clause-whole
 into_text-requires-clause-whole c =
     let r = c.requires in
-    (r.3.0, value-written c.args.bytes.now r.0 c.args.end r.1 c.args.writer r.2 r.3.0 r.3.1)
+    let v = value-written c.args.bytes.now r.0 c.args.end r.1 c.args.writer r.2 r.3 in
+    (v.0, v.2)
 
 pub from_compact-requires : goal.from_compact-requires
 from_compact-requires c =
     let r = c.requires in
-    subst (IsCompact 128) (sym (c.in_ok-into_text.ensures r.3.0 (value-written c.args.bytes.now r.0 c.args.end r.1 c.args.writer r.2 r.3.0 r.3.1)))
-    (Value-compact r.3.1.reads)
+    let v = value-written c.args.bytes.now r.0 c.args.end r.1 c.args.writer r.2 r.3 in
+    subst (IsCompact 128) (sym (c.in_ok-into_text.ensures v.0 v.2)) (Value-compact v.1.reads)
 
 pub returns : goal.returns
-returns c at machine text read stands =
-    sym (c.in_ok-into_text.ensures text (value-written c.args.bytes.now at c.args.end machine c.args.writer read text stands)) ∙ sym c.in_ok-from_compact.ensures
+returns c at machine read ends =
+    let v = value-written c.args.bytes.now at c.args.end machine c.args.writer read ends in
+    subst (λ text. Stands (drop at c.args.bytes.now) text (drop c.args.end c.args.bytes.now)) (sym (c.in_ok-into_text.ensures v.0 v.2) ∙ sym c.in_ok-from_compact.ensures) v.1

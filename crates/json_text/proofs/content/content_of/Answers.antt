@@ -24,14 +24,14 @@ returns-then-bytes-end-eq34-clause-found c text rest quoted =
     let both = reading-closes (ran (goal.at.returns-then-bytes-end-eq34-clause-found c).In_ok-extend_from_slice).reading c.if-bytes-end-eq34.true text rest quoted in
     (c.in_ok-from_utf8.ensures ∙ both.0, both.1)
 
-pub push_escape-requires-clause-unread : goal.push_escape-requires-clause-unread
-push_escape-requires-clause-unread c =
-    rw take_rest (_, _, ((ran (goal.at.push_escape-requires-clause-unread c).In_ok-extend_from_slice).reading.split _ _ c.requires.2).1)
-
-pub push_escape-requires-clause-escape : goal.push_escape-requires-clause-escape
-push_escape-requires-clause-escape c =
-    let stop = (ran (goal.at.push_escape-requires-clause-escape c).In_ok-extend_from_slice).stops in
-    rw (take_rest c.args.bytes.now c.run_end-end.result, get_or-drop, add-zero) (grind (arith, nat_tests))
+pub push_escape-requires : goal.push_escape-requires
+push_escape-requires c =
+    let here = ran (goal.at.push_escape-requires c).In_ok-extend_from_slice in
+    let stop = here.stops in
+    record {
+      unread = rw take_rest (_, _, (here.reading.split _ _ c.requires.2).1);
+      escape = rw (take_rest c.args.bytes.now c.run_end-end.result, get_or-drop, add-zero) (grind (arith, nat_tests));
+    }
 
 pub loop-text-preserved : goal.loop-text-preserved
 loop-text-preserved c =

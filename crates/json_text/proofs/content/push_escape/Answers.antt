@@ -1,6 +1,6 @@
 use Rattle.std.proofs.Common.{arith}
 use Rattle.std.proofs.lemmas.List.{take_rest}
-use Rattle.json_text.proofs.Escapes.{unit-ahead, Ahead-unread, unit-takes, pair-takes}
+use Rattle.json_text.proofs.Contents.{unit-ahead, Ahead-unread, unit-takes, pair-takes}
 use Rattle.json_text.proofs.content.push_escape.Goals as goal
 
 pub unreachable-requires-in_default-rest : goal.unreachable-requires-in_default-rest

@@ -1,4 +1,3 @@
--- Trees that spell the front of one text are equal.
 use Rattle.json_text.proofs.Reading.{Stands-once}
 use Rattle.json_text.proofs.laws.value_is_unique.Goals as goal
 

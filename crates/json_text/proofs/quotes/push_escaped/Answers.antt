@@ -1,7 +1,7 @@
 use Rattle.std.proofs.Common.{◌++◌, ◌∙◌, sym, ap, append_assoc}
 use Rattle.std.proofs.lemmas.List.{take_rest}
 use Rattle.json_text.proofs.Appending.{extends_by, extends_then}
-use Rattle.json_text.proofs.Quoting.{quoted-Some}
+use Rattle.json_text.proofs.Strings.{quoted-Some}
 use Rattle.json_text.proofs.quotes.push_escaped.Goals as goal
 
 pub loop-plain-preserved : goal.loop-plain-preserved

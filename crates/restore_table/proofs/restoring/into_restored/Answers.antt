@@ -1,9 +1,7 @@
 -- The sort makes the names rise, and the table is merged between them.
-use Rattle.std.proofs.Common.{bytes_eq, nat_cmp, is_lt, rules, subst, ap, ◌∙◌, Bool}
-use Rattle.std.specs.Cmp.Lexicographic.{slice_cmp, nat_list_cmp_total}
+use Rattle.std.proofs.Common.{bytes_eq, subst, ap, ◌∙◌}
 use Rattle.std.specs.List.{IsDistinct}
-use Rattle.std.specs.List.Sorted.{IsSortedBy}
-use Rattle.std.proofs.lemmas.List.Sorted.{ranks_by, answers_always, All-permutation, IsPermutation-map}
+use Rattle.std.proofs.lemmas.List.Sorted.{All-permutation, IsPermutation-map}
 use Rattle.json_text.specs.Members.{pairs, pair_of}
 use Rattle.json_text.specs.Value.{IsCompact}
 use Rattle.json_text.specs.declared.text.Member.{Member}
@@ -13,24 +11,19 @@ use Rattle.restore_table.proofs.Nesting.{merged-nests}
 use Rattle.restore_table.proofs.RestoredLaws.{restored-from}
 use Rattle.restore_table.proofs.restoring.into_restored.Goals as goal
 
-abbrev lower : Member → Member → Bool
-lower a b = is_lt (slice_cmp nat_cmp a.name b.name)
-
 pub returns-clause-restored : goal.returns-clause-restored
 returns-clause-restored c =
     let us = c.in_ok-members.members.items in
-    let ws = c.sort_by.new.self.items in
-    let up : IsSortedBy lower ws =
-    c.in_ok-sort_by.ensures.sorted lower (ranks_by nat_list_cmp_total (λ (m : Member). m.name)) (answers_always _ _ _ (λ f a r g h. search rules)) in
-    let moved = IsPermutation-map pair_of us ws c.in_ok-sort_by.ensures.permutation in
+    let ws = c.sort_by_names.new.members.items in
+    let moved = IsPermutation-map pair_of us ws c.in_ok-sort_by_names.ensures.permutation in
     let update = c.in_ok-members.ensures.updated in
     let distinct = subst (IsDistinct bytes_eq) (names-pairs ws) (distinct_moved (pairs us) (pairs ws) moved update.distinct) in
-    restored-from (pairs c.args.members) (pairs us) (pairs ws) (pairs c.from_vec.result) update moved (rising_from_sort ws up distinct)
+    restored-from (pairs c.args.members) (pairs us) (pairs ws) (pairs c.from_vec.result) update moved (rising_from_sort ws c.in_ok-sort_by_names.ensures.sorted distinct)
     (ap pairs c.from_vec.ensures ∙ c.in_ok-between_defaults.ensures)
 
 pub returns-clause-nests : goal.returns-clause-nests
 returns-clause-nests c = λ limit wide each.
-    merged-nests limit c.sort_by.new.self.items c.from_vec.result wide
-    (All-permutation (λ (m : Member). IsCompact limit m.value) c.in_ok-members.members.items c.sort_by.new.self.items c.in_ok-sort_by.ensures.permutation
+    merged-nests limit c.sort_by_names.new.members.items c.from_vec.result wide
+    (All-permutation (λ (m : Member). IsCompact limit m.value) c.in_ok-members.members.items c.sort_by_names.new.members.items c.in_ok-sort_by_names.ensures.permutation
     (c.in_ok-members.ensures.nests limit wide each))
     (ap pairs c.from_vec.ensures ∙ c.in_ok-between_defaults.ensures)

@@ -1,11 +1,15 @@
-use Rattle.std.proofs.Common.{refl, arith}
-use Rattle.scene_json.proofs.Behind.{marked-run, marked-next}
+use Rattle.std.proofs.Common.{◌+◌, take_all, length-drop, ◌∙◌, arith}
+use Rattle.scene_json.proofs.Behind.{string_closed, string_escaped}
 use Rattle.scene_json.proofs.nesting.after_string.Goals as goal
 
-pub loop-next-init : goal.loop-next-init
-loop-next-init c = marked-run c.args.bytes.now 0 c.run_end-next.result (omega arith) refl c.run_end-next.ensures.value
+pub returns-then-bytes-end-eq34 : goal.returns-then-bytes-end-eq34
+returns-then-bytes-end-eq34 c =
+    take_all _ _ (omega (arith, length-drop (c.run_end-end.result + 1) c.args.bytes.now))
+    ∙ string_closed c.args.bytes.now c.loop-at.at c.run_end-end.result c.run_end-end.ensures.value c.loop-at.invariant.same (omega (arith, c.run_end-end.ensures.within)) c.if-bytes-end-eq34.true
 
-pub loop-next-preserved : goal.loop-next-preserved
-loop-next-preserved c =
-    marked-next c.args.bytes.now c.loop-next.next c.min.result c.run_end-next-in-loop-next.result c.run_end-next-in-loop-next.ensures.value c.min.ensures
-    c.loop-next.invariant c.loop-next-test.true c.if-bytes-next-eq34.false
+pub loop-at-preserved : goal.loop-at-preserved
+loop-at-preserved c = record {
+  within = omega arith;
+  same = string_escaped c.args.bytes.now c.loop-at.at c.run_end-end.result c.run_end-end.ensures.value c.loop-at.invariant.same c.min-at.result (omega (arith, c.run_end-end.ensures.within)) c.loop-at.invariant.within
+      c.if-bytes-end-eq34.false c.min-at.ensures;
+}

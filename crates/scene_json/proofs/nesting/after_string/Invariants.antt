@@ -1,9 +1,12 @@
-use Rattle.std.proofs.Common.{◌-◌, length}
-use Rattle.scene_json.proofs.Behind.{IsMarked}
+use Rattle.std.proofs.Common.{◌≡◌, ◌≤◌, ◌-◌, false, length, drop}
+use Rattle.scene_json.specs.Passes.{behind_string}
 use Rattle.scene_json.proofs.nesting.after_string.Given as goal
 
-abbrev pub invariant-loop-next : goal.invariant-loop-next
-invariant-loop-next l = IsMarked l.bytes l.next
+abbrev pub invariant-loop-at : goal.invariant-loop-at
+invariant-loop-at l = record {
+  within : l.at ≤ length l.bytes;
+  same : behind_string false (drop l.at l.bytes) ≡ behind_string false l.bytes;
+}
 
-abbrev pub decreases-loop-next : goal.decreases-loop-next
-decreases-loop-next l = length l.bytes - l.next
+abbrev pub decreases-loop-at : goal.decreases-loop-at
+decreases-loop-at l = length l.bytes - l.at

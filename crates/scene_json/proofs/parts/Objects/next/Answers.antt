@@ -1,39 +1,31 @@
-use Rattle.std.proofs.Common.{[], length, ap, sym, subst, ◌∙◌, arith}
-use Rattle.json_text.specs.Tree.{array}
+use Rattle.std.proofs.Common.{◌≡◌, ◌<◌, List, ℕ, length, ap, arith}
 use Rattle.scene_json.specs.Walks.{AreLeft}
-use Rattle.scene_json.proofs.ItemsLeft.{behind_item, after-here}
-use Rattle.scene_json.proofs.WalksLeft.{left-Compacted, left-next, left-some}
+use Rattle.scene_json.proofs.ItemsLeft.{IsNext, left-next}
 use Rattle.scene_json.proofs.parts.Objects.next.Goals as goal
+use Rattle.scene_json.proofs.parts.Objects.next.Goals.{After-as_bytes}
+
+next : (c : After-as_bytes) (left : List (List ℕ)) → (c.self.inside.at ≡ length c.as_bytes.result.now → ⊥) → AreLeft (record { array = c.self.inside.array.now; at = c.self.inside.at }) left → IsNext c.self.inside.array.now c.self.inside.at left
+next c left other are =
+    let some : c.self.inside.at < length c.self.inside.array.now = omega (arith, c.self.invariant.0, other, ap length c.as_bytes.ensures.value) in
+    left-next c.self.inside.array.now c.self.inside.at left are some
 
 pub item_at-requires : goal.item_at-requires
-item_at-requires c =
-    let bytes = c.self.inside.array.now in
-    let left = c.self.invariant.2 in
-    let some = left-some bytes c.self.inside.at c.self.invariant.1 left c.self.invariant.0 (λ e. c.if-self-as_bytes.false (e ∙ sym (ap length c.as_bytes.ensures.value))) in
-    (some.0, behind_item array [] some.1, left-Compacted bytes c.self.inside.at some.0 some.1 (subst (AreLeft _) some.2 left))
+item_at-requires c = (_, _, (next (goal.at.item_at-requires c).After-as_bytes c.self.invariant.1 c.if-self-as_bytes.false c.self.invariant.2).stands)
 
 pub invariant_of-self : goal.invariant_of-self
 invariant_of-self c =
-    let bytes = c.self.inside.array.now in
-    let some = left-some bytes c.self.inside.at c.self.invariant.1 c.self.invariant.2 c.self.invariant.0 (λ e. c.if-self-as_bytes.false (e ∙ sym (ap length c.as_bytes.ensures.value))) in
-    let left = subst (AreLeft _) some.2 c.self.invariant.2 in
-    let found = c.in_ok-item.ensures.item some.0 (behind_item array [] some.1) (left-Compacted bytes c.self.inside.at some.0 some.1 left) in
-    let after = after-here array [] bytes c.in_ok-item.end some.1 found.1 in
-    (omega (arith, after.0), some.1, left-next bytes c.self.inside.at c.in_ok-item.end some.0 some.1 left found.1)
+    let n = next (goal.at.invariant_of-self c).After-as_bytes c.self.invariant.1 c.if-self-as_bytes.false c.self.invariant.2 in
+    let after = n.goes_on c.in_ok-item.end (c.in_ok-item.ensures.item _ _ n.stands).1 in
+    (omega (arith, after.0), n.others, after.1)
 
 pub returns-clause-taken : goal.returns-clause-taken
 returns-clause-taken c =
-    let bytes = c.self.inside.array.now in
-    let some = left-some bytes c.self.inside.at c.self.invariant.1 c.self.invariant.2 c.self.invariant.0 (λ e. c.if-self-as_bytes.false (e ∙ sym (ap length c.as_bytes.ensures.value))) in
-    let left = subst (AreLeft _) some.2 c.self.invariant.2 in
-    (some.0, (c.in_ok-item.ensures.item some.0 (behind_item array [] some.1) (left-Compacted bytes c.self.inside.at some.0 some.1 left)).0)
+    let n = next (goal.at.returns-clause-taken c).After-as_bytes c.self.invariant.1 c.if-self-as_bytes.false c.self.invariant.2 in
+    (n.item, (c.in_ok-item.ensures.item _ _ n.stands).0)
 
 pub returns-clause-next : goal.returns-clause-next
 returns-clause-next c =
-    λ all are.
-    let bytes = c.self.inside.array.now in
-    let whole = subst (λ walk. AreLeft walk all) (sym c.self.view_is) are in
-    let some = left-some bytes c.self.inside.at all whole c.self.invariant.0 (λ e. c.if-self-as_bytes.false (e ∙ sym (ap length c.as_bytes.ensures.value))) in
-    let left = subst (AreLeft _) some.2 whole in
-    let found = c.in_ok-item.ensures.item some.0 (behind_item array [] some.1) (left-Compacted bytes c.self.inside.at some.0 some.1 left) in
-    (some.0, some.1, some.2, left-next bytes c.self.inside.at c.in_ok-item.end some.0 some.1 left found.1, found.0)
+    λ left are.
+    let n = next (goal.at.returns-clause-next c).After-as_bytes left c.if-self-as_bytes.false (rw c.self.view_is are) in
+    let found = c.in_ok-item.ensures.item _ _ n.stands in
+    (n.item, n.others, n.parts, (n.goes_on c.in_ok-item.end found.1).1, found.0)
