@@ -14,7 +14,8 @@ use Rattle.json_text.proofs.CompactLaws.{Value-Form, Value-deeper}
 use Rattle.json_text.proofs.Forms.{form-quoted}
 use Rattle.json_text.proofs.Reading.{tree-Head, first-same, tail-same, Stands-once}
 use Rattle.json_text.proofs.Strings.{heads-differ}
-use Rattle.scene_json.proofs.ItemsLeft.{behind_item, behind-split}
+use Rattle.scene_json.specs.Passes.{behind_item}
+use Rattle.scene_json.proofs.ItemsLeft.{behind-split}
 use Rattle.elem.specs.declared.parts.Binding.{Binding}
 use Rattle.elem.specs.Facts.{IsBinding, names}
 use Rattle.elem.specs.Texts.{truth_text, text_or_null, binding_text}

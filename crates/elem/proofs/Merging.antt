@@ -1,14 +1,15 @@
 -- Members that are written one after another, those of two rising lists in the order of their names.
-use Rattle.std.proofs.Common.{◌≡◌, ◌≢◌, ℕ, ◌+◌, ◌<◌, true, false, eqb, if◌then◌else◌, List, [], ◌∷◌, ◌++◌, length, get_or, take, drop, map, bytes_eq, inl, inr, refl, sym, ap, ◌∙◌, subst, arith, one-add, append-nil, append_assoc}
+use Rattle.std.proofs.Common.{◌≡◌, ◌≢◌, ℕ, ◌+◌, ◌<◌, true, false, eqb, if◌then◌else◌, List, [], ◌∷◌, ◌++◌, All, length, get_or, take, map, bytes_eq, inl, inr, refl, sym, ap, ◌∙◌, subst, arith, append-nil, append_assoc}
 use Rattle.std.specs.Cmp.Lexicographic.{nat_list_eq_equiv}
-use Rattle.std.specs.List.{AllByRecursion, IsDistinct, join_with_byte, prefix_len}
+use Rattle.std.specs.List.{AllByRecursion, IsDistinct, join_with_byte}
 use Rattle.std.specs.List.Sorted.{IsPermutation}
 use Rattle.std.specs.Str.{IsUtf8}
 use Rattle.std.proofs.lemmas.Bool.{cases_Bool, eq-eqb, ne_eqb}
 use Rattle.std.proofs.lemmas.List.{map-append, length-append, take_more}
-use Rattle.std.proofs.lemmas.List.Elements.{All-from_recursion, recursion_from_All}
+use Rattle.std.proofs.lemmas.List.Elements.{All-nil, All-cons, All-append, All-from_recursion, recursion_from_All}
 use Rattle.std.proofs.lemmas.List.Sorted.{All-permutation, IsPermutation-refl, IsPermutation-sym, IsPermutation-cons, IsPermutation-trans, IsPermutation-middle, IsPermutation-map, IsPermutation-append_comm, IsPermutation-append_left, IsPermutation-append_right}
 use Rattle.std.proofs.lemmas.Map.Keys.{IsDistinct-IsPermutation}
+use Rattle.json_text.specs.Appending.{Extends}
 use Rattle.json_text.specs.Characters.{quote}
 use Rattle.json_text.specs.Compact.{Member as Pair, member_text, object_text}
 use Rattle.json_text.specs.Members.{pairs, pair_of}
@@ -19,6 +20,7 @@ use Rattle.json_text.proofs.CompactLaws.{object-compact, join-push}
 use Rattle.frac_keys.specs.Keys.{bytes_less}
 use Rattle.elem.specs.Printing.{opened, IsBegun, mark, members_below, members_not_below, merged, AreSound}
 use Rattle.elem.specs.Texts.{sorted_members}
+use Rattle.elem.proofs.Appending.{extends_same, extends_by, extends_then}
 use Rattle.elem.proofs.Distinct.{IsDistinct-rising, AllByRecursion-append}
 use Rattle.elem.proofs.Sorting.{IsRising, IsRising-sorted, IsPermutation-sorted, AllByRecursion-weaker, bytes_less-trans, bytes_less-turned, same_rising}
 
@@ -65,19 +67,44 @@ closed before [] out done some is last = absurd (omega arith)
 closed before (m ∷ ms) out done some is last = last ∙ ap (λ o. o ++ 125 ∷ []) is ∙ append_assoc before (opened (m ∷ ms)) (125 ∷ [])
 
 -- ---- the members below a name, and the others
-pub members_below-take : (name : List ℕ) (ms : List Member) → take (prefix_len (λ (m : Member). bytes_less m.name name) ms) ms ≡ members_below name ms
-members_below-take name [] = refl
-members_below-take name (m ∷ ms) = elim (cases_Bool (bytes_less m.name name)) [
-  | inl e ↦ rw (e, one-add) (ap (λ others. m ∷ others) (members_below-take name ms))
-  | inr e ↦ rw e refl
-]
+-- Of these members the first ones, whose names are less, are appended, and the others are left.
+pub record Passed (name : List ℕ) (start : ℕ) (old out : List ℕ) (members left : List Member) : Type 0 where
+  pub done : List Member
+  pub below : done ++ members_below name left ≡ members_below name members
+  pub behind : members_not_below name left ≡ members_not_below name members
+  pub begun : (before : List ℕ) (first : List Pair) → start ≡ length before → IsBegun before first old → IsBegun before (first ++ pairs done) out
+  pub named : All (λ (m : Member). IsUtf8 m.name) done
+  pub kept : Extends old out
 
-pub members_not_below-drop : (name : List ℕ) (ms : List Member) → drop (prefix_len (λ (m : Member). bytes_less m.name name) ms) ms ≡ members_not_below name ms
-members_not_below-drop name [] = refl
-members_not_below-drop name (m ∷ ms) = elim (cases_Bool (bytes_less m.name name)) [
-  | inl e ↦ rw (e, one-add) (members_not_below-drop name ms)
-  | inr e ↦ rw e refl
-]
+pub passed-none : (name : List ℕ) (start : ℕ) (out : List ℕ) (members : List Member) → Passed name start out out members members
+passed-none name start out members = record {
+  done = [];
+  below = refl;
+  behind = refl;
+  begun = λ before first at is. subst (λ ms. IsBegun before ms out) (sym (append-nil first)) is;
+  named = All-nil (λ (m : Member). IsUtf8 m.name);
+  kept = extends_same out out refl;
+}
+
+-- one more of them
+pub passed-more : (name : List ℕ) (start : ℕ) (old out marked more : List ℕ) (members others : List Member) (m : Member)
+    → Passed name start old out members (m ∷ others) → bytes_less m.name name ≡ true → IsUtf8 m.name → marked ≡ out ++ mark start out ∷ [] → more ≡ marked ++ member_text (pair_of m)
+    → Passed name start old more members others
+passed-more name start old out marked more members others m so_far less utf8 first last = record {
+  done = so_far.done ++ m ∷ [];
+  below = append_assoc so_far.done (m ∷ []) (members_below name others) ∙ rw less at so_far.below;
+  behind = rw less at so_far.behind;
+  begun = λ before ms at is.
+      subst (λ ps. IsBegun before ps more) (append_assoc ms (pairs so_far.done) (pair_of m ∷ []) ∙ ap (λ ps. ms ++ ps) (sym (map-append pair_of so_far.done (m ∷ []))))
+      (opened-step before (ms ++ pairs so_far.done) (pair_of m) start out more at (so_far.begun before ms at is) (last ∙ ap (λ o. o ++ member_text (pair_of m)) first));
+  named = All-append (λ (m : Member). IsUtf8 m.name) so_far.done (m ∷ []) so_far.named (All-cons (λ (m : Member). IsUtf8 m.name) m [] utf8 (All-nil (λ (m : Member). IsUtf8 m.name)));
+  kept = extends_then old out more so_far.kept (extends_then out marked more (extends_by out marked _ first) (extends_by marked more _ last));
+}
+
+-- where none of the others is below
+pub passed-named : (name : List ℕ) (start : ℕ) (old out : List ℕ) (members left : List Member) → Passed name start old out members left → members_below name left ≡ [] → All (λ (m : Member). IsUtf8 m.name) (members_below name members)
+passed-named name start old out members left so_far none =
+    subst (All (λ (m : Member). IsUtf8 m.name)) (sym (append-nil so_far.done) ∙ ap (λ ms. so_far.done ++ ms) (sym none) ∙ so_far.below) so_far.named
 
 members_below-members_not_below : (name : List ℕ) (ms : List Member) → pairs (members_below name ms) ++ pairs (members_not_below name ms) ≡ pairs ms
 members_below-members_not_below name [] = refl

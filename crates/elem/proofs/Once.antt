@@ -11,7 +11,8 @@ use Rattle.scene_json.specs.Passes.{IsEnd}
 use Rattle.json_text.proofs.CompactLaws.{Value-deeper}
 use Rattle.json_text.proofs.Reading.{Stands-once, tail-same}
 use Rattle.json_text.proofs.Strings.{utf8-Quotes, pieces-once, heads-differ}
-use Rattle.scene_json.proofs.ItemsLeft.{behind_item, behind-split, behind-ends, item-opens}
+use Rattle.scene_json.specs.Passes.{behind_item}
+use Rattle.scene_json.proofs.ItemsLeft.{behind-split, behind-ends, item-opens}
 use Rattle.scene_json.proofs.MembersLeft.{behind_member}
 
 -- ---- strings
@@ -67,7 +68,7 @@ items-bare vs ws e = tail-same e
 
 -- the text of an array that has an item and of one that has none
 filled-apart : (v : List ℕ) (vs : List (List ℕ)) → AllByRecursion (IsCompact 127) (v ∷ vs) → array_text (v ∷ vs) ≡ array_text [] → ⊥
-filled-apart v vs is e = item-opens v vs [] is.0 (items-bare (v ∷ vs) [] e)
+filled-apart v vs is e = item-opens v vs [] [] is.0 (items-bare (v ∷ vs) [] e)
 
 pub array-once : (vs ws : List (List ℕ)) → AllByRecursion (IsCompact 127) vs → AllByRecursion (IsCompact 127) ws → array_text vs ≡ array_text ws → vs ≡ ws
 array-once [] [] one two e = refl

@@ -1,7 +1,6 @@
 //! The members that every element of a kind has.
 
-ghost use Rattle.std.specs.Prelude.{◌≡◌, [], ◌∷◌, ◌++◌};
-ghost use Rattle.json_text.specs.Characters.{quote};
+ghost use Rattle.std.specs.Prelude.{◌≡◌};
 ghost use Rattle.elem.specs.Printing.{header_name, headers_of};
 
 use crate::kind::Kind;
@@ -45,29 +44,6 @@ impl Header {
             Header::Updated => "updated",
             Header::Version => "version",
             Header::VersionNonce => "versionNonce",
-        }
-    }
-
-    /// The member's name in quotes and the colon behind it.
-    #[tactic(auto, unfolding(json_text::specs::Characters::quote))]
-    pub(crate) fn head(self) -> &'static [u8]
-        ensures { result.now ≡ quote (header_name self) ++ 58 ∷ [] }
-    {
-        match self {
-            Header::BoundElements => b"\"boundElements\":",
-            Header::ContainerId => b"\"containerId\":",
-            Header::EndBinding => b"\"endBinding\":",
-            Header::FileId => b"\"fileId\":",
-            Header::FrameId => b"\"frameId\":",
-            Header::GroupIds => b"\"groupIds\":",
-            Header::Id => b"\"id\":",
-            Header::Index => b"\"index\":",
-            Header::IsDeleted => b"\"isDeleted\":",
-            Header::StartBinding => b"\"startBinding\":",
-            Header::KindName => b"\"type\":",
-            Header::Updated => b"\"updated\":",
-            Header::Version => b"\"version\":",
-            Header::VersionNonce => b"\"versionNonce\":",
         }
     }
 }

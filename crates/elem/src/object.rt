@@ -1,22 +1,21 @@
 //! Objects whose members are appended one after another.
 
-ghost use Rattle.std.specs.Prelude.{◌≡◌, ℕ, ◌≤◌, List as Items, [], ◌∷◌, ◌++◌, IfOk, OnOk, OnErr, All, length};
-ghost use Rattle.std.specs.List.{prefix_len};
+ghost use Rattle.std.specs.Prelude.{◌≡◌, ℕ, List as Items, [], ◌∷◌, ◌++◌, IfOk, OnOk, OnErr, All, length};
 ghost use Rattle.std.specs.Str.{IsUtf8};
 ghost use Rattle.json_text.specs.Appending.{Extends};
-ghost use Rattle.json_text.specs.Characters.{quote};
 ghost use Rattle.json_text.specs.Compact.{Member as Pair};
 ghost use Rattle.json_text.specs.Members.{pairs};
 ghost use Rattle.frac_keys.specs.Keys.{bytes_less};
 ghost use Rattle.elem.specs.Printing.{IsBegun, mark, members_below, members_not_below};
 
 use board_io::bytes_order;
-use json_text::{Member, push_quoted};
+use json_text::Member;
 use scene_json::push_member;
 use std::alloc::AllocError;
 
 /// Appends the first members, whose names are less than this one, and gives the others.
 #[tactic(auto, using(crate::proofs::Appending::extends_same, crate::proofs::Appending::extends_by, crate::proofs::Appending::extends_then))]
+#[inline(always)]
 pub(crate) fn push_below<'a>(
     out: &mut Vec<u8>,
     start: usize,
@@ -30,27 +29,26 @@ pub(crate) fn push_below<'a>(
     ensures utf8 { IsUtf8 name.now }
     ensures kept { Extends out.old.items out.new.items }
 {
-    let (below, left) = members.split_at(count_below(members, name));
-    push_members(out, start, below)?;
+    let mut left = members;
+    while let Some((member, others)) = left.split_first() {
+        if !is_below(member, name) {
+            return Ok(left);
+        }
+        push_mark(out, start)?;
+        push_member(out, &member.name, &member.value)?;
+        left = others;
+    }
     Ok(left)
 }
 
-/// How many of the first members have names that are less than this one.
-fn count_below(members: &[Member], name: &str) -> usize
-    ensures count { result ≡ prefix_len (λ m. bytes_less m.name name.now) members.now }
-    ensures bound { result ≤ length members.now }
-{
-    members
-        .iter()
-        .take_while(|member| is_below(member, name))
-        .count()
-}
-
-/// Whether the name of a member is less than this one.
+/// Whether the name of a member is less than this one. Mostly their first bytes tell.
 pub(crate) fn is_below(member: &Member, name: &str) -> bool
     ensures { result ≡ bytes_less member.now.name name.now }
 {
-    bytes_order(member.name.as_bytes(), name.as_bytes()).is_lt()
+    match (member.name.as_bytes(), name.as_bytes()) {
+        ([a, ..], [b, ..]) if a != b => a < b,
+        (a, b) => bytes_order(a, b).is_lt(),
+    }
 }
 
 /// Appends members to an object that begins at an offset.
@@ -72,20 +70,6 @@ pub(crate) fn push_members(
     Ok(())
 }
 
-/// Begins a member of this name in an object that begins at an offset.
-#[tactic(auto, using(crate::proofs::Appending::extends_same, crate::proofs::Appending::extends_by, crate::proofs::Appending::extends_then))]
-pub(crate) fn begin_member(out: &mut Vec<u8>, start: usize, name: &str) -> Result<(), AllocError>
-    ensures text { OnOk result (out.new.items
-        ≡ (out.old.items ++ mark start out.old.items ∷ []) ++ (quote name.now ++ 58 ∷ [])) }
-    ensures utf8 { IsUtf8 name.now }
-    ensures kept { OnErr result (Extends out.old.items out.new.items) }
-{
-    push_mark(out, start)?;
-    push_quoted(out, name)?;
-    out.push(b':')?;
-    Ok(())
-}
-
 /// Begins a member in an object that begins at an offset, where the name's quote and the colon behind it are these bytes.
 #[tactic(auto, using(crate::proofs::Appending::extends_same, crate::proofs::Appending::extends_by, crate::proofs::Appending::extends_then))]
 pub(crate) fn begin_quoted(out: &mut Vec<u8>, start: usize, head: &[u8]) -> Result<(), AllocError>
@@ -97,7 +81,7 @@ pub(crate) fn begin_quoted(out: &mut Vec<u8>, start: usize, head: &[u8]) -> Resu
 }
 
 /// Appends what stands before a member of an object that begins at an offset: `{` before the first, and else a comma.
-fn push_mark(out: &mut Vec<u8>, start: usize) -> Result<(), AllocError>
+pub(crate) fn push_mark(out: &mut Vec<u8>, start: usize) -> Result<(), AllocError>
     ensures ok { OnOk result (out.new.items ≡ out.old.items ++ mark start out.old.items ∷ []) }
     ensures err { OnErr result (out.new.items ≡ out.old.items) }
 {

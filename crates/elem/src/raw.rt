@@ -4,6 +4,7 @@ ghost use Rattle.std.specs.Prelude.{◌≡◌, ◌≢◌, ℕ, ◌+◌, List as 
 ghost use Rattle.std.specs.List.{join_with_byte};
 ghost use Rattle.std.specs.Str.{IsUtf8};
 ghost use Rattle.json_text.specs.Appending.{Extends};
+ghost use Rattle.json_text.specs.Characters.{quote};
 ghost use Rattle.json_text.specs.Compact.{Member as Pair, object_text};
 ghost use Rattle.json_text.specs.Members.{pairs};
 ghost use Rattle.json_text.specs.Value.{IsCompact};
@@ -14,7 +15,7 @@ ghost use Rattle.elem.specs.Texts.{binding_text, header_members, element_members
 
 use crate::element::Element;
 use crate::header::{Header, headers_of};
-use crate::object::{begin_member, begin_quoted, push_below, push_members};
+use crate::object::{begin_quoted, push_below, push_mark, push_members};
 use crate::parts::Binding;
 use crate::values::{
     push_key, push_kind, push_listing, push_null, push_text, push_texts, push_truth,
@@ -105,32 +106,76 @@ fn push_header(
     ensures nests { OnOk result (IsCompact 119 (header_value e.now header)) }
     ensures kept { OnErr result (Extends out.old.items out.new.items) }
 {
-    begin_quoted(out, start, header.head())?;
-    push_value(out, e, header)
+    push_mark(out, start)?;
+    push_named(out, e, header)
 }
 
-/// Appends the value of a header member.
-#[tactic(auto, using(crate::proofs::Appending::on_err_same))]
-fn push_value(out: &mut Vec<u8>, e: &Element, header: Header) -> Result<(), AllocError>
-    ensures text { OnOk result (out.new.items ≡ out.old.items ++ header_value e.now header) }
+/// Appends a header member's name in quotes, a colon and its value. Each name is written out here, so that its length is
+/// known when it is copied.
+#[tactic(auto, using(crate::proofs::Appending::extends_same, crate::proofs::Appending::extends_by, crate::proofs::Appending::extends_then, crate::proofs::Appending::on_err_same, crate::proofs::Appending::on_err_then), unfolding(json_text::specs::Characters::quote))]
+fn push_named(out: &mut Vec<u8>, e: &Element, header: Header) -> Result<(), AllocError>
+    ensures text { OnOk result (out.new.items
+        ≡ (out.old.items ++ (quote (header_name header) ++ 58 ∷ [])) ++ header_value e.now header) }
     ensures kept { OnErr result (Extends out.old.items out.new.items) }
     ensures nests { OnOk result (IsCompact 119 (header_value e.now header)) }
 {
     match header {
-        Header::BoundElements => push_listing(out, &e.bound),
-        Header::ContainerId => push_text(out, &e.container),
-        Header::EndBinding => push_binding(out, &e.end_binding),
-        Header::FileId => push_text(out, &e.file),
-        Header::FrameId => push_text(out, &e.frame),
-        Header::GroupIds => push_texts(out, &e.groups),
-        Header::Id => push_quote(out, &e.id),
-        Header::Index => push_key(out, &e.index),
-        Header::IsDeleted => push_truth(out, e.deleted),
-        Header::StartBinding => push_binding(out, &e.start_binding),
-        Header::KindName => push_kind(out, &e.kind),
-        Header::Updated => push_whole(out, e.updated),
-        Header::Version => push_whole(out, e.version),
-        Header::VersionNonce => push_whole(out, e.nonce),
+        Header::BoundElements => {
+            out.extend_from_slice(b"\"boundElements\":")?;
+            push_listing(out, &e.bound)
+        }
+        Header::ContainerId => {
+            out.extend_from_slice(b"\"containerId\":")?;
+            push_text(out, &e.container)
+        }
+        Header::EndBinding => {
+            out.extend_from_slice(b"\"endBinding\":")?;
+            push_binding(out, &e.end_binding)
+        }
+        Header::FileId => {
+            out.extend_from_slice(b"\"fileId\":")?;
+            push_text(out, &e.file)
+        }
+        Header::FrameId => {
+            out.extend_from_slice(b"\"frameId\":")?;
+            push_text(out, &e.frame)
+        }
+        Header::GroupIds => {
+            out.extend_from_slice(b"\"groupIds\":")?;
+            push_texts(out, &e.groups)
+        }
+        Header::Id => {
+            out.extend_from_slice(b"\"id\":")?;
+            push_quote(out, &e.id)
+        }
+        Header::Index => {
+            out.extend_from_slice(b"\"index\":")?;
+            push_key(out, &e.index)
+        }
+        Header::IsDeleted => {
+            out.extend_from_slice(b"\"isDeleted\":")?;
+            push_truth(out, e.deleted)
+        }
+        Header::StartBinding => {
+            out.extend_from_slice(b"\"startBinding\":")?;
+            push_binding(out, &e.start_binding)
+        }
+        Header::KindName => {
+            out.extend_from_slice(b"\"type\":")?;
+            push_kind(out, &e.kind)
+        }
+        Header::Updated => {
+            out.extend_from_slice(b"\"updated\":")?;
+            push_whole(out, e.updated)
+        }
+        Header::Version => {
+            out.extend_from_slice(b"\"version\":")?;
+            push_whole(out, e.version)
+        }
+        Header::VersionNonce => {
+            out.extend_from_slice(b"\"versionNonce\":")?;
+            push_whole(out, e.nonce)
+        }
     }
 }
 
@@ -147,7 +192,7 @@ fn push_binding(out: &mut Vec<u8>, binding: &Option<Binding>) -> Result<(), Allo
     };
     let start = out.len();
     let rest = push_below(out, start, binding.rest.as_slice(), "elementId")?;
-    begin_member(out, start, "elementId")?;
+    begin_quoted(out, start, b"\"elementId\":")?;
     push_quote(out, &binding.target)?;
     push_members(out, start, rest)?;
     out.push(b'}')?;

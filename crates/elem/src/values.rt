@@ -9,11 +9,11 @@ ghost use Rattle.json_text.specs.Value.{IsCompact};
 ghost use Rattle.elem.specs.Texts.{truth_text, text_or_null, kind_name, role_name, bound_text};
 
 use crate::kind::{Kind, Role};
-use crate::object::begin_member;
+use crate::object::begin_quoted;
 use crate::parts::BoundRef;
 use board_io::List;
 use frac_keys::Key;
-use json_text::{Text, push_quote, push_quoted};
+use json_text::{Text, push_quote};
 use std::alloc::AllocError;
 
 /// Appends null.
@@ -38,24 +38,25 @@ pub(crate) fn push_truth(out: &mut Vec<u8>, truth: bool) -> Result<(), AllocErro
 }
 
 /// Appends the quote of a kind's name.
+#[tactic(auto, using(json_text::proofs::CompactLaws::compact_texts), unfolding(json_text::specs::Characters::quote))]
 pub(crate) fn push_kind(out: &mut Vec<u8>, kind: &Kind) -> Result<(), AllocError>
     ensures text { OnOk result (out.new.items ≡ out.old.items ++ quote (kind_name kind.now)) }
     ensures err { OnErr result (out.new.items ≡ out.old.items) }
     ensures nests { IsCompact 0 (quote (kind_name kind.now)) }
 {
     match kind {
-        Kind::Rectangle => push_quoted(out, "rectangle"),
-        Kind::Diamond => push_quoted(out, "diamond"),
-        Kind::Ellipse => push_quoted(out, "ellipse"),
-        Kind::Arrow => push_quoted(out, "arrow"),
-        Kind::Line => push_quoted(out, "line"),
-        Kind::Freedraw => push_quoted(out, "freedraw"),
-        Kind::Text => push_quoted(out, "text"),
-        Kind::Image => push_quoted(out, "image"),
-        Kind::Frame => push_quoted(out, "frame"),
-        Kind::Magicframe => push_quoted(out, "magicframe"),
-        Kind::Iframe => push_quoted(out, "iframe"),
-        Kind::Embeddable => push_quoted(out, "embeddable"),
+        Kind::Rectangle => out.extend_from_slice(b"\"rectangle\""),
+        Kind::Diamond => out.extend_from_slice(b"\"diamond\""),
+        Kind::Ellipse => out.extend_from_slice(b"\"ellipse\""),
+        Kind::Arrow => out.extend_from_slice(b"\"arrow\""),
+        Kind::Line => out.extend_from_slice(b"\"line\""),
+        Kind::Freedraw => out.extend_from_slice(b"\"freedraw\""),
+        Kind::Text => out.extend_from_slice(b"\"text\""),
+        Kind::Image => out.extend_from_slice(b"\"image\""),
+        Kind::Frame => out.extend_from_slice(b"\"frame\""),
+        Kind::Magicframe => out.extend_from_slice(b"\"magicframe\""),
+        Kind::Iframe => out.extend_from_slice(b"\"iframe\""),
+        Kind::Embeddable => out.extend_from_slice(b"\"embeddable\""),
         Kind::Other(name) => push_quote(out, name),
     }
 }
@@ -73,22 +74,29 @@ pub(crate) fn push_text(out: &mut Vec<u8>, text: &Option<Text>) -> Result<(), Al
 }
 
 /// Appends the quote of a key, or null where there is none.
+#[tactic(auto, using(crate::proofs::Appending::on_err_same))]
 pub(crate) fn push_key(out: &mut Vec<u8>, key: &Option<Key>) -> Result<(), AllocError>
     ensures text { OnOk result (out.new.items ≡ out.old.items ++ text_or_null key.now) }
-    ensures err { OnErr result (out.new.items ≡ out.old.items) }
-    ensures nests { IsCompact 0 (text_or_null key.now) }
+    ensures kept { OnErr result (Extends out.old.items out.new.items) }
+    ensures nests { OnOk result (IsCompact 0 (text_or_null key.now)) }
 {
     match key {
         None => push_null(out),
-        Some(key) => push_quoted(out, key_text(key)),
+        Some(key) => push_key_quote(out, key),
     }
 }
 
-/// The text of a key, whose bytes are letters and digits.
-fn key_text(key: &Key) -> &str
-    ensures { result.now ≡ key.now }
+/// Appends the quote of a key, in which letters and digits stand as they are.
+#[tactic(auto, using(crate::proofs::Appending::extends_same, crate::proofs::Appending::extends_by, crate::proofs::Appending::extends_then))]
+fn push_key_quote(out: &mut Vec<u8>, key: &Key) -> Result<(), AllocError>
+    ensures text { OnOk result (out.new.items ≡ out.old.items ++ quote key.now) }
+    ensures kept { OnErr result (Extends out.old.items out.new.items) }
+    ensures nests { OnOk result (IsCompact 0 (quote key.now)) }
 {
-    std::str::from_utf8(key.as_bytes()).unwrap()
+    out.push(b'"')?;
+    out.extend_from_slice(key.as_bytes())?;
+    out.push(b'"')?;
+    Ok(())
 }
 
 /// Appends the array of the texts.
@@ -135,22 +143,23 @@ fn push_entry(out: &mut Vec<u8>, entry: &BoundRef) -> Result<(), AllocError>
     ensures nests { OnOk result (IsCompact 1 (bound_text entry.now)) }
 {
     let start = out.len();
-    begin_member(out, start, "id")?;
+    begin_quoted(out, start, b"\"id\":")?;
     push_quote(out, &entry.id)?;
-    begin_member(out, start, "type")?;
+    begin_quoted(out, start, b"\"type\":")?;
     push_role(out, entry.role)?;
     out.push(b'}')?;
     Ok(())
 }
 
 /// Appends the quote of a role's name.
+#[tactic(auto, using(json_text::proofs::CompactLaws::compact_texts), unfolding(json_text::specs::Characters::quote))]
 fn push_role(out: &mut Vec<u8>, role: Role) -> Result<(), AllocError>
     ensures text { OnOk result (out.new.items ≡ out.old.items ++ quote (role_name role)) }
     ensures err { OnErr result (out.new.items ≡ out.old.items) }
     ensures nests { IsCompact 0 (quote (role_name role)) }
 {
     match role {
-        Role::Arrow => push_quoted(out, "arrow"),
-        Role::Text => push_quoted(out, "text"),
+        Role::Arrow => out.extend_from_slice(b"\"arrow\""),
+        Role::Text => out.extend_from_slice(b"\"text\""),
     }
 }

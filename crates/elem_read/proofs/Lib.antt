@@ -1,10 +1,12 @@
 pub mod Decided
 pub mod Firsts
+pub mod FromPlace
 pub mod Keeping
 pub mod NoSelections
 pub mod Others
 pub mod Parts
 pub mod Read
 pub mod ReadElements
+pub mod ShortValues
 pub mod Unique
 pub mod Whole

@@ -1,5 +1,5 @@
 -- The members that are no header members.
-use Rattle.std.proofs.Common.{◌≡◌, ℕ, List, [], ◌∷◌, Bool, true, false, not, cond, Some, refl, sym, ap, subst, ◌∙◌, map, filter, bytes_eq}
+use Rattle.std.proofs.Common.{◌≡◌, ℕ, List, [], ◌∷◌, Bool, true, false, not, ◌||◌, cond, Some, refl, sym, ap, subst, ◌∙◌, map, filter, bytes_eq}
 use Rattle.std.specs.Cmp.Lexicographic.{slice_cmp}
 use Rattle.std.specs.List.{AllByRecursion, IsDistinct, list_any}
 use Rattle.std.specs.List.Sorted.{IsPermutation, IsSortedBy}
@@ -71,6 +71,16 @@ kept-same test (m ∷ ms) name other =
           kept-same test ms name other ∙ sym (lookup_tail (bytes_eq name) (m.name, m.value) (pairs ms) apart)
       | false ↦ λ e. head-or name (m.name, m.value) (pairs (kept test ms)) (pairs ms) (kept-same test ms name other)
     ] refl
+
+-- where the second test has nothing to find, the first one alone tells
+pub kept-alone : (test : List ℕ → Bool) (ms : List Member) → kept test ms ≡ kept (λ name. test name || list_any (bytes_eq name) []) ms
+kept-alone test [] = refl
+kept-alone test (m ∷ ms) =
+    let alone : List Member = kept (λ name. test name || list_any (bytes_eq name) []) ms in
+    elim (test m.name) as (λ b. cond (not b) (m ∷ kept test ms) (kept test ms) ≡ cond (not (b || false)) (m ∷ alone) alone) [
+      | true ↦ kept-alone test ms
+      | false ↦ ap (λ others. m ∷ others) (kept-alone test ms)
+    ]
 
 pub kept-others : (test : List ℕ → Bool) (ms : List Member) → HaveRisingNames (pairs ms) → AreOthers test (find_in (pairs ms)) (kept test ms)
 kept-others test ms rise = record {

@@ -30,25 +30,33 @@ pub(crate) fn element_of(alloc: Global, members: List<Member>) -> Result<Element
 {
     let id = id(alloc, &members)?;
     let kind = kind(alloc, &members)?;
-    let version = whole(&members, "version", ElemFault::Version)?;
-    let nonce = whole(&members, "versionNonce", ElemFault::Nonce)?;
-    let updated = whole(&members, "updated", ElemFault::Updated)?;
+    let version = whole(&members, "version", 21, ElemFault::Version)?;
+    let nonce = whole(&members, "versionNonce", 22, ElemFault::Nonce)?;
+    let updated = whole(&members, "updated", 20, ElemFault::Updated)?;
     let index = index(alloc, &members)?;
-    let deleted = truth(&members, "isDeleted", ElemFault::Deleted)?;
-    let groups = texts(alloc, &members, "groupIds", ElemFault::Groups)?;
-    let frame = text_or_null(alloc, &members, "frameId", ElemFault::Frame)?;
+    let deleted = truth(&members, "isDeleted", 9, ElemFault::Deleted)?;
+    let groups = texts(alloc, &members, "groupIds", 5, ElemFault::Groups)?;
+    let frame = text_or_null(alloc, &members, "frameId", 4, ElemFault::Frame)?;
     let bound = listing(alloc, &members)?;
     let container = own_text(
         alloc,
         &members,
         is_text(&kind),
         "containerId",
+        3,
         ElemFault::Container,
     )?;
     let arrow = is_arrow(&kind);
     let start_binding = own_binding(alloc, &members, arrow, "startBinding")?;
     let end_binding = own_binding(alloc, &members, arrow, "endBinding")?;
-    let file = own_text(alloc, &members, is_image(&kind), "fileId", ElemFault::File)?;
+    let file = own_text(
+        alloc,
+        &members,
+        is_image(&kind),
+        "fileId",
+        3,
+        ElemFault::File,
+    )?;
     let rest = others(members, &kind);
     Ok(Element {
         id,

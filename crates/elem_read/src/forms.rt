@@ -2,19 +2,18 @@
 
 ghost use Rattle.std.specs.Prelude.{◌≡◌, codes};
 ghost use Rattle.json_text.specs.Members.{pairs};
-ghost use Rattle.scene_json.specs.Named.{value_at};
+ghost use Rattle.scene_json.specs.Named.{value_at, HaveRisingNames};
 ghost use Rattle.elem.specs.Forms.{IsText, IsId, IsWholeNumber, IsTruth, IsTextOrNull, IsKeyOrNull, AreTexts};
 ghost use Rattle.elem.specs.Said.{IsOwn};
 ghost use Rattle.elem_read.specs.Parts.{Reads};
 ghost use Rattle.elem_read.specs.declared.fault.ElemFault.TheVariants as faults;
 
 use crate::fault::ElemFault;
+use crate::near::{text_near, truth_near, value_near, whole_near};
 use board_io::{List, Stop};
 use frac_keys::Key;
 use json_text::{Member, Text};
-use scene_json::{
-    is_null, shaped, text_named, text_of, texts_of, truth_named, value_named, whole_named,
-};
+use scene_json::{is_null, shaped, text_of, texts_of};
 use std::alloc::{AllocError, Global};
 
 /// The member of this name, a text.
@@ -22,11 +21,13 @@ pub(crate) fn text(
     alloc: Global,
     members: &List<Member>,
     name: &str,
+    place: usize,
     fault: ElemFault,
 ) -> Result<Text, Stop<ElemFault>>
+    requires { HaveRisingNames (pairs members.now) }
     ensures { Reads (IsText (value_at name.now (pairs members.now))) fault result }
 {
-    match text_named(alloc, members, name)? {
+    match text_near(alloc, members, name, place)? {
         Some(text) => Ok(text),
         None => Err(Stop::Fault(fault)),
     }
@@ -34,9 +35,10 @@ pub(crate) fn text(
 
 /// The id, a text that isn't empty.
 pub(crate) fn id(alloc: Global, members: &List<Member>) -> Result<Text, Stop<ElemFault>>
+    requires { HaveRisingNames (pairs members.now) }
     ensures { Reads (IsId (value_at (codes "id") (pairs members.now))) faults.Id result }
 {
-    match text_named(alloc, members, "id")? {
+    match text_near(alloc, members, "id", 7)? {
         Some(id) if !id.as_bytes().is_empty() => Ok(id),
         _ => Err(Stop::Fault(ElemFault::Id)),
     }
@@ -46,11 +48,13 @@ pub(crate) fn id(alloc: Global, members: &List<Member>) -> Result<Text, Stop<Ele
 pub(crate) fn whole(
     members: &List<Member>,
     name: &str,
+    place: usize,
     fault: ElemFault,
 ) -> Result<u64, Stop<ElemFault>>
+    requires { HaveRisingNames (pairs members.now) }
     ensures { Reads (IsWholeNumber (value_at name.now (pairs members.now))) fault result }
 {
-    match whole_named(members, name) {
+    match whole_near(members, name, place) {
         Some(number) => Ok(number),
         None => Err(Stop::Fault(fault)),
     }
@@ -60,11 +64,13 @@ pub(crate) fn whole(
 pub(crate) fn truth(
     members: &List<Member>,
     name: &str,
+    place: usize,
     fault: ElemFault,
 ) -> Result<bool, Stop<ElemFault>>
+    requires { HaveRisingNames (pairs members.now) }
     ensures { Reads (IsTruth (value_at name.now (pairs members.now))) fault result }
 {
-    match truth_named(members, name) {
+    match truth_near(members, name, place) {
         Some(truth) => Ok(truth),
         None => Err(Stop::Fault(fault)),
     }
@@ -75,11 +81,13 @@ pub(crate) fn text_or_null(
     alloc: Global,
     members: &List<Member>,
     name: &str,
+    place: usize,
     fault: ElemFault,
 ) -> Result<Option<Text>, Stop<ElemFault>>
+    requires { HaveRisingNames (pairs members.now) }
     ensures { Reads (IsTextOrNull (value_at name.now (pairs members.now))) fault result }
 {
-    let Some(value) = value_named(members, name) else {
+    let Some(value) = value_near(members, name, place) else {
         return Ok(None);
     };
     if is_null(value) {
@@ -93,9 +101,10 @@ pub(crate) fn text_or_null(
 
 /// The key, or none where `index` is null or a text that is no key.
 pub(crate) fn index(alloc: Global, members: &List<Member>) -> Result<Option<Key>, Stop<ElemFault>>
+    requires { HaveRisingNames (pairs members.now) }
     ensures { Reads (IsKeyOrNull (value_at (codes "index") (pairs members.now))) faults.Index result }
 {
-    match text_or_null(alloc, members, "index", ElemFault::Index)? {
+    match text_or_null(alloc, members, "index", 8, ElemFault::Index)? {
         Some(text) => Ok(Key::read(alloc, text.as_bytes())?),
         None => Ok(None),
     }
@@ -106,11 +115,13 @@ pub(crate) fn texts(
     alloc: Global,
     members: &List<Member>,
     name: &str,
+    place: usize,
     fault: ElemFault,
 ) -> Result<List<Text>, Stop<ElemFault>>
+    requires { HaveRisingNames (pairs members.now) }
     ensures { Reads (AreTexts (value_at name.now (pairs members.now))) fault result }
 {
-    let Some(value) = value_named(members, name) else {
+    let Some(value) = value_near(members, name, place) else {
         return Err(Stop::Fault(fault));
     };
     match texts_of(alloc, value)? {
@@ -125,12 +136,14 @@ pub(crate) fn own_text(
     members: &List<Member>,
     own: bool,
     name: &str,
+    place: usize,
     fault: ElemFault,
 ) -> Result<Option<Text>, Stop<ElemFault>>
+    requires { HaveRisingNames (pairs members.now) }
     ensures { Reads (IsOwn own IsTextOrNull (value_at name.now (pairs members.now))) fault result }
 {
     if own {
-        text_or_null(alloc, members, name, fault)
+        text_or_null(alloc, members, name, place, fault)
     } else {
         Ok(None)
     }

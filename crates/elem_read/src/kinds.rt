@@ -1,9 +1,9 @@
 //! Kinds, and the members that they have.
 
-ghost use Rattle.std.specs.Prelude.{◌≡◌, ◌≢◌, ◌↔◌, Some, IsTrue, codes, not, filter, bytes_eq};
+ghost use Rattle.std.specs.Prelude.{◌≡◌, ◌≢◌, ◌↔◌, Some, IsTrue, codes, not, filter, bytes_eq, [], false};
 ghost use Rattle.std.specs.List.{list_any};
 ghost use Rattle.json_text.specs.Members.{pairs};
-ghost use Rattle.scene_json.specs.Named.{value_at};
+ghost use Rattle.scene_json.specs.Named.{value_at, HaveRisingNames};
 ghost use Rattle.elem.specs.Facts as facts;
 ghost use Rattle.elem.specs.Facts.{IsKind, header_names, own_names};
 ghost use Rattle.elem.specs.Forms.{IsText, IsKindName};
@@ -22,11 +22,12 @@ use std::alloc::Global;
 
 /// The kind, which isn't `selection`.
 pub(crate) fn kind(alloc: Global, members: &List<Member>) -> Result<Kind, Stop<ElemFault>>
-    requires { value_at (codes "type") (pairs members.now) ≢ Some selection_text }
+    requires rise { HaveRisingNames (pairs members.now) }
+    requires kept { value_at (codes "type") (pairs members.now) ≢ Some selection_text }
     ensures { ReadsOr (IsKindName (value_at (codes "type") (pairs members.now)))
         (IsText (value_at (codes "type") (pairs members.now))) faults.Kind result }
 {
-    Ok(kind_named(text(alloc, members, "type", ElemFault::Kind)?))
+    Ok(kind_named(text(alloc, members, "type", 19, ElemFault::Kind)?))
 }
 
 /// The kind of this name.
@@ -101,16 +102,27 @@ pub(crate) fn others(members: List<Member>, kind: &Kind) -> List<Member>
     ensures { result ≡ filter (λ member. not (facts.is_header kind.now member.name)) members }
 {
     let mut others = members.into_vec();
-    others.retain(|member| !is_header(kind, &member.name));
+    drop_headers(&mut others, kind);
     others.shrink_to_fit();
     List::from_vec(others)
 }
 
+/// Drops the header members of the kind. Most kinds have only those that all have.
+fn drop_headers(members: &mut Vec<Member>, kind: &Kind)
+    ensures { members.new.items ≡ filter (λ member. not (facts.is_header kind.now member.name)) members.old.items }
+{
+    if has_own(kind) {
+        members.retain(|member| !is_header(kind, member.name.as_bytes()));
+    } else {
+        members.retain(|member| !is_common(member.name.as_bytes()));
+    }
+}
+
 /// Whether a member of this name is a header member of the kind.
-fn is_header(kind: &Kind, name: &Text) -> bool
+fn is_header(kind: &Kind, name: &[u8]) -> bool
     ensures { result ≡ facts.is_header kind.now name.now }
 {
-    is_common(name.as_bytes()) || is_own(kind, name.as_bytes())
+    is_common(name) || is_own(kind, name)
 }
 
 /// Whether all kinds have a header member of this name. The first letter tells most names apart.
@@ -131,6 +143,13 @@ fn is_common(name: &[u8]) -> bool
         [b'v', ..] => name == b"version".as_slice() || name == b"versionNonce".as_slice(),
         _ => false,
     }
+}
+
+/// Whether the kind has header members that others have not.
+fn has_own(kind: &Kind) -> bool
+    ensures { result ≡ false → own_names kind.now ≡ [] }
+{
+    matches!(kind, Kind::Text | Kind::Arrow | Kind::Image)
 }
 
 /// Whether the kind alone has a header member of this name.

@@ -8,6 +8,7 @@ mod forms;
 mod kinds;
 pub mod laws;
 mod listing;
+mod near;
 mod reading;
 
 pub use fault::{ElemFault, FaultyElement};

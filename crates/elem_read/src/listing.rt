@@ -2,7 +2,7 @@
 
 ghost use Rattle.std.specs.Prelude.{◌≡◌, codes, IfOk, OnOk, MatchOption};
 ghost use Rattle.json_text.specs.Members.{pairs};
-ghost use Rattle.scene_json.specs.Named.{value_at};
+ghost use Rattle.scene_json.specs.Named.{value_at, HaveRisingNames};
 ghost use Rattle.scene_json.specs.TheOne.{IsTheOne};
 ghost use Rattle.elem.specs.Forms.{IsText, IsListingEntry, AreListingEntries, IsListing};
 ghost use Rattle.elem.specs.Texts.{role_name};
@@ -11,10 +11,11 @@ ghost use Rattle.elem_read.specs.Parts.{Reads, TakesEntry};
 ghost use Rattle.elem_read.specs.declared.fault.ElemFault.TheVariants as faults;
 
 use crate::fault::ElemFault;
+use crate::near::value_near;
 use board_io::{List, Stop};
 use elem::{BoundRef, Role};
 use json_text::{Member, Raw};
-use scene_json::{has_value, items, members, shaped, text_named, value_named};
+use scene_json::{has_value, items, members, shaped, text_named};
 use std::alloc::{AllocError, Global};
 
 /// The listing: the entries of an array. What has another form is dropped.
@@ -22,9 +23,10 @@ pub(crate) fn listing(
     alloc: Global,
     members: &List<Member>,
 ) -> Result<List<BoundRef>, Stop<ElemFault>>
+    requires { HaveRisingNames (pairs members.now) }
     ensures { Reads (IsListing (value_at (codes "boundElements") (pairs members.now))) faults.Bound result }
 {
-    let Some(value) = value_named(members, "boundElements") else {
+    let Some(value) = value_near(members, "boundElements", 2) else {
         return Err(Stop::Fault(ElemFault::Bound));
     };
     let Some(items) = shaped(items(alloc, value))? else {

@@ -1,9 +1,10 @@
 //! Elements, read from values.
 
 ghost use Rattle.std.specs.Prelude.{◌≡◌, ◌↔◌, ℕ, List as Items, IsTrue, MatchOption, IfOk, IfSome, Ok, Err, All};
+ghost use Rattle.json_text.specs.Compact.{Member as Pair};
 ghost use Rattle.json_text.specs.Members.{pairs};
 ghost use Rattle.json_text.specs.Value.{IsCompact};
-ghost use Rattle.scene_json.specs.Walks.{AreLeft, IsTakenApart};
+ghost use Rattle.scene_json.specs.Walks.{AreLeft, AreBehind, IsTakenApart};
 ghost use Rattle.elem.specs.Forms.{IsObject};
 ghost use Rattle.elem_read.specs.Elements.{AreRead, IsFirstFaulty};
 ghost use Rattle.elem_read.specs.Reading.{IsSelection, IsElementIn, IsFaultIn, IsWholeElement};
@@ -57,17 +58,25 @@ fn read_members(
     Ok(Some(element))
 }
 
-/// Whether an element with these members nests at most as deep as it may. Most values aren't looked through, since they
-/// open no bracket.
+/// Whether an element with these members nests at most as deep as it may.
 fn is_shallow(members: &List<Member>) -> bool
     ensures { (value : Items ℕ) → IsObject value (pairs members.now) → IsTrue result ↔ IsCompact 120 value }
 {
     for member in members.as_slice() {
-        if !nests_at_most(&member.value, DEEPEST - 1) {
+        if !nests_within(&member.value, DEEPEST - 1) {
             return false;
         }
     }
     true
+}
+
+/// Whether at most so many brackets are open at once in the value. Most values aren't looked through, since they have no
+/// more bytes than that.
+#[tactic(auto, using(crate::proofs::ShortValues::short_nests))]
+fn nests_within(value: &Raw, limit: u64) -> bool
+    ensures { IsTrue result ↔ IsCompact limit value.now }
+{
+    value.as_bytes().len() as u64 <= limit || nests_at_most(value, limit)
 }
 
 /// The elements that the values are, in their order, without what is dropped; or the first faulty one.
@@ -92,16 +101,19 @@ pub fn read_elements(
 
 /// The elements that the items left of an array are, in their order, without what is dropped; or the first faulty one. Each
 /// item is taken apart as it comes.
-pub fn read_array(alloc: Global, objects: Objects<'_>) -> Result<List<Element>, Stop<FaultyElement>>
-    ensures read { IfOk result (λ elements. (values : Items (Items ℕ)) → AreLeft objects.entry values → AreRead values elements) }
+pub fn read_array(
+    alloc: Global,
+    objects: &mut Objects<'_>,
+) -> Result<List<Element>, Stop<FaultyElement>>
+    ensures read { IfOk result (λ elements. (values : Items (Items ℕ)) → AreLeft objects.old values → AreRead values elements) }
     ensures fault { (faulty : FaultyElement) → result ≡ Err (Stop.Fault faulty)
-        → (values : Items (Items ℕ)) → AreLeft objects.entry values → IsFirstFaulty values faulty.place faulty.fault }
+        → (values : Items (Items ℕ)) → AreLeft objects.old values → IsFirstFaulty values faulty.place faulty.fault }
     ensures whole { IfOk result (All IsWholeElement) }
+    ensures behind { (members : Items Pair) → AreBehind objects.old members → AreBehind objects.new members }
 {
-    let mut left = objects;
     let mut elements = Vec::new(alloc);
     let mut place = 0;
-    while let Some(taken) = left.next(alloc)? {
+    while let Some(taken) = objects.next(alloc)? {
         let read = at_place(read_members(alloc, taken), place)?;
         if let Some(element) = read {
             elements.push(element)?;

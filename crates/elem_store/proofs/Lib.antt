@@ -4,10 +4,10 @@ pub mod Leader
 pub mod BestUpdates
 pub mod Rising
 pub mod StoreLaws
-pub mod SortedUpdates
 pub mod Edits
 pub mod Placed
 mod MovedOut
+mod Given
 pub mod Stored
 pub mod Woven
 pub mod Fronts

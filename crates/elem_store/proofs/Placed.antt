@@ -210,7 +210,7 @@ at-within elements places o id i at =
     let x = found (slice_get (elements_at elements places) i) id at in
     rw (← length-at elements places o.within) (slice_get_within (elements_at elements places) i x.0 x.1)
 
-read-at : (elements : List ElementValue) (places : List ℕ) → AllWithin elements places → (i n : ℕ) (d : ElementValue) → i < length places → get_or (elements_at elements places) i d ≡ get_or elements (get_or places i n) d
+pub read-at : (elements : List ElementValue) (places : List ℕ) → AllWithin elements places → (i n : ℕ) (d : ElementValue) → i < length places → get_or (elements_at elements places) i d ≡ get_or elements (get_or places i n) d
 read-at elements places h i n d l =
     sym (get_or_from_slice_get elements (get_or places i n) (get_or (elements_at elements places) i d) d (at-index elements places h i n d l))
 

@@ -7,3 +7,9 @@ use Rattle.elem.specs.ElementValue.{ElementValue}
 pub record Stock : Type 0 where
   pub elements : List ElementValue
   pub spare : ℕ
+
+-- The same, and the stored elements in the order in which their ids came.
+pub record Held : Type 0 where
+  pub elements : List ElementValue
+  pub spare : ℕ
+  pub given : List ElementValue

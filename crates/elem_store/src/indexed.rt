@@ -8,7 +8,7 @@ use std::alloc::{AllocError, Global};
 use std::marker::Model;
 
 /// How many places stand beside the settled ones before all are put among them.
-const MOST_LATE: usize = 1024;
+const MOST_LATE: usize = 256;
 
 /// A place that came lately, and how many of the settled ones stand before it.
 #[derive(Clone, Copy)]

@@ -51,6 +51,24 @@ impl Shelf {
         self.elements.len()
     }
 
+    /// The elements.
+    pub(crate) fn as_slice(&self) -> &[Element]
+        ensures { result.now ≡ self.now.items }
+    {
+        self.elements.as_slice()
+    }
+
+    /// The elements, moved out.
+    pub(crate) fn into_vec(self) -> Vec<Element>
+        ensures { result.items ≡ self.items }
+    {
+        let Shelf {
+            elements,
+            fronts: _fronts,
+        } = self;
+        elements
+    }
+
     /// The element at this place.
     pub(crate) fn get(&self, place: usize) -> Option<&Element>
         ensures { option_copied result ≡ slice_get self.now.items place }

@@ -1,6 +1,6 @@
 //! A store.
 
-ghost use Rattle.std.specs.Prelude.{◌≡◌, ◌+◌, ◌<◌, ◌≤◌, ◌≢◌, List as Items, [], ◌∷◌, ◌++◌, true, length, filter_map, slice_get, option_copied, AllPairs, IsSome, IsOk, IfOk, IfErr, OnOk, Ok, false};
+ghost use Rattle.std.specs.Prelude.{◌≡◌, ◌+◌, ◌<◌, ◌≤◌, ◌≢◌, List as Items, [], ◌∷◌, ◌++◌, true, length, filter_map, slice_get, option_copied, AllPairs, Contains, IsSome, IsOk, IfOk, IfErr, OnOk, Ok, false};
 ghost use Rattle.frac_keys.specs.Rising.{are_rising};
 ghost use Rattle.elem.specs.ElementValue.{ElementValue};
 ghost use Rattle.elem.specs.Said.{AreElements};
@@ -38,13 +38,14 @@ impl Drop for Store {
 impl Model for Store {
     ghost use Rattle.std.specs.Prelude.{length};
     ghost use Rattle.elem_store.specs.Places.{elements_at, spare_in, IsKept};
-    ghost use Rattle.elem_store.specs.Stock.{Stock};
+    ghost use Rattle.elem_store.specs.Stock.{Held};
 
-    ghost Value = { Stock };
+    ghost Value = { Held };
 
     ghost view = { λ s. record {
       elements = elements_at s.elements.items s.places.places;
       spare = spare_in s.elements.room (length s.places.places) s.places.spare;
+      given = s.elements.items;
     } };
 
     ghost invariant = { λ s. IsKept s.elements.items s.places.places };
@@ -61,26 +62,14 @@ impl Store {
         }
     }
 
-    /// What is stored of these updates, of which among equal bests of an id the first counts. They are taken in the order
-    /// of their ids, so that each one's place comes after those that are there.
+    /// What is stored of these updates, of which among equal bests of an id the first counts.
     pub fn from_updates(alloc: Global, updates: List<Element>) -> Result<Store, AllocError>
         ensures { IfOk result (λ store. AreStored updates store.elements) }
     {
-        let mut updates = updates.into_vec();
-        updates.sort_by(|e, other| e.id.cmp(&other.id))?;
         let mut store = Store::new(alloc);
-        store.take_each(updates)?;
+        store.reserve(updates.as_slice().len())?;
+        store.take_all(updates);
         Ok(store)
-    }
-
-    /// Takes the updates in their order.
-    fn take_each(&mut self, elements: Vec<Element>) -> Result<(), AllocError>
-        ensures { OnOk result ((updates : Items ElementValue) → AreStored updates self.old.elements → AreStored (updates ++ elements.items) self.new.elements) }
-    {
-        for e in elements {
-            self.take(e).map_err(|(_, error)| error)?;
-        }
-        Ok(())
     }
 
     /// Makes room for this many new ids. The elements stay, also for want of memory.
@@ -167,6 +156,26 @@ impl Store {
         ensures { result ≡ length self.now.elements }
     {
         self.places.len()
+    }
+
+    /// The stored elements in the order in which their ids came. It takes no memory.
+    pub fn given(&self) -> &[Element]
+        ensures exact { result.now ≡ self.now.given }
+        ensures stored { (e : ElementValue) → Contains self.now.given e → Contains self.now.elements e }
+        ensures all { (e : ElementValue) → Contains self.now.elements e → Contains self.now.given e }
+    {
+        self.elements.as_slice()
+    }
+
+    /// The same, moved out. It takes no memory.
+    pub fn into_given(self) -> Vec<Element>
+        ensures { result.items ≡ self.given }
+    {
+        let Store {
+            elements,
+            places: _places,
+        } = self;
+        elements.into_vec()
     }
 
     /// The stored elements at these indices, in the order of the indices, moved out; the others are dropped. No index

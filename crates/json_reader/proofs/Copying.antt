@@ -21,18 +21,12 @@ module _ (bytes : List ℕ) (next : ℕ) (w : Writer) (high : next < length byte
 
   -- ---- in a string
   module _ (quoted : w.quoted ≡ true) where
-    low : w.from ≤ w.start
-    low = rw quoted at fits.from
-
-    begun : w.start ≤ next
-    begun = rw quoted at fits.to
+    low : (w.from ≤ w.start) × (w.start ≤ next)
+    low = grind (arith, fits.from, fits.to)
 
     -- the string that ends
     ended : (writing_at bytes next w).string ++ byte ∷ [] ≡ stretch bytes w.start (next + 1)
-    ended = rw quoted (sym (one_more bytes w.start next begun high))
-
-    past : w.start ≤ next + 1
-    past = omega (arith, begun)
+    ended = rw quoted (sym (one_more bytes w.start next low.1 high))
 
     pub finished : w.escaped ≡ false → byte ≡ 34 → w.escapes ≡ false → Can (deed (inside w.escaped) w.here.level byte) (writing_at bytes next w) byte
         → HasPut (deed (inside w.escaped) w.here.level byte) bytes next w (record w { quoted = false })
@@ -42,8 +36,8 @@ module _ (bytes : List ℕ) (next : ℕ) (w : Writer) (high : next < length byte
         subst (λ d. HasPut d bytes next w (record w { quoted = false })) (sym is) (record {
           done = λ text there.
               let same : stretch bytes w.start (next + 1) ≡ quote text = sym ended ∙ whole.same (rw quoted bare) ∙ ap quote (quoted-once whole.quoted there) in
-              rw (quoted, stretch_more bytes w.from w.start low (next + 1) past, same, ← append_assoc w.here.text (stretch bytes w.from w.start) (quote text)) refl;
-          fits = record { from = omega (arith, low, past); to = omega arith };
+              rw (quoted, stretch_more bytes w.from w.start low.0 (next + 1) (omega (arith, low)), same, ← append_assoc w.here.text (stretch bytes w.from w.start) (quote text)) refl;
+          fits = record { from = omega (arith, low); to = omega arith };
         })
 
     -- the string, in all bytes
@@ -52,7 +46,7 @@ module _ (bytes : List ℕ) (next : ℕ) (w : Writer) (high : next < length byte
         record {
           pieces = is.pieces;
           good = is.good;
-          parts = parted bytes w.start (next + 1) past ∙ ap (λ xs. xs ++ drop (next + 1) bytes) (sym ended ∙ is.parts ∙ append-nil (string_spelling is.pieces));
+          parts = parted bytes w.start (next + 1) (omega (arith, low)) ∙ ap (λ xs. xs ++ drop (next + 1) bytes) (sym ended ∙ is.parts ∙ append-nil (string_spelling is.pieces));
           means = is.means;
         }
 
@@ -79,8 +73,7 @@ module _ (bytes : List ℕ) (at end : ℕ) (w : Writer) (up : at ≤ end) (high 
 
   pub stretch_in : at < end → w.quoted ≡ true → Ready text (writing_at bytes end (record w { escaped = false })) more
   stretch_in some quoted =
-      let begun : w.start ≤ at = rw quoted at fits.to in
-      rw (quoted, stretch_more bytes w.start at begun end up, first some)
+      rw (quoted, stretch_more bytes w.start at (grind (arith, fits.to)) end up, first some)
       (stretch-quoted text b others more (grown w.here (stretch bytes w.from w.start)) w.around.items (stretch bytes w.start at) w.escaped w.escapes (rw (quoted, first some) at alike) (rw (quoted, first some) at ready))
 
   module _ (some : at < end) (apart : w.quoted ≡ false) where
@@ -89,8 +82,7 @@ module _ (bytes : List ℕ) (at end : ℕ) (w : Writer) (up : at ≤ end) (high 
 
     pub stretch_on : is_space b ≡ false → Ready text (writing_at bytes end w) more
     stretch_on solid =
-        let low : w.from ≤ at = rw apart at fits.from in
-        rw (apart, stretch_more bytes w.from at low end up, first some, ← append_assoc w.here.text (stretch bytes w.from at) (b ∷ others))
+        rw (apart, stretch_more bytes w.from at (grind (arith, fits.from)) end up, first some, ← append_assoc w.here.text (stretch bytes w.from at) (b ∷ others))
         (stretch-appended text b others more here-then w.around.items (rw (apart, first some) at alike) solid (rw (apart, first some) at ready))
 
     pub stretch_skipped : is_space b ≡ true → Ready text (writing_at bytes end (record (copied bytes at w) { from = end })) more

@@ -74,14 +74,11 @@ module _ (done : List Member) (d : Drafted) (row : IsRow done d) (name value : L
   written : now.text ++ 44 ∷ [] ≡ commas all
   written = ap (λ xs. (((xs ++ name) ++ 58 ∷ []) ++ value) ++ 44 ∷ []) row.written ∙ simp (append_assoc, append-nil, flat_map-append)
 
-  longer : length now.text ≡ length (now.text ++ 44 ∷ []) - 1
-  longer = omega (arith, length-append now.text (44 ∷ []))
-
   stands : AreWithin (length now.text) places × (entries now.text places ≡ all)
-  stands = subst (λ xs. AreWithin (length xs) places × (entries xs places ≡ all)) (append-nil now.text) (stand [])
+  stands = rw append-nil at (stand [])
 
   pub whole : IsWhole now
-  whole = record { within = stands.0; written = sym (take_at now.text (44 ∷ []) _ longer) ∙ commas_popped all _ _ written refl ∙ ap pairs_text (sym stands.1) }
+  whole = record { within = stands.0; written = grind (arith, take_at now.text (44 ∷ []), length-append now.text (44 ∷ []), commas_popped all _ _ written refl, stands.1) }
 
   pub closed_so : closed now ≡ pairs_text (collapsed all)
   closed_so = ap (λ ms. pairs_text (collapsed ms)) stands.1

@@ -1,9 +1,10 @@
 -- Where a feed stands in a stream, and what the machine's run over a piece says there.
-use Rattle.std.proofs.Common.{◌≡◌, ℕ, suc, ◌+◌, ◌-◌, ◌<◌, ◌≤◌, List, [], ◌∷◌, ◌++◌, length, take, drop, get_or, true, false, Some, None, refl, sym, ap, subst, subst₂, ◌∙◌, inl, inr, arith, append_assoc, append-nil, length-append, length-drop, drop-cons, take-append-drop}
+use Rattle.std.proofs.Common.{◌≡◌, ℕ, ◌+◌, ◌-◌, ◌<◌, ◌≤◌, List, [], ◌∷◌, ◌++◌, length, take, drop, get_or, true, false, Some, None, refl, sym, ap, subst, subst₂, ◌∙◌, inl, inr, arith, append_assoc, append-nil, length-append, length-drop, drop-cons, take-append-drop, one-add}
 use Rattle.std.specs.Prelude.{slice_get}
 use Rattle.std.specs.List.{prefix_len}
-use Rattle.std.proofs.lemmas.Bool.{cases_Bool, cases_lt, and_parts, false≢true, false_from_ne_true}
+use Rattle.std.proofs.lemmas.Bool.{cases_Bool, cases_lt, false≢true, false_from_ne_true}
 use Rattle.std.proofs.lemmas.List.{take_all, take-append-le, drop_all, drop-append-le, drop-drop, append_cancel_right}
+use Rattle.std.proofs.lemmas.List.Folds.{list_all-append}
 use Rattle.std.proofs.lemmas.List.Sums.{prefix_len-le-length}
 use Rattle.std.proofs.Math.Seq.{drop-append-add}
 use Rattle.json_text.specs.Characters.{is_space, is_blank}
@@ -12,12 +13,12 @@ use Rattle.json_text.specs.Value.{Begins, Stands}
 use Rattle.json_text.proofs.Reading.{Stands-once, tree-Head}
 use Rattle.json_reader.specs.Faults.{IsFirstFault}
 use Rattle.json_reader.specs.Feeding.{behind_space, Feeding, IsAt, IsUnderWay}
-use Rattle.json_reader.specs.Machine.{Machine, JsonFault, Bracket, Mode, After, Number, Syntax, state, top, step, fault_of}
-use Rattle.json_reader.specs.Runs.{run, start, is_over, IsKept}
+use Rattle.json_reader.specs.Machine.{Machine, JsonFault, Bracket, Mode, Syntax, state, top, step, fault_of}
+use Rattle.json_reader.specs.Runs.{run, start, IsKept}
 use Rattle.json_reader.specs.Writing.{Reader, stretch, EndsAt, Breaks, Came, IsBroken, IsRefusedIn, HasFed}
 use Rattle.json_reader.specs.declared.reader.Taken.TheVariants as taken
 use Rattle.json_reader.proofs.Outcomes.{parted, read_on, refused_in, ends_stands, first_fault}
-use Rattle.json_reader.proofs.ValueRuns.{IsDone, blank_over, Stands-cut, begins_less, begins_runs, runs_begins, value_runs}
+use Rattle.json_reader.proofs.ValueRuns.{blank_over, Stands-cut, begins_less, begins_runs, runs_begins, value_runs}
 
 -- ---- white space before a value
 spaced : (bytes : List ℕ) → (blank : List ℕ) × (is_blank blank ≡ true) × (bytes ≡ blank ++ behind_space bytes)
@@ -33,18 +34,12 @@ behind-append (b ∷ xs) ys = elim (cases_Bool (is_space b)) [ inl e ↦ rw e (b
 
 pub behind-drop : (bytes : List ℕ) → behind_space bytes ≡ drop (prefix_len is_space bytes) bytes
 behind-drop [] = refl
-behind-drop (b ∷ bytes) = elim (cases_Bool (is_space b)) [
-  | inl e ↦ let one : 1 + prefix_len is_space bytes ≡ suc (prefix_len is_space bytes) = omega arith in rw (e, one) (behind-drop bytes)
-  | inr e ↦ rw e refl
-]
+behind-drop (b ∷ bytes) = rw one-add (grind (arith, behind-drop bytes))
 
 -- what is kept behind bytes that begin with no white space
 pub behind_on : (xs ys : List ℕ) → behind_space xs ≡ xs → (xs ≡ [] → ⊥) → behind_space (xs ++ ys) ≡ xs ++ ys
 behind_on [] ys begun some = absurd (some refl)
-behind_on (b ∷ xs) ys begun some = elim (cases_Bool (is_space b)) [
-  | inl e ↦ absurd (omega (arith, ap length (sym (behind-drop xs) ∙ rw e at begun), length-drop (prefix_len is_space xs) xs))
-  | inr e ↦ rw e refl
-]
+behind_on (b ∷ xs) ys begun some = grind (arith, ap length begun, ap length (behind-drop xs), length-drop (prefix_len is_space xs) xs)
 
 pub space_within : (bytes : List ℕ) → prefix_len is_space bytes ≤ length bytes
 space_within bytes = prefix_len-le-length is_space bytes
@@ -52,25 +47,21 @@ space_within bytes = prefix_len-le-length is_space bytes
 -- what is read of a first piece
 pub first_bytes : (rest piece : List ℕ) (start : ℕ) → rest ≡ [] → start ≡ 0 + prefix_len is_space piece → take (length piece - start) (drop start piece) ≡ behind_space (rest ++ piece)
 first_bytes rest piece start none is =
-    let same : start ≡ prefix_len is_space piece = omega arith in
-    take_all (length piece - start) (drop start piece) (omega (arith, length-drop start piece)) ∙ ap (λ k. drop k piece) same ∙ sym (behind-drop piece) ∙ ap (λ xs. behind_space (xs ++ piece)) (sym none)
+    rw (none, behind-drop) (take_all (length piece - start) (drop start piece) (omega (arith, length-drop start piece)) ∙ ap (λ k. drop k piece) (omega arith))
 
 pub behind-blank : (bytes : List ℕ) → behind_space bytes ≡ [] → is_blank bytes ≡ true
 behind-blank bytes none = let s = spaced bytes in ap is_blank (s.2 ∙ ap (λ xs. s.0 ++ xs) none ∙ append-nil s.0) ∙ s.1
 
 pub blank-behind : (bytes : List ℕ) → is_blank bytes ≡ true → behind_space bytes ≡ []
 blank-behind [] space = refl
-blank-behind (b ∷ bytes) space = let both = and_parts (is_space b) (is_blank bytes) space in rw both.0 (blank-behind bytes both.1)
+blank-behind (b ∷ bytes) space = grind (arith, blank-behind bytes)
 
 -- a value that stands behind less white space
 pub Stands-spaced : (bytes more text rest : List ℕ) → Stands (behind_space bytes ++ more) text rest → Stands (bytes ++ more) text rest
-Stands-spaced [] more text rest s = s
-Stands-spaced (b ∷ bytes) more text rest s = elim (cases_Bool (is_space b)) [
-  | inl e ↦
-      let t = Stands-spaced bytes more text rest (rw e at s) in
-      record { blank = b ∷ t.blank; value = t.value; parts = ap (λ x. b ∷ x) t.parts; space = rw e t.space; reads = t.reads; ends = t.ends }
-  | inr e ↦ rw e at s
-]
+Stands-spaced bytes more text rest s =
+    let b = spaced bytes in
+    let parts = ap (λ xs. xs ++ more) b.2 ∙ append_assoc b.0 (behind_space bytes) more ∙ ap (λ xs. b.0 ++ xs) s.parts ∙ sym (append_assoc b.0 s.blank (s.value ++ rest)) in
+    record { blank = b.0 ++ s.blank; value = s.value; parts = parts; space = grind (arith, list_all-append is_space b.0 s.blank, b.1, s.space); reads = s.reads; ends = s.ends }
 
 -- ---- a value and what follows it
 -- a value takes some bytes
@@ -95,11 +86,6 @@ ended-on bytes end e text more s =
     subst₂ (λ xs t. Stands xs t (left ++ more)) (sym (ap (λ xs. xs ++ more) parts ∙ append_assoc front left more)) same.0 found.1
 
 -- a value that isn't over has not ended with the bytes: a number that has would not stand before a sign
-number_done : (value : List ℕ) (m : Mode) → IsDone value m → is_over m [] ≡ false → IsNumber value
-number_done value After done goes_on = absurd (false≢true (sym goes_on))
-number_done value (Number part) done goes_on = done.1
-number_done value m done goes_on = absurd done
-
 pub under_way : (xs : List ℕ) → IsKept xs → IsUnderWay xs
 under_way xs kept = record {
   begins = runs_begins 128 xs (record { mode = kept.mode; brackets = kept.brackets; reached = kept.ran });
@@ -108,17 +94,13 @@ under_way xs kept = record {
       let v = value_runs 128 s.blank s.value text s.space s.reads in
       let front : xs ≡ s.blank ++ s.value = append_cancel_right xs (s.blank ++ s.value) (43 ∷ []) (s.parts ∙ sym (append_assoc s.blank s.value (43 ∷ []))) in
       let same : state kept.mode kept.brackets ≡ state v.0 [] = sym kept.ran ∙ ap (run 128 start) front ∙ v.2 in
-      let mode : kept.mode ≡ v.0 = cc in
-      let open' : kept.brackets ≡ [] = cc in
-      false≢true (sym (s.ends (number_done s.value v.0 v.1 (rw (mode, open') at kept.goes_on))));
+      let number : IsNumber s.value = grind (arith, v.1, same, kept.goes_on) in
+      false≢true (sym (s.ends number));
 }
 
 -- ---- what came of the bytes
 pub kept_none : IsKept []
 kept_none = record { mode = Mode.Value; brackets = []; ran = refl; begun = refl; goes_on = refl }
-
-kept-begun : (bytes : List ℕ) → behind_space (behind_space bytes) ≡ behind_space bytes
-kept-begun bytes = ap behind_space (sym (append-nil (behind_space bytes))) ∙ sym (behind-append bytes []) ∙ ap behind_space (append-nil bytes)
 
 module _ (rest piece bytes : List ℕ) (is : bytes ≡ behind_space (rest ++ piece)) where
   pub through_fed : (reader : Reader) → Came bytes 0 (taken.Through reader) → (left : List ℕ) → left ≡ bytes → HasFed (behind_space (rest ++ piece)) piece left (length piece) None
@@ -129,7 +111,7 @@ module _ (rest piece bytes : List ℕ) (is : bytes ≡ behind_space (rest ++ pie
       mode = reader.machine.mode;
       brackets = reader.machine.brackets;
       ran = ap (run 128 start) (sym (take_all (reader.next - 0) bytes (omega (arith, came.1)))) ∙ came.0.runs;
-      begun = ap behind_space is ∙ kept-begun (rest ++ piece) ∙ sym is;
+      begun = grind (arith, is, behind-append (rest ++ piece) [], append-nil (rest ++ piece), append-nil bytes);
       goes_on = came.2;
     }),
   )

@@ -1,28 +1,24 @@
 -- Which the first fault is, and where; and that a text has at most one.
-use Rattle.std.proofs.Common.{take-suc, ◌≡◌, ◌⊎◌, ℕ, suc, ◌+◌, ◌-◌, ◌<◌, ◌≤◌, List, [], ◌∷◌, ◌++◌, length, get_or, take, drop, replicate, true, false, Option, Some, None, is_none, refl, sym, ap, subst, ◌∙◌, inl, inr, arith, take-append-drop, nat_le, length-append, length-drop, slice_get, encode_utf8, take-take, drop_at, length-take-le}
+use Rattle.std.proofs.Common.{take-suc, ◌≡◌, ◌⊎◌, ℕ, suc, ◌+◌, ◌-◌, ◌<◌, ◌≤◌, List, [], ◌∷◌, ◌++◌, length, get_or, take, drop, replicate, true, false, Option, Some, None, refl, sym, ap, subst, ◌∙◌, inl, inr, arith, take-append-drop, length-append, length-drop, slice_get, encode_utf8, take-take, drop_at, length-take-le}
 use Rattle.std.specs.Char.{IsScalar}
-use Rattle.std.proofs.lemmas.Bool.{cond_both, cases_lt, false≢true, and_parts}
+use Rattle.std.proofs.lemmas.Bool.{cond_both, cases_lt, false≢true}
 use Rattle.std.proofs.lemmas.Str.{encode_ascii}
 use Rattle.std.proofs.lemmas.Option.{slice_get-get_or, slice_get_within, get_or_from_slice_get}
 use Rattle.std.proofs.lemmas.Bool.Decides.{nat_tests}
 use lib.Utf8.{low_scalar}
 use Rattle.json_text.specs.Value.{Begins, IsLongest, IsInString, IsUnfinished, IsTooDeepBracket, IsStray, IsBrokenOff, IsBadUtf8}
 use Rattle.json_reader.specs.Faults.{IsJsonFault}
-use Rattle.json_reader.specs.Machine.{Syntax, Depth, Utf8, Tail, Bracket, Square, Curly, Role, Place, Plain, Sequence, Mode, Quoted, Move, Open, Outcome, state, refused, top, step, moved, opens, tail_led, tail_length, is_stray, stray_fault, bracket_fault, fault_of, JsonFault, One}
+use Rattle.json_reader.specs.Machine.{Syntax, Depth, Utf8, Tail, Bracket, Role, Place, Plain, Sequence, Mode, Quoted, Outcome, state, refused, top, step, moved, opens, tail_led, tail_length, is_stray, stray_fault, bracket_fault, fault_of, JsonFault, One}
 use Rattle.json_text.proofs.Reading.{append-none}
 use Rattle.json_reader.proofs.Sequences.{Completes, IsChar, char_led, led_char}
 use Rattle.json_reader.proofs.Steps.{run, start, run-append, lead_char, led_high}
 use Rattle.json_reader.proofs.ValueRuns.{tail_closed, begins_runs, runs_begins, begins_less, refused_stays, was_state}
-use Rattle.json_reader.proofs.Moves.{OnState, on_applied, HasCome, Keeps, Kept, kept, run_keeps, IsOutside, high_moved, IsWithin, run_more, run_within, deep_opens, opens_deeper, string_shut, IsInside, no_escape, some_escape}
+use Rattle.json_reader.proofs.Moves.{OnState, on_applied, HasCome, Keeps, kept, run_keeps, IsOutside, high_moved, IsWithin, run_more, run_within, deep_opens, opens_deeper, string_shut, IsInside, no_escape, some_escape}
 
 -- the machine is inside a sequence of which so many bytes have come
 abbrev InSequence : ℕ → Mode → Type 0
 InSequence come (Quoted r (Sequence n tail)) = come + tail_length tail ≡ n
 InSequence come m = ⊥
-
-in_once : (a b : ℕ) (m : Mode) → InSequence a m → InSequence b m → a ≡ b
-in_once a b (Quoted r (Sequence n tail)) p q = omega arith
-in_once a b m p q = absurd p
 
 take_one : (xs : List ℕ) (n b : ℕ) → slice_get xs n ≡ Some b → take (suc n) xs ≡ take n xs ++ b ∷ []
 take_one xs n b got = grind (arith, take-suc xs n 0, slice_get_within xs n b got, get_or_from_slice_get xs n b 0 got)
@@ -40,13 +36,10 @@ longest_one bytes n k a b = omega (arith, longest_least bytes n k a b, longest_l
 -- what the first byte of a character says of the others
 char_begun : (c first : ℕ) (more : List ℕ) → IsScalar c → encode_utf8 c ≡ first ∷ more → ((first < 128) × (more ≡ [])) ⊎ ((tail : Tail) × (tail_led first ≡ Some tail) × Completes more tail)
 char_begun c first more scalar e = elim (cases_lt c 128) [
-  | inl small ↦ let one = sym (encode_ascii c small) ∙ e in let same : c ≡ first = cc in inl (omega arith, cc)
+  | inl small ↦ inl (grind (arith, encode_ascii c small))
   | inr big ↦
       let l = char_led c scalar big in
-      let same = sym l.spells ∙ e in
-      let f : l.first ≡ first = cc in
-      let m : l.more ≡ more = cc in
-      inr (l.tail, rw f at l.led, rw m at l.completes)
+      inr (l.tail, grind (arith, l.spells, l.led), grind (arith, l.spells, l.completes))
 ]
 
 -- over the first bytes of a sequence
@@ -60,9 +53,7 @@ module _ (limit first : ℕ) (more next : List ℕ) (tail : Tail) (led : tail_le
   led_sequence : (o : Outcome) → run limit o (first ∷ more) ≡ state m st → InSequence (suc (length more)) m
   led_sequence (state (Quoted r Plain) st0) e =
       let t = tail_run limit r (tail_length tail + 1) st0 more next tail completes some in
-      let all = sym t.1 ∙ (rw (lead_char r first tail led) at e) in
-      let same : Quoted r (Sequence (tail_length tail + 1) t.0) ≡ m = cc in
-      subst (InSequence (suc (length more))) same (omega (arith, t.2))
+      grind (arith, t.1, t.2, rw (lead_char r first tail led) at e)
   led_sequence (state m0 st0) e =
       let none = on_applied (λ m. ⊥) limit st0 first (moved m0 (top st0) first) (high_moved first (led_high first tail led) m0 (top st0) (λ h. h)) in
       absurd (subst (OnState (λ m. ⊥)) (was_state limit (step limit m0 st0 first) more m st e).reached none)
@@ -82,29 +73,15 @@ unfinished_sequence limit bytes k m st (c, first, more, next, scalar, parts, spe
 not_inside : (bytes : List ℕ) (m : Mode) (st : List Bracket) → run 128 start bytes ≡ state m st → IsOutside m → IsInString bytes → ⊥
 not_inside bytes m st is outside (zeros, begins) =
     let r = begins_runs 128 (bytes ++ (replicate zeros 48 ++ 92 ∷ [])) begins in
-    let e : run 128 (state m st) (replicate zeros 48 ++ 92 ∷ []) ≡ state r.mode r.brackets =
-    ap (λ o. run 128 o (replicate zeros 48 ++ 92 ∷ [])) (sym is) ∙ sym (run-append 128 start bytes (replicate zeros 48 ++ 92 ∷ [])) ∙ r.reached in
-    subst (OnState (λ x. ⊥)) e (no_escape 128 (state m st) zeros outside)
+    subst (OnState (λ x. ⊥)) (rw (run-append, is) at r.reached) (no_escape 128 (state m st) zeros outside)
 
 -- ---- stray bytes
-stray_none : (b c : ℕ) (more : List ℕ) → is_stray b ≡ true → IsScalar c → encode_utf8 c ≡ b ∷ more → ⊥
-stray_none b c more stray scalar e = elim (char_begun c b more scalar e) [
-  | inl low ↦ grind (arith, nat_tests)
-  | inr l ↦ false≢true (ap is_none (sym l.1) ∙ (and_parts (nat_le 128 b) (is_none (tail_led b)) stray).1)
-]
-
 stray_some : (b : ℕ) → is_stray b ≡ false → ((c : ℕ) (more : List ℕ) → IsScalar c → encode_utf8 c ≡ b ∷ more → ⊥) → ⊥
 stray_some b stray none = by (tail_led b) refl
   where
     by : (o : Option Tail) → tail_led b ≡ o → ⊥
     by None e = let low = rw e at stray in let small : b < 128 = grind (arith, nat_tests) in none b [] (low_scalar b (omega arith)) (encode_ascii b small)
     by (Some tail) e = let t = tail_closed tail in let c = led_char b t.0 tail e t.1 in none c.0 t.0 c.1 c.3
-
--- a bracket is opened by its own byte
-opened_by : (bytes : List ℕ) (b : ℕ) (move : Move) → Kept bytes b move → opens move ≡ true → (b ≡ 91) ⊎ (b ≡ 123)
-opened_by bytes b (Open Square) h o = inl h
-opened_by bytes b (Open Curly) h o = inr h
-opened_by bytes b move h o = absurd (false≢true o)
 
 -- ---- the fault behind the first n bytes
 module _ (every : List ℕ) (at n : ℕ) (within : n ≤ length (drop at every)) where
@@ -125,9 +102,7 @@ module _ (every : List ℕ) (at n : ℕ) (within : n ≤ length (drop at every))
       begins = runs_begins 128 (take n bytes) (record { mode = m; brackets = st; reached = is });
       stops = λ less begins.
           let g : slice_get bytes n ≡ Some (get_or bytes n 0) = slice_get-get_or bytes n 0 less in
-          let r = begins_runs 128 (take (suc n) bytes) begins in
-          let e : refused ≡ state r.mode r.brackets = sym (run_one 128 (get_or bytes n 0) is g ∙ stops (get_or bytes n 0) g) ∙ r.reached in
-          cc;
+          grind (arith, run_one 128 (get_or bytes n 0) is g, stops (get_or bytes n 0) g, (begins_runs 128 (take (suc n) bytes) begins).reached);
     }
 
     keeps : Keeps (take n bytes) m
@@ -147,7 +122,7 @@ module _ (every : List ℕ) (at n : ℕ) (within : n ≤ length (drop at every))
         let more = run_more 128 start (take n bytes) m st is in
         record {
           longest = longest;
-          bracket = elim (opened_by (take n bytes) b (moved m (top st) b) (kept (take n bytes) b m (top st) keeps) o) [ inl e ↦ inl (g ∙ ap Some e) | inr e ↦ inr (g ∙ ap Some e) ];
+          bracket = grind (arith, g, o, kept (take n bytes) b m (top st) keeps);
           deeper = runs_begins 129 (take (suc n) bytes) (record { mode = d.0; brackets = d.1; reached = run_one 129 b more g ∙ d.2 });
         }
 
@@ -188,8 +163,9 @@ module _ (every : List ℕ) (at n : ℕ) (within : n ≤ length (drop at every))
     told_stray : IsInside place → ((come : ℕ) → InSequence come (Quoted r place) → ⊥) → (next : Option ℕ) → slice_get bytes n ≡ next → IsJsonFault every at (stray_fault next (at + n))
     told_stray in_string none None g = syntax_there none (λ s. let e : None ≡ Some s.byte = sym g ∙ s.read in cc)
     told_stray in_string none (Some b) g =
+        let here = longest (Quoted r place) st is stops in
         cond_both (is_stray b) _ _ (IsJsonFault every at)
-        (λ e. (n, refl, inr (record { longest = longest (Quoted r place) st is stops; inside = inside in_string; byte = b; read = g; begins_none = λ c more. stray_none b c more e })))
+        (λ stray. (n, refl, inr (record { longest = here; inside = inside in_string; byte = b; read = g; begins_none = λ c more s e. grind (arith, nat_tests, char_begun c b more s e) })))
         (λ e. syntax_there none (λ s. let same : s.byte ≡ b = let x : Some s.byte ≡ Some b = sym s.read ∙ g in cc in stray_some b e (rw same at s.begins_none)))
 
 -- inside a sequence
@@ -228,56 +204,42 @@ told every at n within (Quoted r place) st is stops next g = told_stray every at
 told every at n within m st is stops next g = told_bracket every at n within m st is stops tt (λ come h. h) next g
 
 -- ---- no fault is of two kinds
-sequence_outside : (come : ℕ) (m : Mode) → InSequence come m → IsOutside m
-sequence_outside come (Quoted r (Sequence size tail)) h = tt
-sequence_outside come _ h = absurd h
-
 -- a byte below 128 goes on with no sequence
 sequence_refuses : (limit b come : ℕ) (m : Mode) (st : List Bracket) → b < 128 → InSequence come m → step limit m st b ≡ refused
-sequence_refuses limit b come (Quoted r (Sequence size One)) st small h = grind arith
-sequence_refuses limit b come (Quoted r (Sequence size tail)) st small h = grind arith
-sequence_refuses limit b come _ st small h = absurd h
+sequence_refuses limit b come m st small h = grind arith
 
 module _ (bytes : List ℕ) where
   -- a bracket is a byte below 128
   bracket_byte : (n : ℕ) → IsTooDeepBracket bytes n → (b : ℕ) × (b < 128) × (slice_get bytes n ≡ Some b)
   bracket_byte n deep = elim deep.bracket [ inl got ↦ (91, omega arith, got) | inr got ↦ (123, omega arith, got) ]
 
-  deep_not_broken : (k n : ℕ) → IsTooDeepBracket bytes n → IsBrokenOff bytes k n → ⊥
-  deep_not_broken k n deep broken =
+  deep_not_utf8 : (n m : ℕ) → IsTooDeepBracket bytes n → IsBadUtf8 bytes m → ⊥
+  deep_not_utf8 n k deep (inl (i, bad)) =
+      let broken = subst (IsBrokenOff bytes k) (longest_one bytes n i deep.longest bad.longest) bad in
       let b = bracket_byte n deep in
       let deeper : Begins 129 (take n bytes ++ b.0 ∷ []) = rw (take_one bytes n b.0 b.2) at deep.deeper in
       let whole = begins_runs 129 (take n bytes ++ b.0 ∷ []) deeper in
       let front = begins_runs 129 (take n bytes) (begins_less 129 (take n bytes) (b.0 ∷ []) deeper) in
       let inside = unfinished_sequence 129 (take n bytes) k front.mode front.brackets broken.unfinished front.reached in
-      let stuck = sequence_refuses 129 b.0 _ front.mode front.brackets b.1 inside in
-      let run_there : refused ≡ state whole.mode whole.brackets = rw (run-append, front.reached, stuck) at whole.reached in
-      cc
-
-  deep_not_stray : (n : ℕ) → IsTooDeepBracket bytes n → IsStray bytes n → ⊥
-  deep_not_stray n deep stray =
+      grind (arith, whole.reached, run-append 129 start (take n bytes) (b.0 ∷ []), front.reached, sequence_refuses 129 b.0 _ front.mode front.brackets b.1 inside)
+  deep_not_utf8 n m deep (inr stray) =
       let b = bracket_byte n deep in
-      let low : b.0 < 128 = b.1 in
-      let same : stray.byte ≡ b.0 = let e : Some stray.byte ≡ Some b.0 = sym stray.read ∙ b.2 in cc in
-      stray_some b.0 (grind (arith, nat_tests)) (rw same at stray.begins_none)
-
-  deep_not_utf8 : (n m : ℕ) → IsTooDeepBracket bytes n → IsBadUtf8 bytes m → ⊥
-  deep_not_utf8 n m deep (inl (i, broken)) = deep_not_broken m n deep (subst (IsBrokenOff bytes m) (longest_one bytes n i deep.longest broken.longest) broken)
-  deep_not_utf8 n m deep (inr stray) = deep_not_stray n deep (subst (IsStray bytes) (longest_one bytes n m deep.longest stray.longest) stray)
+      stray_some stray.byte (grind (arith, nat_tests, stray.read, longest_one bytes n m deep.longest stray.longest, b.1, b.2)) stray.begins_none
 
   broken_not_stray : (k n m : ℕ) → IsBrokenOff bytes k n → IsStray bytes m → ⊥
   broken_not_stray k n m broken stray =
       let here = subst (IsStray bytes) (longest_one bytes n m broken.longest stray.longest) stray in
       let r = begins_runs 128 (take n bytes) broken.longest.begins in
       let inside = unfinished_sequence 128 (take n bytes) k r.mode r.brackets broken.unfinished r.reached in
-      not_inside (take n bytes) r.mode r.brackets r.reached (sequence_outside _ r.mode inside) here.inside
+      not_inside (take n bytes) r.mode r.brackets r.reached (grind (arith, inside)) here.inside
 
   utf8_one : (m k : ℕ) → IsBadUtf8 bytes m → IsBadUtf8 bytes k → m ≡ k
   utf8_one m k (inl (n, a)) (inl (i, b)) =
       let same = longest_one bytes n i a.longest b.longest in
       let r = begins_runs 128 (take n bytes) a.longest.begins in
       let there = unfinished_sequence 128 (take n bytes) k r.mode r.brackets (subst (λ x. IsUnfinished (drop k (take x bytes))) same b.unfinished) r.reached in
-      let lengths = in_once _ _ r.mode (unfinished_sequence 128 (take n bytes) m r.mode r.brackets a.unfinished r.reached) there in
+      let here = unfinished_sequence 128 (take n bytes) m r.mode r.brackets a.unfinished r.reached in
+      let lengths : length (drop m (take n bytes)) ≡ length (drop k (take n bytes)) = grind (arith, here, there) in
       omega (arith, lengths, same, a.before, b.before, length-drop m (take n bytes), length-drop k (take n bytes), length-take-le n bytes a.longest.within)
   utf8_one m k (inl (n, a)) (inr b) = absurd (broken_not_stray m n k a b)
   utf8_one m k (inr a) (inl (i, b)) = absurd (broken_not_stray k i m b a)

@@ -1,9 +1,8 @@
 -- What the moves of the machine keep, where an escape may come, and what the limit on open brackets refuses.
-use Rattle.std.proofs.Common.{◌≡◌, ◌⊎◌, inr, ◌==◌, ◌&&◌, not, ℕ, ◌+◌, ◌<◌, ◌≤◌, List, [], ◌∷◌, ◌++◌, length, Bool, true, false, Option, Some, None, refl, sym, ap, subst, ◌∙◌, arith, append_assoc, append-nil, nat_lt, length-append, zero, suc, replicate, inl, length-drop}
-use Rattle.std.proofs.lemmas.Bool.{eqb-true, cond_both, false≢true, cases_lt, le-ltb, ltb-true, lt-ltb}
+use Rattle.std.proofs.Common.{◌≡◌, ◌⊎◌, inr, ◌==◌, ℕ, ◌+◌, ◌<◌, ◌≤◌, List, [], ◌∷◌, ◌++◌, length, Bool, true, false, Option, Some, None, refl, sym, ap, subst, ◌∙◌, arith, append_assoc, append-nil, length-append, zero, suc, replicate, inl, length-drop}
+use Rattle.std.proofs.lemmas.Bool.{cond_both, false≢true, lt-ltb}
 use Rattle.json_text.specs.Tree.{opening}
-use Rattle.json_text.specs.Value.{extends_number}
-use Rattle.json_reader.specs.Machine.{Part, Tail, One, Bracket, Square, Curly, Role, Plain, Escape, Hex, Sequence, Ull, Mode, Fresh, After, Quoted, Number, Word, Move, To, Open, Close, End, Refuse, Minus, Place, Outcome, state, top, applied, moved, container_of, after_move, part_after, is_complete, number_move_on, tail_led, tail_fits, tail_length, refused, opens, string_move}
+use Rattle.json_reader.specs.Machine.{Tail, One, Bracket, Square, Role, Plain, Escape, Hex, Sequence, Mode, Fresh, After, Quoted, Move, To, Open, Close, End, Refuse, Place, Outcome, state, top, applied, moved, container_of, after_move, tail_led, tail_fits, tail_length, refused, opens, string_move}
 use Rattle.json_reader.proofs.Sequences.{Completes, IsChar, led_char}
 use Rattle.json_reader.proofs.Steps.{go, run, run-append, lead_char}
 use Rattle.json_reader.proofs.NumberRuns.{ended_part}
@@ -23,12 +22,10 @@ OnState P (state m st) = P m
 OnState P o = Unit {0}
 
 pub on_applied : (P : Mode → Type 0) (limit : ℕ) (st : List Bracket) (b : ℕ) (move : Move) → OnMove P move → OnState P (applied limit st b move)
-on_applied P limit st b (Open bracket) p = cond_both (nat_lt (length st) limit) _ _ (OnState P) (λ room. p) (λ full. tt)
-on_applied P limit st b move p = p
+on_applied P limit st b move p = grind arith
 
 pub on_go : (P Q : Mode → Type 0) (limit b : ℕ) → ((m : Mode) (top : Option Bracket) → P m → OnMove Q (moved m top b)) → (o : Outcome) → OnState P o → OnState Q (go limit o b)
-on_go P Q limit b moves (state m st) p = on_applied Q limit st b (moved m (top st) b) (moves m (top st) p)
-on_go P Q limit b moves o p = tt
+on_go P Q limit b moves o p = grind (arith, on_applied Q limit)
 
 -- ---- the bytes of a sequence that have come
 pub record HasCome (bytes : List ℕ) (n : ℕ) (tail : Tail) : Type 0 where
@@ -56,25 +53,12 @@ IsCalm b (To (Quoted r (Sequence n tail))) = false
 IsCalm b (Open bracket) = b == opening (container_of bracket)
 IsCalm b move = true
 
-after_calm : (top : Option Bracket) (b : ℕ) → IsCalm b (after_move top b) ≡ true
-after_calm None b = refl
-after_calm (Some Square) b = grind arith
-after_calm (Some Curly) b = grind arith
-
-number_calm : (o : Option Part) (ends : Bool) (top : Option Bracket) (b : ℕ) → IsCalm b (number_move_on o ends top b) ≡ true
-number_calm None true top b = after_calm top b
-number_calm None false top b = refl
-number_calm (Some part) ends top b = refl
-
 module _ (bytes : List ℕ) (b : ℕ) where
   calm_kept : (move : Move) → IsCalm b move ≡ true → Kept bytes b move
-  calm_kept (To (Quoted r (Sequence n tail))) calm = absurd (false≢true calm)
-  calm_kept (Open bracket) calm = eqb-true b (opening (container_of bracket)) calm
-  calm_kept move calm = tt
+  calm_kept move calm = grind arith
 
   plain_kept : (r : Role) (o : Option Tail) → tail_led b ≡ o → Kept bytes b (string_move r Plain b)
-  plain_kept Role.Name None e = calm_kept _ (grind arith)
-  plain_kept Role.Value None e = calm_kept _ (grind arith)
+  plain_kept r None e = calm_kept _ (grind arith)
   plain_kept r (Some tail) e =
       rw (lead_char r b tail e) (record { before = bytes; come = b ∷ []; parts = refl; counts = omega arith; some = omega arith; completes = λ t c. led_char b t tail e c })
 
@@ -91,20 +75,13 @@ module _ (bytes : List ℕ) (b : ℕ) where
   }) (λ _. tt)
   kept Fresh None h = tt
   kept Fresh (Some Square) h = calm_kept _ (grind arith)
-  kept After top h = calm_kept _ (after_calm top b)
-  kept (Number part) top h = calm_kept _ (number_calm (part_after part b) (is_complete part && not (extends_number b)) top b)
-  kept (Word Ull) top h = calm_kept _ (grind arith)
   kept m top h = calm_kept _ (grind arith)
-
-  kept_on : (move : Move) → Kept bytes b move → OnMove (Keeps (bytes ++ b ∷ [])) move
-  kept_on (Open bracket) k = tt
-  kept_on move k = k
 
 pub run_keeps : (limit : ℕ) (bytes xs : List ℕ) (o : Outcome) → OnState (Keeps bytes) o → OnState (Keeps (bytes ++ xs)) (run limit o xs)
 run_keeps limit bytes [] o k = subst (λ x. OnState (Keeps x) o) (sym (append-nil bytes)) k
 run_keeps limit bytes (x ∷ xs) o k =
     subst (λ y. OnState (Keeps y) (run limit (go limit o x) xs)) (append_assoc bytes (x ∷ []) xs)
-    (run_keeps limit (bytes ++ x ∷ []) xs (go limit o x) (on_go (Keeps bytes) (Keeps (bytes ++ x ∷ [])) limit x (λ m top h. kept_on bytes x (moved m top x) (kept bytes x m top h)) o k))
+    (run_keeps limit (bytes ++ x ∷ []) xs (go limit o x) (on_go (Keeps bytes) (Keeps (bytes ++ x ∷ [])) limit x (λ m top h. grind (arith, kept bytes x m top h)) o k))
 
 -- ---- a `\` and a byte that begins a sequence
 -- the machine is between two characters of a string
@@ -126,37 +103,21 @@ Leads Refuse = false
 Leads move = true
 
 not_led : (move : Move) → Leads move ≡ false → OnMove (λ m. ⊥) move
-not_led End e = tt
-not_led Refuse e = tt
-not_led move e = absurd (false≢true (sym e))
+not_led move e = grind arith
 
 module _ (b : ℕ) (is : (b ≡ 92) ⊎ (192 ≤ b)) where
   strange_after : (top : Option Bracket) → Leads (after_move top b) ≡ false
-  strange_after None = refl
-  strange_after (Some Square) = grind arith
-  strange_after (Some Curly) = grind arith
-
-  strange : (m : Mode) (top : Option Bracket) → IsOutside m → Leads (moved m top b) ≡ false
-  strange (Quoted r Plain) top h = absurd h
-  strange (Quoted r Escape) top h = absurd h
-  strange (Quoted r (Hex more)) top h = absurd h
-  strange (Quoted r (Sequence n One)) top h = grind arith
-  strange Fresh None h = refl
-  strange Fresh (Some Square) h = grind arith
-  strange After top h = strange_after top
-  strange (Number part) top h = rw (ended_part part b (grind arith)) (cond_both (is_complete part && not (extends_number b)) _ _ (λ m. Leads m ≡ false) (λ _. strange_after top) (λ _. refl))
-  strange (Word Ull) top h = grind arith
-  strange m top h = grind arith
+  strange_after top = grind arith
 
   -- where no escape may come the machine does not go on with it
   pub outside_moved : (m : Mode) (top : Option Bracket) → IsOutside m → OnMove (λ m. ⊥) (moved m top b)
-  outside_moved m top h = not_led (moved m top b) (strange m top h)
+  outside_moved Fresh None h = tt
+  outside_moved Fresh (Some Square) h = not_led _ (grind arith)
+  outside_moved m top h = not_led _ (grind (arith, ended_part, strange_after top))
 
 -- only between two characters does the machine go on with a byte that begins a sequence
 pub high_moved : (b : ℕ) → 192 ≤ b → (m : Mode) (top : Option Bracket) → (IsBetween m → ⊥) → OnMove (λ m. ⊥) (moved m top b)
-high_moved b high (Quoted r Plain) top no_plain = absurd (no_plain tt)
-high_moved b high (Quoted r Escape) top no_plain = not_led _ (grind arith)
-high_moved b high (Quoted r (Hex more)) top no_plain = not_led _ (grind arith)
+high_moved b high (Quoted r place) top no_plain = not_led _ (grind arith)
 high_moved b high m top no_plain = outside_moved b (inr high) m top tt
 
 -- ---- inside a string an escape may come, and elsewhere none may
@@ -165,22 +126,9 @@ abbrev pub IsInside : Place → Type 0
 IsInside (Sequence n tail) = ⊥
 IsInside place = Unit {0}
 
-zero_moved : (m : Mode) (top : Option Bracket) → IsOutside m → OnMove IsOutside (moved m top 48)
-zero_moved (Quoted r Plain) top h = absurd h
-zero_moved (Quoted r Escape) top h = absurd h
-zero_moved (Quoted r (Hex more)) top h = absurd h
-zero_moved (Quoted r (Sequence n One)) top h = tt
-zero_moved Fresh None h = tt
-zero_moved Fresh (Some Square) h = tt
-zero_moved After None h = tt
-zero_moved After (Some Square) h = tt
-zero_moved (Number Minus) top h = tt
-zero_moved (Word Ull) top h = tt
-zero_moved m top h = tt
-
 pub no_escape : (limit : ℕ) (o : Outcome) (zeros : ℕ) → OnState IsOutside o → OnState (λ m. ⊥) (run limit o (replicate zeros 48 ++ 92 ∷ []))
 no_escape limit o zero h = on_go IsOutside (λ m. ⊥) limit 92 (outside_moved 92 (inl refl)) o h
-no_escape limit o (suc zeros) h = no_escape limit (go limit o 48) zeros (on_go IsOutside IsOutside limit 48 zero_moved o h)
+no_escape limit o (suc zeros) h = no_escape limit (go limit o 48) zeros (on_go IsOutside IsOutside limit 48 (λ m top h. grind arith) o h)
 
 -- ---- inside a string an escape comes after some zeros
 abbrev Goes : Outcome → Type 0
@@ -199,19 +147,11 @@ some_escape limit r (Sequence n tail) st h = absurd h
 
 -- ---- a greater limit refuses nothing more
 applied_more : (limit : ℕ) (st : List Bracket) (b : ℕ) (move : Move) → (applied limit st b move ≡ refused) ⊎ (applied (suc limit) st b move ≡ applied limit st b move)
-applied_more limit st b (Open bracket) = elim (cases_lt (length st) limit) [
-  | inl room ↦ inr (rw (lt-ltb (length st) limit room, lt-ltb (length st) (suc limit) (omega arith)) refl)
-  | inr full ↦ inl (rw (le-ltb (length st) limit full) refl)
-]
-applied_more limit st b move = inr refl
+applied_more limit st b move = grind arith
 
 pub run_more : (limit : ℕ) (o : Outcome) (xs : List ℕ) (m : Mode) (st : List Bracket) → run limit o xs ≡ state m st → run (suc limit) o xs ≡ state m st
 run_more limit o [] m st e = e
-run_more limit (state now open') (x ∷ xs) m st e = elim (applied_more limit open' x (moved now (top open') x)) [
-  | inl stuck ↦ absurd (refused_stays limit xs m st (rw stuck at e))
-  | inr same ↦ rw same (run_more limit (go limit (state now open') x) xs m st e)
-]
-run_more limit o (x ∷ xs) m st e = absurd (refused_stays limit xs m st e)
+run_more limit o (x ∷ xs) m st e = grind (arith, applied_more limit, refused_stays limit xs m st, run_more limit (go limit o x) xs m st)
 
 -- ---- no more are open than may be
 abbrev pub IsWithin : ℕ → Outcome → Type 0
@@ -219,20 +159,15 @@ IsWithin limit (state m st) = length st ≤ limit
 IsWithin limit o = Unit {0}
 
 applied_within : (limit : ℕ) (st : List Bracket) (b : ℕ) (move : Move) → length st ≤ limit → IsWithin limit (applied limit st b move)
-applied_within limit st b (To m) h = h
-applied_within limit st b (Open bracket) h = cond_both (nat_lt (length st) limit) _ _ (IsWithin limit) (λ room. omega (arith, ltb-true (length st) limit room)) (λ full. tt)
-applied_within limit st b Close h = omega (arith, length-drop 1 st)
-applied_within limit st b move h = tt
+applied_within limit st b move h = grind (arith, length-drop 1 st)
 
 pub run_within : (limit : ℕ) (o : Outcome) (xs : List ℕ) → IsWithin limit o → IsWithin limit (run limit o xs)
 run_within limit o [] h = h
-run_within limit (state m st) (x ∷ xs) h = run_within limit (go limit (state m st) x) xs (applied_within limit st x (moved m (top st) x) h)
-run_within limit o (x ∷ xs) h = run_within limit refused xs tt
+run_within limit o (x ∷ xs) h = run_within limit (go limit o x) xs (grind (arith, applied_within limit))
 
 -- ---- what the lesser limit alone refuses
 pub deep_opens : (limit : ℕ) (st : List Bracket) (b : ℕ) (move : Move) (m : Mode) (after : List Bracket) → applied limit st b move ≡ refused → applied (suc limit) st b move ≡ state m after → opens move ≡ true
-deep_opens limit st b (Open bracket) m after e more = refl
-deep_opens limit st b move m after e more = absurd (cc)
+deep_opens limit st b move m after e more = grind arith
 
 -- a refused bracket is one too many, and could stand under one more
 pub opens_deeper : (limit : ℕ) (st : List Bracket) (b : ℕ) (move : Move) → length st ≤ limit → opens move ≡ true → (m : Mode) × (after : List Bracket) × (applied (suc limit) st b move ≡ state m after)
@@ -241,7 +176,6 @@ opens_deeper limit st b move h e = absurd (false≢true e)
 
 -- no bracket opens in a string
 pub string_shut : (r : Role) (place : Place) (b : ℕ) → opens (string_move r place b) ≡ false
-string_shut r Plain b = grind arith
 string_shut r place b = grind arith
 
 -- ---- bytes that leave the machine as it is

@@ -1,7 +1,7 @@
 -- Numbers: what the machine runs over is what the grammar spells.
-use Rattle.std.proofs.Common.{◌≡◌, ◌⊎◌, ◌==◌, ◌||◌, ℕ, List, [], ◌∷◌, ◌++◌, Bool, true, false, cond, Option, Some, None, refl, ap, inl, inr, ⊎_elim, arith, append-nil, eqb-true}
+use Rattle.std.proofs.Common.{◌≡◌, ◌⊎◌, ◌==◌, ◌||◌, ℕ, List, [], ◌∷◌, ◌++◌, Bool, true, false, cond, Option, Some, None, refl, ap, inl, inr, arith, append-nil, eqb-true}
 use Rattle.std.specs.List.{list_all}
-use Rattle.std.proofs.lemmas.Bool.{and_parts, and_from, or_cases, eqb-false, false≢true, cond_both}
+use Rattle.std.proofs.lemmas.Bool.{and_from, eqb-false, false≢true, cond_both}
 use Rattle.json_text.specs.Characters.{is_digit}
 use Rattle.json_text.specs.Tree.{AreDigits, IsSign, IsIntegerPart, IsFraction, IsExponent, IsNumber}
 use Rattle.json_text.specs.Value.{extends_number}
@@ -24,33 +24,24 @@ Takes part next = (b : ℕ) → is_digit b ≡ true → part_after part b ≡ So
 
 digits_end : (part : Part) → Takes part part → (digits rest : List ℕ) → list_all is_digit digits ≡ true → ends rest part ≡ true → ends (digits ++ rest) part ≡ true
 digits_end part more [] rest all is = is
-digits_end part more (b ∷ s) rest all is = let p = and_parts (is_digit b) (list_all is_digit s) all in rw (more b p.0) (digits_end part more s rest p.1 is)
+digits_end part more (b ∷ s) rest all is = grind (arith, more b, digits_end part more s rest)
 
 some_end : (part next : Part) → Takes part next → Takes next next → (digits rest : List ℕ) → AreDigits digits → ends rest next ≡ true → ends (digits ++ rest) part ≡ true
-some_end part next first more digits rest (b, s, e, all) is =
-    let p = and_parts (is_digit b) (list_all is_digit s) (rw e at all) in
-    rw (e, first b p.0) (digits_end next more s rest p.1 is)
+some_end part next first more digits rest (b, s, e, all) is = grind (arith, first b, digits_end next more s rest)
 
 exponent_digits : (part : Part) → Takes part Exponent → (digits : List ℕ) → AreDigits digits → ends digits part ≡ true
 exponent_digits part first digits are = rw append-nil at (some_end part Exponent first (λ b d. rw d refl) digits [] are refl)
 
-letter_ends : (sign digits : List ℕ) → (sign ≡ []) ⊎ ((sign ≡ 43 ∷ []) ⊎ (sign ≡ 45 ∷ [])) → AreDigits digits → ends (sign ++ digits) Letter ≡ true
-letter_ends sign digits (inl none) are = rw none (exponent_digits Letter (λ b d. grind arith) digits are)
-letter_ends sign digits (inr (inl plus)) are = rw plus (exponent_digits Sign (λ b d. rw d refl) digits are)
-letter_ends sign digits (inr (inr minus)) are = rw minus (exponent_digits Sign (λ b d. rw d refl) digits are)
-
 exponent_ends : (part : Part) → is_complete part ≡ true → part_after part 101 ≡ Some Letter → part_after part 69 ≡ Some Letter
     → (s : List ℕ) → IsExponent s → ends s part ≡ true
-exponent_ends part complete small large s (inl none) = rw none complete
-exponent_ends part complete small large s (inr (letter, sign, digits, e, inl l, signed, are)) = rw (e, l, small) (letter_ends sign digits signed are)
-exponent_ends part complete small large s (inr (letter, sign, digits, e, inr l, signed, are)) = rw (e, l, large) (letter_ends sign digits signed are)
+exponent_ends part complete small large s scaled = grind (arith, exponent_digits Letter (λ b d. grind arith), exponent_digits Sign (λ b d. rw d refl))
 
 -- the fraction and the exponent after a whole part
 point_ends : (part : Part) → is_complete part ≡ true → part_after part 46 ≡ Some Dot → part_after part 101 ≡ Some Letter → part_after part 69 ≡ Some Letter
     → (fraction exponent : List ℕ) → IsFraction fraction → IsExponent exponent → ends (fraction ++ exponent) part ≡ true
-point_ends part complete dot small large fraction exponent (inl none) scaled = rw none (exponent_ends part complete small large exponent scaled)
-point_ends part complete dot small large fraction exponent (inr (digits, e, are)) scaled =
-    rw (e, dot) (some_end Dot Fraction (λ b d. rw d refl) (λ b d. rw d refl) digits exponent are (exponent_ends Fraction refl refl refl exponent scaled))
+point_ends part complete dot small large fraction exponent parted scaled =
+    let further = exponent_ends Fraction refl refl refl exponent scaled in
+    grind (arith, exponent_ends part complete small large exponent scaled, some_end Dot Fraction (λ b d. rw d refl) (λ b d. rw d refl), further)
 
 -- the first byte begins a part, and the others end the number
 abbrev pub IsRun : List ℕ → Type 0
@@ -60,23 +51,15 @@ IsRun (b ∷ s) = on_part (ends s) (part_begun b) ≡ true
 counted_ends : (whole fraction exponent : List ℕ) → IsIntegerPart whole → IsFraction fraction → IsExponent exponent → ends (whole ++ (fraction ++ exponent)) Minus ≡ true
 counted_ends whole fraction exponent (inl zero) parted scaled = rw zero (point_ends Zero refl refl refl refl fraction exponent parted scaled)
 counted_ends whole fraction exponent (inr (b, s, e, other, all)) parted scaled =
-    let p = and_parts (is_digit b) (list_all is_digit s) (rw e at all) in
-    let first : is_digit b ≡ true = p.0 in
-    let begun : part_after Minus b ≡ Some Whole = grind arith in
-    rw (e, begun) (digits_end Whole (λ b d. rw d refl) s (fraction ++ exponent) p.1 (point_ends Whole refl refl refl refl fraction exponent parted scaled))
-
-signed_ends : (sign s : List ℕ) → IsSign sign → ends s Minus ≡ true → IsRun (sign ++ s)
-signed_ends sign [] signed run = absurd (false≢true run)
-signed_ends sign (b ∷ s) (inr minus) run = rw minus run
-signed_ends sign (b ∷ s) (inl none) run = rw none (grind arith)
+    let further = point_ends Whole refl refl refl refl fraction exponent parted scaled in
+    grind (arith, digits_end Whole (λ b d. rw d refl) s (fraction ++ exponent), further)
 
 pub number_run : (s : List ℕ) → IsNumber s → IsRun s
-number_run s n = rw n.spells (signed_ends n.sign _ n.signed (counted_ends n.whole n.fraction n.exponent n.counted n.parted n.scaled))
+number_run s n = rw n.spells (grind (arith, n.signed, counted_ends n.whole n.fraction n.exponent n.counted n.parted n.scaled))
 
 -- ---- the bytes of a number
 -- what does not go on with a number ends it
 pub ended_part : (part : Part) (b : ℕ) → extends_number b ≡ false → part_after part b ≡ None
-ended_part Minus b e = grind arith
 ended_part part b e = grind arith
 
 -- the part that a number goes on with
@@ -107,12 +90,9 @@ exponent_digits_ended : (s : List ℕ) → ends s Exponent ≡ true → list_all
 exponent_digits_ended [] run = refl
 exponent_digits_ended (b ∷ s) run = grind (arith, exponent_digits_ended s)
 
-first_digit : (b : ℕ) (s : List ℕ) → is_digit b ≡ true → ends s Exponent ≡ true → AreDigits (b ∷ s)
-first_digit b s d run = (b, s, refl, and_from (is_digit b) (list_all is_digit s) d (exponent_digits_ended s run))
-
 sign_ended : (s : List ℕ) → ends s Sign ≡ true → AreDigits s
-sign_ended [] = stuck
-sign_ended (b ∷ s) = cond_both (is_digit b) _ _ (λ o. Goes s o → AreDigits (b ∷ s)) (first_digit b s) (λ _. stuck)
+sign_ended [] run = stuck run
+sign_ended (b ∷ s) run = (b, s, refl, grind (arith, exponent_digits_ended s))
 
 abbrev Scale : List ℕ → Type 0
 Scale s = (sign digits : List ℕ) × (s ≡ sign ++ digits) × ((sign ≡ []) ⊎ ((sign ≡ 43 ∷ []) ⊎ (sign ≡ 45 ∷ []))) × AreDigits digits
@@ -121,13 +101,13 @@ letter_ended : (s : List ℕ) → ends s Letter ≡ true → Scale s
 letter_ended [] = stuck
 letter_ended (b ∷ s) =
     cond_both (b == 43 || b == 45) _ _ (λ o. Goes s o → Scale (b ∷ s))
-    (λ e run. (b ∷ [], s, refl, inr (⊎_elim (λ plus. inl (ap (λ x. x ∷ []) (eqb-true b 43 plus))) (λ minus. inr (ap (λ x. x ∷ []) (eqb-true b 45 minus))) (or_cases (b == 43) (b == 45) e)), sign_ended s run))
-    (λ _. cond_both (is_digit b) _ _ (λ o. Goes s o → Scale (b ∷ s)) (λ d run. ([], b ∷ s, refl, inl refl, first_digit b s d run)) (λ _. stuck))
+    (λ e run. (b ∷ [], s, refl, grind arith, sign_ended s run))
+    (λ _ run. ([], b ∷ s, refl, inl refl, sign_ended (b ∷ s) run))
 
 exponent_ended : (b : ℕ) (s : List ℕ) → Goes s (after_fraction b) → IsExponent (b ∷ s)
 exponent_ended b s = cond_both (b == 101 || b == 69) _ _ (λ o. Goes s o → IsExponent (b ∷ s)) (λ e run.
     let scale = letter_ended s run in
-    inr (b, scale.0, scale.1, ap (λ r. b ∷ r) scale.2, ⊎_elim (λ e. inl (eqb-true b 101 e)) (λ e. inr (eqb-true b 69 e)) (or_cases (b == 101) (b == 69) e), scale.3, scale.4)) (λ _. stuck)
+    inr (b, scale.0, scale.1, ap (λ r. b ∷ r) scale.2, grind arith, scale.3, scale.4)) (λ _. stuck)
 
 abbrev Pointed : List ℕ → Type 0
 Pointed s = (fraction exponent : List ℕ) × (s ≡ fraction ++ exponent) × IsFraction fraction × IsExponent exponent

@@ -14,7 +14,7 @@ use Rattle.json_reader.proofs.Steps.{run, start, run-append}
 use Rattle.json_reader.proofs.ValueRuns.{refused_faulty, undone_faulty, ended_stands, done_stands}
 use Rattle.json_reader.proofs.FirstFaults.{told}
 use Rattle.json_reader.proofs.Moves.{stay_run}
-use Rattle.std.proofs.lemmas.Bool.{cond_both, false≢true}
+use Rattle.std.proofs.lemmas.Bool.{cond_both}
 
 module _ (bytes : List ℕ) (at i : ℕ) (low : at ≤ i) where
   behind : drop (i - at) (drop at bytes) ≡ drop i bytes
@@ -67,9 +67,7 @@ slice_get-seam (x ∷ xs) ys = slice_get-seam xs ys
 
 -- nothing more is waited for
 pub over_ends : (m : Mode) (st : List Bracket) → is_over m st ≡ true → (left : List ℕ) → Ends m st left
-over_ends After [] over left = refl
-over_ends Fresh [] over left = refl
-over_ends m st over left = absurd (false≢true over)
+over_ends m st over left = grind arith
 
 module _ (front : List ℕ) (m : Mode) (st : List Bracket) (is : run 128 start front ≡ state m st) where
   pub ends_stands : (left : List ℕ) → Ends m st left → (text : List ℕ) × Stands (front ++ left) text left
@@ -80,10 +78,6 @@ module _ (front : List ℕ) (m : Mode) (st : List Bracket) (is : run 128 start f
   broken_faulty [] undone = rw append-nil (undone_faulty front m st is undone)
   broken_faulty (b ∷ more) stuck = refused_faulty front m st is b more stuck
 
-  stuck_at : (left : List ℕ) → Breaks m st left → (b : ℕ) → slice_get left 0 ≡ Some b → step 128 m st b ≡ refused
-  stuck_at [] breaks b got = cc
-  stuck_at (c ∷ more) stuck b got = let same : c ≡ b = cc in rw (← same) stuck
-
   pub first_fault : (bytes : List ℕ) (at : ℕ) (left : List ℕ) → drop at bytes ≡ front ++ left → Breaks m st left
       → IsFirstFault bytes at (fault_of m (top st) (slice_get left 0) (at + length front))
   first_fault bytes at left parts breaks =
@@ -91,7 +85,7 @@ module _ (front : List ℕ) (m : Mode) (st : List Bracket) (is : run 128 start f
       record {
         faulty = subst IsFaulty (sym parts) (broken_faulty left breaks);
         first = told bytes at (length front) (omega (arith, ap length parts, length-append front left)) m st (rw (parts, take-append_seam) is)
-            (λ b got. stuck_at left breaks b (sym next ∙ got)) (slice_get left 0) next;
+            (λ b got. grind (arith, breaks, next, got)) (slice_get left 0) next;
       }
 
 pub broken_first : (bytes : List ℕ) (at : ℕ) → at ≤ length bytes → (left : List ℕ) (fault : JsonFault) → IsBroken (drop at bytes) left (length bytes) fault → IsFirstFault bytes at fault

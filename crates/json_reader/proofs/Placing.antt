@@ -67,9 +67,6 @@ module _ (bytes : List ℕ) (places kept : List Place) (i : ℕ) (find : List �
   abbrev pub name : List ℕ
   name = cut bytes place.name
 
-  turned : (new : List Place) → entries bytes new ≡ insert_entry (entries bytes kept) name (cut bytes place.value) → entries bytes new ≡ collapsed (entries bytes (take (i + 1) places))
-  turned new e = e ∙ ap (λ es. insert_entry es name (cut bytes place.value)) are.same ∙ sym (entries-more bytes places i here)
-
   -- the name is there
   module _ (first : ℕ) (there : find name ≡ Some first) where
     pub first_within : first < length kept
@@ -84,7 +81,7 @@ module _ (bytes : List ℕ) (places kept : List Place) (i : ℕ) (find : List �
         ∙ sym (rw (insert-last 0 (entries bytes kept) name (cut bytes place.value) first first (entry bytes d) at (omega arith), get_or-map (entry bytes) kept first d (entry bytes d) first_within) refl) in
         record {
           within = All-set (IsPlaced (length bytes)) kept first new ((are.within first d first_within).0, (fits i nowhere here).1) are.within;
-          same = turned (set kept first new) put;
+          same = grind (arith, put, are.same, entries-more bytes places i here);
           found = λ q. are.found q ∙ sym (rw put (place-last 0 (entries bytes kept) name (cut bytes place.value) q first at));
           plain = λ e. cc;
         }
@@ -99,7 +96,7 @@ module _ (bytes : List ℕ) (places kept : List Place) (i : ℕ) (find : List �
       let size : 0 + length (entries bytes kept) ≡ length kept = omega (arith, length-map kept (entry bytes)) in
       record {
         within = All-push (IsPlaced (length bytes)) kept place are.within (fits i nowhere here);
-        same = turned (kept ++ place ∷ []) put;
+        same = grind (arith, put, are.same, entries-more bytes places i here);
         found = λ q. finds q ∙ sym (rw (put, are.found q, ← size) (place-new 0 (entries bytes kept) name (cut bytes place.value) q none));
         plain = λ e. ap (λ ps. ps ++ place ∷ []) (are.plain e) ∙ sym (take_more places i nowhere here);
       }
@@ -115,10 +112,6 @@ insert-unknown : (ms : List Member) (name value : List ℕ) → list_any (bytes_
 insert-unknown [] name value new = grind arith
 insert-unknown (m ∷ ms) name value new = grind (arith, insert-unknown ms name value)
 
--- a mark that isn't seen now
-another : (seen : List Bool) (mark k : ℕ) → mark < length seen → get_or (set seen mark true) k false ≡ false → k ≡ mark → ⊥
-another seen mark k low unseen same = grind (arith, get_or-set_same seen mark true false low)
-
 -- one name more, which is new
 pub seen_more : (bytes : List ℕ) (places : List Place) (i : ℕ) (seen : List Bool) (mark : ℕ) → i < length places → AreSeen bytes places i seen
     → mark ≡ mark_of (cut bytes (get_or places i nowhere).name) → mark < 256
@@ -127,11 +120,10 @@ seen_more bytes places i seen mark here before marks small new =
     let name = cut bytes (get_or places i nowhere).name in
     let value = cut bytes (get_or places i nowhere).value in
     let more = entries-push bytes places i here in
-    let low : mark < length seen = omega (arith, before.size) in
     record {
       kept = entries-more bytes places i here ∙ rw (before.kept, more) (insert-unknown (entries bytes (take i places)) name value new);
       marked = λ other unseen.
-          let another_mark = another seen mark (mark_of other) low unseen in
+          let another_mark : mark_of other ≡ mark → ⊥ = λ same. grind (arith, get_or-set_same seen mark true false, before.size) in
           let apart : bytes_eq other name ≡ false = bytes_eq-apart other name (λ same. another_mark (ap mark_of same ∙ sym marks)) in
           rw more (grind (arith, common_steps, apart, before.marked other (sym (get_or-set_other seen mark (mark_of other) true false another_mark) ∙ unseen)));
       size = length-set seen mark true ∙ before.size;

@@ -1,16 +1,18 @@
 -- A writer that is ready for the rest behind a value, whose compact text it has written, was ready for the value.
-use Rattle.std.proofs.Common.{true≢false, ◌≡◌, ℕ, ◌+◌, ◌-◌, List, [], ◌∷◌, ◌++◌, Bool, true, false, eqb, map, flat_map, refl, sym, ap, subst, ◌∙◌, arith, inl, inr, append_assoc, append-nil, encode_utf8, drop, filter, bytes_eq, IsUtf8}
+use Rattle.std.proofs.Common.{true≢false, ◌≡◌, ne_eqb, ℕ, ◌+◌, List, [], ◌∷◌, ◌++◌, Bool, true, false, eqb, map, flat_map, refl, sym, ap, subst, ◌∙◌, arith, inl, inr, append_assoc, append-nil, encode_utf8, drop, filter, bytes_eq, IsUtf8}
 use Rattle.std.specs.List.{list_all, AllByRecursion, join_with_byte}
-use Rattle.std.proofs.lemmas.Bool.{and_parts, false≢true}
+use Rattle.std.proofs.lemmas.Bool.{false≢true}
 use Rattle.std.proofs.lemmas.Bool.Decides.{nat_tests}
 use Rattle.std.proofs.lemmas.Grind.{flat_map-append}
+use Rattle.std.proofs.Math.Nat.{add-sub_cancel}
+use Rattle.std.proofs.lemmas.Simd.{map-map}
 use Rattle.json_text.specs.Characters.{is_space, is_blank, is_plain, is_digit, quote, quoted_byte}
 use Rattle.json_text.specs.Compact.{Member, content, compact, members, collapsed, label_name, member_text, array_text, object_text, has_other_name, last_value}
 use Rattle.json_text.specs.Walk.{inside, Quoted}
 use Rattle.json_text.specs.Tree.{Piece, bare, letter, unit, IsPiece, piece_spelling, string_spelling, array, object, Label, unnamed, named, IsLabel, label_spelling, Tree, scalar, text, empty, filled, Values, last, next, spelling, values_spelling, IsGood, AreGood}
 use Rattle.json_reader.specs.Drafts.{Drafted, fresh, grown, pair_text, pairs_text}
 use Rattle.json_reader.specs.Places.{quoted}
-use Rattle.json_reader.specs.Writing.{Writing, between, deed, deed_at, Can, Done, AreAlike, Ready, Deed, Skip, Keep, Slash, Push}
+use Rattle.json_reader.specs.Writing.{Writing, between, deed_at, Can, Done, AreAlike, Ready, Deed, Skip, Keep, Slash, Push}
 use Rattle.json_text.proofs.CompactLaws.{members-utf8}
 use Rattle.json_text.proofs.Contents.{content-first}
 use Rattle.json_text.proofs.Reading.{is_part_of_literal, list_all-each, literal-plain, regroup-last, regroup-next}
@@ -55,33 +57,20 @@ within escaped escapes string here around = record { place = inside escaped; esc
 abbrev items_text : Values → List ℕ
 items_text values = join_with_byte 44 (map (λ (member : Member). member.1) (members values)) ++ 93 ∷ []
 
-array-items : (values : Values) → compact (filled array values) ≡ 91 ∷ items_text values
-unfolding array_text
-array-items values = refl
-
 items-step : (c value : List ℕ) (values : Values) → c ++ (join_with_byte 44 (value ∷ map (λ (member : Member). member.1) (members values)) ++ 93 ∷ []) ≡ ((c ++ value) ++ 44 ∷ []) ++ items_text values
 items-step c value (last label other blank) = simp append_assoc
 items-step c value (next label other blank values) = simp append_assoc
 
 -- what stands between the brackets of an object
-pairs-quoted : (ms : List Member) → map pair_text (map quoted ms) ≡ map member_text ms
-pairs-quoted [] = refl
-pairs-quoted (m ∷ ms) = ap (λ (ts : List (List ℕ)). member_text m ∷ ts) (pairs-quoted ms)
-
 object-shut : (values : Values) → AreGood object values → (c : List ℕ)
     → c ++ compact (filled object values) ≡ ((c ++ 123 ∷ []) ++ pairs_text (collapsed (map quoted (members values)))) ++ 125 ∷ []
 unfolding object_text
 object-shut values good c =
-    let inner : List ℕ = join_with_byte 44 (map member_text (collapsed (members values))) in
-    let same : pairs_text (collapsed (map quoted (members values))) ≡ inner =
-    ap pairs_text (collapsed-quoted (members values) (members-utf8 values good)) ∙ ap (join_with_byte 44) (pairs-quoted (collapsed (members values))) in
-    rw same (sym (append_assoc (c ++ 123 ∷ []) inner (125 ∷ []) ∙ append_assoc c (123 ∷ []) (inner ++ 125 ∷ [])))
+    let same : pairs_text (collapsed (map quoted (members values))) ≡ join_with_byte 44 (map member_text (collapsed (members values))) =
+    ap pairs_text (collapsed-quoted (members values) (members-utf8 values good)) ∙ ap (join_with_byte 44) (map-map pair_text quoted (collapsed (members values))) in
+    rw same (simp append_assoc)
 
 -- ---- bytes that are all taken in one way
-keeps : (escaped : Bool) (b level : ℕ) → is_plain b ≡ true → deed (inside escaped) level b ≡ Keep
-keeps true b level plain = refl
-keeps false b level plain = rw (plain-quote b plain, plain-slash b plain) refl
-
 all-pass : (p q : ℕ → Bool) → ((b : ℕ) → p b ≡ true → q b ≡ true) → (xs : List ℕ) → AllByRecursion (λ b. p b ≡ true) xs → list_all q xs ≡ true
 all-pass p q each [] pass = refl
 all-pass p q each (x ∷ xs) pass = rw (each x pass.0, all-pass p q each xs pass.1) refl
@@ -110,8 +99,7 @@ module _ (written : List ℕ) where
   blanks : (xs : List ℕ) (d : Drafted) (ds : List Drafted) → is_blank xs ≡ true → Takes xs (between d ds) (between d ds)
   blanks [] d ds is = λ rest. (λ r. r, λ r. r)
   blanks (x ∷ xs) d ds is =
-      let both = and_parts (is_space x) (is_blank xs) is in
-      takes-byte Skip x xs _ (between d ds) _ (rw both.0 refl) tt (λ new e. e) refl (blanks xs d ds both.1)
+      takes-byte Skip x xs _ (between d ds) _ (grind arith) tt (λ new e. e) refl (blanks xs d ds (grind arith))
 
   pub blank-ready : (blank rest : List ℕ) (d : Drafted) (ds : List Drafted) → is_blank blank ≡ true → Is (between d ds) rest → Is (between d ds) (blank ++ rest)
   blank-ready blank rest d ds is = (blanks blank d ds is rest).0
@@ -119,29 +107,27 @@ module _ (written : List ℕ) where
   literals : (xs : List ℕ) (d : Drafted) (ds : List Drafted) → list_all is_part_of_literal xs ≡ true → Takes xs (between d ds) (between (grown d xs) ds)
   literals [] d ds is = subst (λ c. Takes [] (between d ds) (between (record d { text = c }) ds)) (sym (append-nil d.text)) (λ rest. (λ r. r, λ r. r))
   literals (x ∷ xs) d ds is =
-      let both = and_parts (is_part_of_literal x) (list_all is_part_of_literal xs) is in
       subst (λ c. Takes (x ∷ xs) (between d ds) (between (record d { text = c }) ds)) (append_assoc d.text (x ∷ []) xs)
-      (takes-byte Push x xs _ (between (grown d (x ∷ [])) ds) _ (grind (arith, nat_tests)) tt (λ new e. e) refl (literals xs (grown d (x ∷ [])) ds both.1))
+      (takes-byte Push x xs _ (between (grown d (x ∷ [])) ds) _ (grind (arith, nat_tests)) tt (λ new e. e) refl (literals xs (grown d (x ∷ [])) ds (grind arith)))
 
   -- ---- strings
   plain-first : (x : ℕ) (xs s : List ℕ) (escaped escapes : Bool) (d : Drafted) (ds : List Drafted) → is_plain x ≡ true
       → Takes xs (within false escapes (s ++ x ∷ []) d ds) (within false escapes ((s ++ x ∷ []) ++ xs) d ds) → Takes (x ∷ xs) (within escaped escapes s d ds) (within false escapes (s ++ x ∷ xs) d ds)
   plain-first x xs s escaped escapes d ds plain takes =
       subst (λ t. Takes (x ∷ xs) (within escaped escapes s d ds) (within false escapes t d ds)) (append_assoc s (x ∷ []) xs)
-      (takes-byte Keep x xs (within escaped escapes s d ds) (within false escapes (s ++ x ∷ []) d ds) _ (keeps escaped x d.level plain) tt (λ new e. e) refl takes)
+      (takes-byte Keep x xs (within escaped escapes s d ds) (within false escapes (s ++ x ∷ []) d ds) _ (grind (arith, plain-quote x, plain-slash x)) tt (λ new e. e) refl takes)
 
   plains : (xs s : List ℕ) (escapes : Bool) (d : Drafted) (ds : List Drafted) → list_all is_plain xs ≡ true → Takes xs (within false escapes s d ds) (within false escapes (s ++ xs) d ds)
   plains [] s escapes d ds is = subst (λ t. Takes [] (within false escapes s d ds) (within false escapes t d ds)) (sym (append-nil s)) (λ rest. (λ r. r, λ r. r))
   plains (x ∷ xs) s escapes d ds is =
-      let both = and_parts (is_plain x) (list_all is_plain xs) is in plain-first x xs s false escapes d ds both.0 (plains xs (s ++ x ∷ []) escapes d ds both.1)
+      plain-first x xs s false escapes d ds (grind arith) (plains xs (s ++ x ∷ []) escapes d ds (grind arith))
 
   escape : (b : ℕ) (more s : List ℕ) (escapes : Bool) (d : Drafted) (ds : List Drafted) → list_all is_plain more ≡ true
       → Takes (92 ∷ b ∷ more) (within false escapes s d ds) (within false true (s ++ 92 ∷ b ∷ more) d ds)
   escape b more s escapes d ds is =
-      let mid : List ℕ = (s ++ 92 ∷ []) ++ b ∷ [] in
       subst (λ t. Takes (92 ∷ b ∷ more) (within false escapes s d ds) (within false true t d ds)) (simp append_assoc)
       (takes-byte Slash 92 (b ∷ more) (within false escapes s d ds) (within true true (s ++ 92 ∷ []) d ds) _ refl tt (λ new e. e) refl
-      (takes-byte Keep b more (within true true (s ++ 92 ∷ []) d ds) (within false true mid d ds) _ refl tt (λ new e. e) refl (plains more mid true d ds is)))
+      (takes-byte Keep b more (within true true (s ++ 92 ∷ []) d ds) (within false true ((s ++ 92 ∷ []) ++ b ∷ []) d ds) _ refl tt (λ new e. e) refl (plains more _ true d ds is)))
 
   -- over pieces, which are their own quote if no escape is among them
   pieces : (ps : List Piece) (s : List ℕ) (escapes : Bool) (d : Drafted) (ds : List Drafted) → AllByRecursion IsPiece ps
@@ -192,13 +178,14 @@ module _ (written : List ℕ) where
 
   -- ---- values
   mutual
+    unfolding array_text
+
     pub tree-ready : (tree : Tree) (rest : List ℕ) (d : Drafted) (ds : List Drafted) → IsGood tree
         → Is (between (grown d (compact tree)) ds) rest → Is (between d ds) (spelling tree ++ rest)
     tree-ready (scalar literal) rest d ds good r = (literals literal d ds (literal-plain literal good) rest).0 r
     tree-ready (text pieces) rest d ds good r = string-ready pieces rest d ds good r
     tree-ready (empty array blank) rest d ds good r =
-        let back : d.level + 1 - 1 ≡ d.level = omega arith in
-        (tt, λ new e. rw (e, append_assoc blank (93 ∷ []) rest) (blank-ready blank (93 ∷ rest) _ ds good (tt, λ other is. rw (is, back, append_assoc d.text (91 ∷ []) (93 ∷ [])) r)))
+        (tt, λ new e. rw (e, append_assoc blank (93 ∷ []) rest) (blank-ready blank (93 ∷ rest) _ ds good (tt, λ other is. rw (is, add-sub_cancel, append_assoc d.text (91 ∷ []) (93 ∷ [])) r)))
     tree-ready (empty object blank) rest d ds good r = (
       tt,
       λ new e. rw (e, append_assoc blank (125 ∷ []) rest) (blank-ready blank (125 ∷ rest) _ _ good (
@@ -209,7 +196,7 @@ module _ (written : List ℕ) where
     tree-ready (filled array values) rest d ds good r = (
       tt,
       λ new e. rw (e, append_assoc (values_spelling values) (93 ∷ []) rest) (items-ready values rest (grown d (91 ∷ [])) ds good
-          (subst (λ s. Is (between (record d { text = s }) ds) rest) (ap (λ s. d.text ++ s) (array-items values) ∙ sym (append_assoc d.text (91 ∷ []) (items_text values))) r)),
+          (subst (λ s. Is (between (record d { text = s }) ds) rest) (sym (append_assoc d.text (91 ∷ []) (items_text values))) r)),
     )
     tree-ready (filled object values) rest d ds good r = (
       tt,
@@ -220,17 +207,13 @@ module _ (written : List ℕ) where
     items-ready : (values : Values) (rest : List ℕ) (d : Drafted) (ds : List Drafted) → AreGood array values
         → Is (between (grown d (items_text values)) ds) rest → Is (between (record d { level = d.level + 1 }) ds) (values_spelling values ++ 93 ∷ rest)
     items-ready (last label value blank) rest d ds good r =
-        let deep : Drafted = record d { level = d.level + 1 } in
-        let back : d.level + 1 - 1 ≡ d.level = omega arith in
-        subst (Is (between deep ds)) (sym (regroup-last (label_spelling label) (spelling value) blank (93 ∷ rest)))
-        (space-ready label _ _ ds good.0 (tree-ready value _ deep ds good.1 (blank-ready blank _ _ ds good.2
-        (tt, λ new e. subst (λ w. Is w rest) (sym e) (rw (back, append_assoc d.text (compact value) (93 ∷ [])) r)))))
+        subst (Is (between (record d { level = d.level + 1 }) ds)) (sym (regroup-last (label_spelling label) (spelling value) blank (93 ∷ rest)))
+        (space-ready label _ _ ds good.0 (tree-ready value _ _ ds good.1 (blank-ready blank _ _ ds good.2
+        (tt, λ new e. subst (λ w. Is w rest) (sym e) (rw (add-sub_cancel, append_assoc d.text (compact value) (93 ∷ [])) r)))))
     items-ready (next label value blank values) rest d ds good r =
-        let deep : Drafted = record d { level = d.level + 1 } in
-        let some : eqb (d.level + 1) 0 ≡ false = grind (arith, nat_tests) in
-        subst (Is (between deep ds)) (sym (regroup-next (label_spelling label) (spelling value) blank 44 (values_spelling values) (93 ∷ rest)))
-        (space-ready label _ _ ds good.0 (tree-ready value _ deep ds good.1 (blank-ready blank _ _ ds good.2
-        (rw some (
+        subst (Is (between (record d { level = d.level + 1 }) ds)) (sym (regroup-next (label_spelling label) (spelling value) blank 44 (values_spelling values) (93 ∷ rest)))
+        (space-ready label _ _ ds good.0 (tree-ready value _ _ ds good.1 (blank-ready blank _ _ ds good.2
+        (rw (ne_eqb (d.level + 1) 0 (λ e. omega arith)) (
           tt,
           λ new e. subst (λ w. Is w (values_spelling values ++ 93 ∷ rest)) (sym e)
               (items-ready values rest (grown (grown d (compact value)) (44 ∷ [])) ds good.3
@@ -249,9 +232,8 @@ module _ (written : List ℕ) where
         ))))
     members-ready (next label value blank values) rest done d o ds row good r =
         let name = quote (label_name label) in
-        let flat : eqb d.level 0 ≡ true = rw row.level refl in
         subst (Is (between d (ds ++ o ∷ []))) (sym (regroup-next (label_spelling label) (spelling value) blank 44 (values_spelling values) (125 ∷ rest)))
-        (name-ready label _ d _ good.0 (tree-ready value _ (labelled d name) _ good.1 (blank-ready blank _ _ _ good.2 (rw flat (
+        (name-ready label _ d _ good.0 (tree-ready value _ (labelled d name) _ good.1 (blank-ready blank _ _ _ good.2 (rw (ap (λ (n : ℕ). eqb n 0) row.level) (
           tt,
           λ new is. subst (λ w. Is w (values_spelling values ++ 125 ∷ rest)) (sym is)
               (members-ready values rest (done ++ (name, compact value) ∷ []) _ o ds (row_more done d row name (compact value)) good.3

@@ -2,9 +2,9 @@
 use Rattle.std.proofs.Common.{◌≡◌, ℕ, ◌+◌, ◌-◌, ◌*◌, ◌/◌, ◌<◌, ◌≤◌, List, [], ◌∷◌, true, Option, Some, None, refl, inl, inr, arith, nat_le, ◌&&◌}
 use Rattle.std.specs.Char.{encode_utf8, IsScalar}
 use Rattle.std.proofs.lemmas.Bool.Decides.{nat_tests}
-use Rattle.std.proofs.lemmas.Bool.{cases_lt, and_parts, leb-true, le-ltb, lt-ltb}
+use Rattle.std.proofs.lemmas.Bool.{cases_lt}
 use lib.Utf8.{scalar, low_scalar, next}
-use Rattle.json_reader.specs.Machine.{Tail, One, Two, Three, Long3, Low3, Long4, Low4, tail_led, tail_fits, tail_after}
+use Rattle.json_reader.specs.Machine.{Tail, One, Two, tail_led, tail_fits, tail_after}
 
 abbrev pub on_tail : (Tail → Type 0) → Type 0 → Option Tail → Type 0
 on_tail goes over None = over
@@ -18,18 +18,18 @@ Completes (b ∷ s) tail = (tail_fits tail b ≡ true) × on_tail (Completes s) 
 -- ---- the bytes of a character
 encode_two : (c : ℕ) → 128 ≤ c → c < 2048 → encode_utf8 c ≡ (192 + c / 64) ∷ next c ∷ []
 unfolding encode_utf8
-encode_two c l h = rw (le-ltb c 128 l, lt-ltb c 2048 h) refl
+encode_two c l h = grind (arith, nat_tests)
 
 encode_three : (c : ℕ) → 2048 ≤ c → c < 65536 → encode_utf8 c ≡ (224 + c / 4096) ∷ next (c / 64) ∷ next c ∷ []
 unfolding encode_utf8
-encode_three c l h = rw (le-ltb c 128 (omega arith), le-ltb c 2048 l, lt-ltb c 65536 h) refl
+encode_three c l h = grind (arith, nat_tests)
 
 encode_four : (c : ℕ) → 65536 ≤ c → encode_utf8 c ≡ (240 + c / 262144) ∷ next (c / 4096) ∷ next (c / 64) ∷ next c ∷ []
 unfolding encode_utf8
-encode_four c l = rw (le-ltb c 128 (omega arith), le-ltb c 2048 (omega arith), le-ltb c 65536 l) refl
+encode_four c l = grind (arith, nat_tests)
 
 pub fitted : (low high b : ℕ) → (nat_le low b && nat_le b high) ≡ true → (low ≤ b) × (b ≤ high)
-fitted low high b e = let p = and_parts (nat_le low b) (nat_le b high) e in (leb-true low b p.0, leb-true b high p.1)
+fitted low high b e = grind (arith, nat_tests)
 
 -- the bytes of a character from 128 on begin a sequence and complete it
 pub record IsLed (c : ℕ) : Type 0 where
@@ -50,19 +50,15 @@ three_led : (c : ℕ) → IsScalar c → 2048 ≤ c → c < 65536 → IsLed c
 three_led c scalar low high = by (tail_led (224 + c / 4096)) refl
   where
     by : (o : Option Tail) → tail_led (224 + c / 4096) ≡ o → IsLed c
-    by (Some Long3) e = is_led c _ _ Long3 (encode_three c low high) e (grind (arith, nat_tests), (follow c, refl))
-    by (Some Low3) e = is_led c _ _ Low3 (encode_three c low high) e (grind (arith, nat_tests), (follow c, refl))
-    by (Some Two) e = is_led c _ _ Two (encode_three c low high) e (follow (c / 64), (follow c, refl))
-    by o e = absurd (grind arith)
+    by (Some tail) e = is_led c _ _ tail (encode_three c low high) e (grind (arith, nat_tests, follow))
+    by None e = absurd (grind arith)
 
 four_led : (c : ℕ) → IsScalar c → 65536 ≤ c → IsLed c
 four_led c scalar low = by (tail_led (240 + c / 262144)) refl
   where
     by : (o : Option Tail) → tail_led (240 + c / 262144) ≡ o → IsLed c
-    by (Some Long4) e = is_led c _ _ Long4 (encode_four c low) e (grind (arith, nat_tests), (follow (c / 64), (follow c, refl)))
-    by (Some Low4) e = is_led c _ _ Low4 (encode_four c low) e (grind (arith, nat_tests), (follow (c / 64), (follow c, refl)))
-    by (Some Three) e = is_led c _ _ Three (encode_four c low) e (follow (c / 4096), (follow (c / 64), (follow c, refl)))
-    by o e = absurd (grind arith)
+    by (Some tail) e = is_led c _ _ tail (encode_four c low) e (grind (arith, nat_tests, follow))
+    by None e = absurd (grind arith)
 
 pub char_led : (c : ℕ) → IsScalar c → 128 ≤ c → IsLed c
 char_led c scalar big = elim (cases_lt c 2048) [
@@ -91,21 +87,14 @@ three_char b x (y ∷ s) bl bh xl xh long low h =
     rw h.1 (c, grind arith, omega arith, grind (arith, encode_three c least (omega arith)))
 
 four_char : (b x : ℕ) (s : List ℕ) → 240 ≤ b → b ≤ 244 → 128 ≤ x → x ≤ 191 → (b ≡ 240 → 144 ≤ x) → (b ≡ 244 → x < 144) → Completes s Two → IsChar (b ∷ x ∷ s)
-four_char b x [] bl bh xl xh long low h = absurd h
-four_char b x (y ∷ []) bl bh xl xh long low h = absurd h.1
 four_char b x (y ∷ z ∷ s) bl bh xl xh long low h =
     let f = fitted 128 191 y h.0 in
     let g = fitted 128 191 z h.1.0 in
     let c : ℕ = (b - 240) * 262144 + (x - 128) * 4096 + (y - 128) * 64 + (z - 128) in
     let least : 65536 ≤ c = grind arith in
     rw h.1.1 (c, grind arith, omega arith, grind (arith, encode_four c least))
+four_char b x s bl bh xl xh long low h = absurd (grind arith)
 
 pub led_char : (b : ℕ) (s : List ℕ) (tail : Tail) → tail_led b ≡ Some tail → Completes s tail → IsChar (b ∷ s)
 led_char b [] tail e h = absurd h
-led_char b (x ∷ s) One e h = let f = fitted 128 191 x h.0 in two_char b x s (grind arith) (grind arith) f.0 f.1 h.1
-led_char b (x ∷ s) Two e h = let f = fitted 128 191 x h.0 in three_char b x s (grind arith) (grind arith) f.0 f.1 (λ q. grind arith) (λ q. grind arith) h.1
-led_char b (x ∷ s) Long3 e h = let f = fitted 160 191 x h.0 in three_char b x s (grind arith) (grind arith) (omega arith) f.1 (λ q. f.0) (λ q. grind arith) h.1
-led_char b (x ∷ s) Low3 e h = let f = fitted 128 159 x h.0 in three_char b x s (grind arith) (grind arith) f.0 (omega arith) (λ q. grind arith) (λ q. omega arith) h.1
-led_char b (x ∷ s) Three e h = let f = fitted 128 191 x h.0 in four_char b x s (grind arith) (grind arith) f.0 f.1 (λ q. grind arith) (λ q. grind arith) h.1
-led_char b (x ∷ s) Long4 e h = let f = fitted 144 191 x h.0 in four_char b x s (grind arith) (grind arith) (omega arith) f.1 (λ q. f.0) (λ q. grind arith) h.1
-led_char b (x ∷ s) Low4 e h = let f = fitted 128 143 x h.0 in four_char b x s (grind arith) (grind arith) f.0 (omega arith) (λ q. grind arith) (λ q. omega arith) h.1
+led_char b (x ∷ s) tail e h = grind (arith, nat_tests, two_char b x s, three_char b x s, four_char b x s)

@@ -1,19 +1,19 @@
 -- The runs of the machine; what completes a value from each of its states; and that with a byte in front this completes one
 -- from the state before it.
-use Rattle.std.proofs.Common.{◌≡◌, ◌⊎◌, ℕ, suc, ◌+◌, ◌-◌, ◌≤◌, List, [], ◌∷◌, ◌++◌, length, true, refl, ◌<◌, sym, ap, ◌∙◌, inl, inr, arith, append_assoc, zero, ne_eqb, subst, length-append, ◌==◌, Some, ◌&&◌, not, Option, None, nat_lt, false, flat_map, le-ltb, ltb-true, eqb-true}
+use Rattle.std.proofs.Common.{◌≡◌, ◌⊎◌, ℕ, suc, ◌+◌, ◌-◌, ◌≤◌, List, [], ◌∷◌, ◌++◌, length, true, refl, sym, ap, ◌∙◌, inl, inr, arith, append_assoc, zero, ne_eqb, subst, length-append, ◌==◌, Some, ◌&&◌, not, Option, None, nat_lt, false, flat_map, le-ltb, eqb-true}
 use Rattle.std.specs.List.{AllByRecursion, list_all}
 use Rattle.std.proofs.lemmas.List.Folds.{list_all-append}
-use Rattle.std.proofs.lemmas.Bool.{and_from, and_parts, eqb-false, not-true, false≢true, cond_both}
+use Rattle.std.proofs.lemmas.Bool.{and_from, eqb-false, cond_both}
 use Rattle.std.proofs.lemmas.Bool.Decides.{nat_tests}
 use Rattle.std.proofs.lemmas.Str.{encode_ascii}
 use lib.Utf8.{low_scalar}
 use Rattle.json_text.specs.Characters.{is_hex, is_space, is_blank, is_bare}
 use Rattle.json_text.specs.Tree.{Piece, IsPiece, piece_spelling, closing, Tree, spelling, IsGood, depth, Values, values_spelling, AreGood, values_depth, bare, unit, Label, unnamed, named, label_spelling, IsLabel, last, next, letter, letter_meaning, opening, scalar, text, empty, filled, IsWord}
 use Rattle.json_text.specs.Value.{extends_number, Follows}
-use Rattle.json_reader.specs.Machine.{Bracket, Square, Curly, Role, Place, Plain, Escape, Hex, Sequence, Mode, Fresh, Name, Colon, After, Quoted, letters_of, Number, Word, container_of, Outcome, state, ended, refused, Tail, One, after_digit, tail_fits, in_sequence, tail_after, Part, Letters, Ull, L, E, Rue, Alse, To, Open, Move, applied, step, part_begun, value_begun, tail_led, tail_length, part_after, top, string_move, closes_bracket, after_comma, after_move, is_complete, number_move_on, first_move, after_string, after_letter, first_letter, led_on}
+use Rattle.json_reader.specs.Machine.{Bracket, Square, Curly, Role, Place, Plain, Escape, Hex, Sequence, Mode, Fresh, Name, Colon, After, Quoted, letters_of, Number, Word, container_of, Outcome, state, ended, refused, Tail, One, after_digit, tail_fits, in_sequence, tail_after, Part, Letters, Ull, Rue, Alse, To, Open, Move, applied, step, part_begun, value_begun, tail_led, tail_length, part_after, top, string_move, closes_bracket, after_move, is_complete, number_move_on, first_move, after_letter, first_letter, led_on}
 pub use Rattle.json_reader.specs.Runs.{go, run, start}
 use Rattle.json_text.proofs.Reading.{Stops, Front, Blank, spread, regroup-last, regroup-next}
-use Rattle.json_reader.proofs.NumberRuns.{ends, number_run, on_part, run_number}
+use Rattle.json_reader.proofs.NumberRuns.{ends, number_run, run_number}
 use Rattle.json_reader.proofs.Sequences.{Completes, IsChar, led_char}
 
 pub run-append : (limit : ℕ) (from : Outcome) (xs ys : List ℕ) → run limit from (xs ++ ys) ≡ run limit (run limit from xs) ys
@@ -119,8 +119,7 @@ module _ {P : List ℕ → Type 0} where
 
   pub bare_said : (b : ℕ) (w : List ℕ) → is_bare b ≡ true → Pieces P w → Pieces P (b ∷ w)
   bare_said b w is p =
-      let small : b < 128 = grind (arith, nat_tests) in
-      rw (encode_ascii b small) at (with_piece (bare b) w (low_scalar b (omega arith), grind (arith, nat_tests), grind (arith, nat_tests), grind (arith, nat_tests)) p)
+      rw (encode_ascii b (grind (arith, nat_tests))) at (with_piece (bare b) w (low_scalar b (grind (arith, nat_tests)), grind (arith, nat_tests), grind (arith, nat_tests), grind (arith, nat_tests)) p)
 
   pub inner_said : (n b : ℕ) (tail : Tail) (w : List ℕ) → tail_fits tail b ≡ true → InString P (in_sequence n (tail_after tail)) w → InString P (Sequence n tail) (b ∷ w)
   inner_said n b One w fits p come char =
@@ -133,8 +132,7 @@ module _ {P : List ℕ → Type 0} where
   digit_said zero b w is p (a ∷ c ∷ d ∷ []) all counts = with_piece (unit a c d b) w (grind arith) p
   digit_said zero b w is p digits all counts = absurd (omega arith)
   digit_said (suc more) b w is h digits all counts =
-      let all_digits : list_all is_hex (digits ++ b ∷ []) ≡ true = list_all-append is_hex digits (b ∷ []) ∙ (rw (all, is) refl) in
-      subst (λ x. Pieces P (92 ∷ 117 ∷ x)) (append_assoc digits (b ∷ []) w) (h (digits ++ b ∷ []) all_digits (omega (arith, counts, length-append digits (b ∷ []))))
+      subst (λ x. Pieces P (92 ∷ 117 ∷ x)) (append_assoc digits (b ∷ []) w) (h (digits ++ b ∷ []) (grind (arith, list_all-append is_hex digits (b ∷ []))) (omega (arith, counts, length-append digits (b ∷ []))))
 
 -- ---- white space
 pub here : {P : List ℕ → Type 0} {w : List ℕ} → P w → Blank P w
@@ -145,8 +143,7 @@ space {b = b} s more =
     record { front = b ∷ more.front; rest = more.rest; holds = and_from (is_space b) (is_blank more.front) s more.holds; spells = ap (λ x. b ∷ x) more.spells; follows = more.follows }
 
 pub quiet_follows : (value w : List ℕ) → Quiet w → Follows value w
-quiet_follows value [] q = tt
-quiet_follows value (b ∷ w) q = λ n. q
+quiet_follows value w q = grind arith
 
 pub spelled : (limit : ℕ) (left : List ℕ) (st : List Bracket) (tree : Tree) (w rest : List ℕ) → IsGood tree → depth tree ≤ limit - length st → w ≡ spelling tree ++ rest
     → Follows (spelling tree) rest → Rest limit left st rest → Starts limit left st w
@@ -169,8 +166,7 @@ module _ (limit : ℕ) (left : List ℕ) (st : List Bracket) where
       let colon = between.follows in
       let after = colon.2 in
       let label : Label = named before.front name.pieces between.front after.front in
-      let spells : w ≡ label_spelling label ++ after.rest = rw (spread, ← after.spells, ← colon.1, ← between.spells, ← name.spells, ← quote.1) before.spells in
-      (label, after.rest, spells, (before.holds, name.good, between.holds, after.holds), after.follows)
+      (label, after.rest, rw (spread, ← after.spells, ← colon.1, ← between.spells, ← name.spells, ← quote.1) before.spells, (before.holds, name.good, between.holds, after.holds), after.follows)
 
   pub rolled : (bracket : Bracket) (w : List ℕ) → Blank (First limit left bracket (bracket ∷ st)) w → Listed limit left bracket st (Rest limit left st) w
   rolled bracket w s =
@@ -192,18 +188,11 @@ pub led_high : (b : ℕ) (tail : Tail) → tail_led b ≡ Some tail → 192 ≤ 
 led_high b tail e = grind arith
 
 pub lead_char : (r : Role) (b : ℕ) (tail : Tail) → tail_led b ≡ Some tail → string_move r Plain b ≡ To (Quoted r (Sequence (tail_length tail + 1) tail))
-lead_char r b tail e =
-    let high : 192 ≤ b = led_high b tail e in
-    rw (ne_eqb b 34 (λ q. omega arith), ne_eqb b 92 (λ q. omega arith), le-ltb b 32 (omega arith), le-ltb b 128 (omega arith), e) refl
+lead_char r b tail e = rw (ne_eqb b 34 (λ q. grind arith), ne_eqb b 92 (λ q. grind arith), le-ltb b 32 (grind arith), le-ltb b 128 (grind arith), e) refl
 
 -- what begins so is no number
 no_number : (b : ℕ) (s w : List ℕ) → part_begun b ≡ None → Follows (b ∷ s) w
-no_number b s [] none = tt
-no_number b s (x ∷ w) none = λ n. absurd (false≢true (subst (λ o. on_part (ends s) o ≡ true) none (number_run (b ∷ s) n)))
-
-no_opening : (bracket : Bracket) → part_begun (opening (container_of bracket)) ≡ None
-no_opening Square = refl
-no_opening Curly = refl
+no_number b s w none = grind (arith, number_run (b ∷ s))
 
 module _ (limit : ℕ) (left : List ℕ) where
   abbrev Moves : List Bracket → ℕ → List ℕ → Move → Type 0
@@ -214,16 +203,12 @@ module _ (limit : ℕ) (left : List ℕ) where
   Back m st b w move = Moves st b w move → Finishes limit left m st (b ∷ w)
 
   -- after a value
-  comma_back : (bracket : Bracket) (st : List Bracket) (b : ℕ) (w : List ℕ) → Moves (bracket ∷ st) b w (To (after_comma bracket)) → Blank (First limit left bracket (bracket ∷ st)) w
-  comma_back Square st b w r = r
-  comma_back Curly st b w r = r
-
   pub rest_back : (st : List Bracket) (b : ℕ) (w : List ℕ) → Moves st b w (after_move (top st) b) → Rest limit left st (b ∷ w)
   rest_back [] b w = λ h. h
   rest_back (bracket ∷ st) b w =
       cond_both (is_space b) _ _ (Back After (bracket ∷ st) b w) (λ s h. space s h) (λ _.
       cond_both (closes_bracket bracket b) _ _ (Back After (bracket ∷ st) b w) (λ c h. here (inl (rw (eqb-true b (closing (container_of bracket)) c) (w, refl, h)))) (λ _.
-      cond_both (b == 44) _ _ (Back After (bracket ∷ st) b w) (λ k h. here (inr (rw (eqb-true b 44 k) (w, refl, rolled limit left st bracket w (comma_back bracket st b w h))))) (λ _ h. absurd h)))
+      cond_both (b == 44) _ _ (Back After (bracket ∷ st) b w) (λ k h. here (inr (rw (eqb-true b 44 k) (w, refl, rolled limit left st bracket w (grind arith))))) (λ _ h. absurd h)))
 
   -- a value
   number_back : (st : List Bracket) (b : ℕ) (w : List ℕ) (o : Option Part) → part_begun b ≡ o → Moves st b w (number_move_on o false None b) → Starts limit left st (b ∷ w)
@@ -235,32 +220,21 @@ module _ (limit : ℕ) (left : List ℕ) where
   word_back st b s w none word r =
       spelled limit left st (scalar (b ∷ s)) _ r.0 (inr word) (omega arith) (ap (λ x. b ∷ x) r.1) (no_number _ _ _ none) r.2
 
-  text_back : (st : List Bracket) (w : List ℕ) → InString (Rest limit left st) Plain w → Starts limit left st (34 ∷ w)
-  text_back st w p =
-      let spells : w ≡ (flat_map piece_spelling p.pieces ++ 34 ∷ []) ++ p.rest = rw append_assoc p.spells in
-      spelled limit left st (text p.pieces) _ p.rest p.good (omega arith) (ap (λ x. 34 ∷ x) spells) (no_number _ _ _ refl) p.follows
-
-  opened_back : (st : List Bracket) (bracket : Bracket) (w : List ℕ) → length st < limit → Finishes limit left Fresh (bracket ∷ st) w → Starts limit left st (opening (container_of bracket) ∷ w)
-  opened_back st bracket w room b =
-      elim b.follows [
-        | inl end ↦
-            let spells : w ≡ (b.front ++ closing (container_of bracket) ∷ []) ++ end.0 = rw append_assoc (b.spells ∙ ap (λ x. b.front ++ x) end.1) in
-            spelled limit left st (empty (container_of bracket) b.front) _ end.0 b.holds (omega arith) (ap (λ x. opening (container_of bracket) ∷ x) spells) (no_number _ _ _ (no_opening bracket)) end.2
-        | inr first ↦
-            let l = rolled limit left st bracket w (record { front = b.front; rest = b.rest; holds = b.holds; spells = b.spells; follows = first }) in
-            let spells : w ≡ (values_spelling l.values ++ closing (container_of bracket) ∷ []) ++ l.rest = rw append_assoc l.spells in
-            spelled limit left st (filled (container_of bracket) l.values) _ l.rest l.good (omega (arith, l.shallow)) (ap (λ x. opening (container_of bracket) ∷ x) spells) (no_number _ _ _ (no_opening bracket)) l.follows
-      ]
-
   open_back : (st : List Bracket) (bracket : Bracket) (w : List ℕ) (b : ℕ) → Moves st b w (Open bracket) → Starts limit left st (opening (container_of bracket) ∷ w)
   open_back st bracket w b =
-      cond_both (nat_lt (length st) limit) (state Fresh (bracket ∷ st)) refused (λ o. Reaches limit left o w → Starts limit left st (opening (container_of bracket) ∷ w))
-      (λ r h. opened_back st bracket w (ltb-true (length st) limit r) h) (λ _ h. absurd h)
+      cond_both (nat_lt (length st) limit) (state Fresh (bracket ∷ st)) refused (λ o. Reaches limit left o w → Starts limit left st (opening (container_of bracket) ∷ w)) (λ room b.
+      elim b.follows [
+        | inl end ↦
+            spelled limit left st (empty (container_of bracket) b.front) _ end.0 b.holds (grind (arith, room)) (grind (arith, append_assoc, b.spells, end.1)) (no_number _ _ _ (grind arith)) end.2
+        | inr first ↦
+            let l = rolled limit left st bracket w (record { front = b.front; rest = b.rest; holds = b.holds; spells = b.spells; follows = first }) in
+            spelled limit left st (filled (container_of bracket) l.values) _ l.rest l.good (grind (arith, l.shallow, room)) (grind (arith, append_assoc, l.spells)) (no_number _ _ _ (grind arith)) l.follows
+      ]) (λ _ h. absurd h)
 
   starts_back : (st : List Bracket) (b : ℕ) (w : List ℕ) → Moves st b w (value_begun b) → Starts limit left st (b ∷ w)
   starts_back st b w =
       let Back = λ (m : Move). Moves st b w m → Starts limit left st (b ∷ w) in
-      cond_both (b == 34) _ _ Back (λ e h. rw (eqb-true b 34 e) (text_back st w h)) (λ _.
+      cond_both (b == 34) _ _ Back (λ e p. rw (eqb-true b 34 e) (spelled limit left st (text p.pieces) _ p.rest p.good (omega arith) (rw append_assoc (ap (λ x. 34 ∷ x) p.spells)) (no_number _ _ _ refl) p.follows)) (λ _.
       cond_both (b == 91) _ _ Back (λ e h. rw (eqb-true b 91 e) (open_back st Square w b h)) (λ _.
       cond_both (b == 123) _ _ Back (λ e h. rw (eqb-true b 123 e) (open_back st Curly w b h)) (λ _.
       cond_both (b == 110) _ _ Back (λ e h. rw (eqb-true b 110 e) (word_back st 110 (letters_of Ull) w refl (inl refl) h)) (λ _.
@@ -274,10 +248,6 @@ module _ (limit : ℕ) (left : List ℕ) where
   first_back Curly st b w h = cond_both (b == 34) _ _ (λ m. Moves st b w m → First limit left Curly st (b ∷ w)) (λ e h. rw (eqb-true b 34 e) (w, refl, h)) (λ _ h. absurd h) h
 
   -- strings
-  closed_back : (r : Role) (st : List Bracket) (b : ℕ) (w : List ℕ) → Moves st b w (To (after_string r)) → AfterString limit left r st w
-  closed_back Role.Name st b w h = h
-  closed_back Role.Value st b w h = h
-
   led_back : (r : Role) (st : List Bracket) (b : ℕ) (w : List ℕ) (o : Option Tail) → tail_led b ≡ o → Moves st b w (led_on r o) → InString (AfterString limit left r st) Plain (b ∷ w)
   led_back r st b w None e h = absurd h
   led_back r st b w (Some tail) e s = s (b ∷ []) (λ t c. led_char b t tail e c)
@@ -287,15 +257,12 @@ module _ (limit : ℕ) (left : List ℕ) where
       → Moves st b w (number_move_on after (is_complete part && not (extends_number b)) (top st) b) → Front (λ s. ends s part ≡ true) (λ r. Quiet r × Rest limit left st r) (b ∷ w)
   part_back part st b w None e =
       cond_both (is_complete part && not (extends_number b)) _ _ (Back (Number part) st b w)
-      (λ c h. let p = and_parts (is_complete part) (not (extends_number b)) c in
-      record { front = []; rest = b ∷ w; holds = p.0; spells = refl; follows = (not-true (extends_number b) p.1, rest_back st b w h) }) (λ _ h. absurd h)
+      (λ c h. record { front = []; rest = b ∷ w; holds = grind arith; spells = refl; follows = (grind arith, rest_back st b w h) }) (λ _ h. absurd h)
   part_back part st b w (Some other) e = λ f. record { front = b ∷ f.front; rest = f.rest; holds = rw e f.holds; spells = ap (λ x. b ∷ x) f.spells; follows = f.follows }
 
   -- the letter and those that follow it
   letters_back : (letters : Letters) (st : List Bracket) (b : ℕ) (w : List ℕ) → Moves st b w (To (after_letter letters)) → Bytes (letters_of letters) (Rest limit left st) (first_letter letters ∷ w)
-  letters_back L st b w r = (w, refl, r)
-  letters_back E st b w r = (w, refl, r)
-  letters_back letters st b w r = (r.0, ap (λ x. first_letter letters ∷ x) r.1, r.2)
+  letters_back letters st b w r = grind arith
 
   pub backward : (m : Mode) (st : List Bracket) (b : ℕ) (w : List ℕ) → Reaches limit left (step limit m st b) w → Finishes limit left m st (b ∷ w)
   backward Mode.Value st b w = cond_both (is_space b) _ _ (Back Mode.Value st b w) (λ s h. space s h) (λ _ h. here (starts_back st b w h))
@@ -310,17 +277,15 @@ module _ (limit : ℕ) (left : List ℕ) where
       cond_both (b == 58) _ _ (Back Colon st b w) (λ e h. here (rw (eqb-true b 58 e) (w, refl, h))) (λ _ h. absurd h))
   backward After st b w = rest_back st b w
   backward (Quoted r Plain) st b w =
-      cond_both (b == 34) _ _ (Back (Quoted r Plain) st b w) (λ e h. rw (eqb-true b 34 e) (shut (closed_back r st b w h))) (λ quote.
+      cond_both (b == 34) _ _ (Back (Quoted r Plain) st b w) (λ e h. rw (eqb-true b 34 e) (shut (grind arith))) (λ quote.
       cond_both (b == 92) _ _ (Back (Quoted r Plain) st b w) (λ e h. rw (eqb-true b 92 e) h) (λ slash.
       cond_both (nat_lt b 32) _ _ (Back (Quoted r Plain) st b w) (λ _ h. absurd h) (λ low.
       cond_both (nat_lt b 128) _ _ (Back (Quoted r Plain) st b w) (λ high h. bare_said b w (grind (arith, nat_tests)) h) (λ _ h. led_back r st b w (tail_led b) refl h))))
   backward (Quoted r Escape) st b w =
       cond_both (b == 117) _ _ (Back (Quoted r Escape) st b w) (λ e h. rw (eqb-true b 117 e) (h [] refl refl)) (λ _.
       cond_both (letter_meaning b == 0) _ _ (Back (Quoted r Escape) st b w) (λ _ h. absurd h) (λ some h. with_piece (letter b) w (eqb-false (letter_meaning b) 0 some) h))
-  backward (Quoted r (Hex more)) st b w =
-      cond_both (is_hex b) _ _ (Back (Quoted r (Hex more)) st b w) (λ is h. digit_said more b w is h) (λ _ h. absurd h)
-  backward (Quoted r (Sequence n tail)) st b w =
-      cond_both (tail_fits tail b) _ _ (Back (Quoted r (Sequence n tail)) st b w) (λ fits h. inner_said n b tail w fits h) (λ _ h. absurd h)
+  backward (Quoted r (Hex more)) st b w = cond_both (is_hex b) _ _ (Back (Quoted r (Hex more)) st b w) (λ is h. digit_said more b w is h) (λ _ h. absurd h)
+  backward (Quoted r (Sequence n tail)) st b w = cond_both (tail_fits tail b) _ _ (Back (Quoted r (Sequence n tail)) st b w) (λ fits h. inner_said n b tail w fits h) (λ _ h. absurd h)
   backward (Number part) st b w = part_back part st b w (part_after part b) refl
   backward (Word letters) st b w =
       cond_both (first_letter letters == b) _ _ (Back (Word letters) st b w)

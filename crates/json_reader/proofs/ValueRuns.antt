@@ -25,9 +25,7 @@ IsDone value (Number part) = (is_complete part ≡ true) × IsNumber value
 IsDone value m = ⊥
 
 done_moved : (value : List ℕ) (m : Mode) (top : Option Bracket) (b : ℕ) → IsDone value m → (IsNumber value → extends_number b ≡ false) → moved m top b ≡ after_move top b
-done_moved value After top b done quiet = refl
-done_moved value (Number part) top b done quiet = let ends = quiet done.1 in rw (ended_part part b ends, done.0, ends) refl
-done_moved value m top b done quiet = absurd done
+done_moved value m top b done quiet = grind (arith, ended_part)
 
 -- a value comes next, and no white space and no closing bracket
 abbrev Awaits : Mode → List Bracket → Type 0
@@ -50,8 +48,7 @@ module _ (limit : ℕ) where
   -- strings
   pub tail_over : (r : Role) (st : List Bracket) (n : ℕ) (more rest : List ℕ) (tail : Tail) → Completes more tail → run limit (state (Quoted r (Sequence n tail)) st) (more ++ rest) ≡ run limit (state (Quoted r Plain) st) rest
   tail_over r st n [] rest tail c = absurd c
-  tail_over r st n (b ∷ more) rest One c = rw (run, c.0, c.1) refl
-  tail_over r st n (b ∷ more) rest tail c = rw (run, c.0) (tail_over r st n more rest _ c.1)
+  tail_over r st n (b ∷ more) rest tail c = grind (arith, c.0, c.1, tail_over r st n more rest)
 
   piece_over : (r : Role) (st : List Bracket) (piece : Piece) (rest : List ℕ) → IsPiece piece → run limit (state (Quoted r Plain) st) (piece_spelling piece ++ rest) ≡ run limit (state (Quoted r Plain) st) rest
   piece_over r st (bare c) rest good = elim (cases_lt c 128) [
@@ -88,14 +85,8 @@ module _ (limit : ℕ) where
     scalar_over [] number is = absurd is
     scalar_over (b ∷ s) number is =
         let p = some_part s (part_begun b) is in
-        let first : part_begun b ≡ Some p.0 = p.1 in
         let n = number_over s p.0 st p.2 in
-        let begun : value_begun b ≡ number_move_on (part_begun b) false None b = grind arith in
-        record { next = Number n.0; done = (n.1, number); runs = λ rest. byte_over m st b (To (Number p.0)) (s ++ rest) (awaits b (grind arith) (grind arith) ∙ begun ∙ ap (λ o. number_move_on o false None b) first) ∙ n.2 rest }
-
-    open_over : (bracket : Bracket) (rest : List ℕ) → length st < limit → run limit (state m st) (opening (container_of bracket) ∷ rest) ≡ run limit (state Fresh (bracket ∷ st)) rest
-    open_over Square rest room = first_over 91 rest refl refl ∙ (rw (lt-ltb (length st) limit room) refl)
-    open_over Curly rest room = first_over 123 rest refl refl ∙ (rw (lt-ltb (length st) limit room) refl)
+        record { next = Number n.0; done = (n.1, number); runs = λ rest. byte_over m st b (To (Number p.0)) (s ++ rest) (awaits b (grind arith) (grind arith) ∙ grind (arith, p.1)) ∙ n.2 rest }
 
     -- a value that is done with its last byte
     whole : (value : List ℕ) → ((rest : List ℕ) → run limit (state m st) (value ++ rest) ≡ run limit (state After st) rest) → IsOver value m st
@@ -104,15 +95,13 @@ module _ (limit : ℕ) where
     -- a container whose inner bytes lead to what closes it
     held : (bracket : Bracket) (inner : List ℕ) → length st < limit → ((rest : List ℕ) → run limit (state Fresh (bracket ∷ st)) (inner ++ closing (container_of bracket) ∷ rest) ≡ run limit (state After st) rest)
         → IsOver (opening (container_of bracket) ∷ (inner ++ closing (container_of bracket) ∷ [])) m st
-    held bracket inner room runs = whole _ (λ rest. rw append_assoc (open_over bracket (inner ++ closing (container_of bracket) ∷ rest) room ∙ runs rest))
+    held bracket inner room runs =
+        whole _ (λ rest. rw append_assoc (first_over (opening (container_of bracket)) (inner ++ closing (container_of bracket) ∷ rest) (grind arith) (grind arith) ∙ grind (arith, lt-ltb (length st) limit room, runs rest)))
 
   -- containers
   label_over : (bracket : Bracket) (label : Label) (first : Bool) (st : List Bracket) → IsLabel (container_of bracket) label
       → (next : Mode) × Awaits next (bracket ∷ st) × ((rest : List ℕ) → run limit (state (begins_in bracket first) (bracket ∷ st)) (label_spelling label ++ rest) ≡ run limit (state next (bracket ∷ st)) rest)
-  label_over Square (unnamed before) true st good = (Fresh, (λ b solid inside. rw (solid, inside) refl), λ rest. blank_over Fresh (Square ∷ st) (λ b s. rw s refl) before rest good)
-  label_over Square (unnamed before) false st good = (Mode.Value, (λ b solid inside. rw solid refl), λ rest. blank_over Mode.Value (Square ∷ st) (λ b s. rw s refl) before rest good)
-  label_over Square (named before name between after) first st good = absurd good
-  label_over Curly (unnamed before) first st good = absurd good
+  label_over Square (unnamed before) first st good = (begins_in Square first, (λ b solid inside. grind arith), λ rest. blank_over (begins_in Square first) (Square ∷ st) (λ b s. grind arith) before rest good)
   label_over Curly (named before name between after) first st good = (
     Mode.Value,
     (λ b solid inside. rw solid refl),
@@ -122,8 +111,8 @@ module _ (limit : ℕ) where
   )
     where
       quote : (first : Bool) (rest : List ℕ) → run limit (state (begins_in Curly first) (Curly ∷ st)) (before ++ 34 ∷ rest) ≡ run limit (state (Quoted Role.Name Plain) (Curly ∷ st)) rest
-      quote true rest = blank_over Fresh (Curly ∷ st) (λ b s. rw s refl) before (34 ∷ rest) good.0
-      quote false rest = blank_over Name (Curly ∷ st) (λ b s. rw s refl) before (34 ∷ rest) good.0
+      quote first rest = blank_over (begins_in Curly first) (Curly ∷ st) (λ b s. grind arith) before (34 ∷ rest) good.0 ∙ grind arith
+  label_over bracket label first st good = absurd (grind arith)
 
   behind_over : (bracket : Bracket) (st : List Bracket) (value : List ℕ) (m : Mode) → IsDone value m → (blank : List ℕ) → is_blank blank ≡ true → (b : ℕ) (move : Move) (rest : List ℕ)
       → (after_move (Some bracket) b ≡ move) × (extends_number b ≡ false) → run limit (state m (bracket ∷ st)) (blank ++ b ∷ rest) ≡ run limit (applied limit (bracket ∷ st) b move) rest
@@ -132,17 +121,10 @@ module _ (limit : ℕ) where
       let both = and_parts (is_space c) (is_blank blank) is in
       rw (run, done_moved value m (Some bracket) c done (λ n. space-ends c both.0), both.0) (behind_over bracket st value After tt blank both.1 b move rest mark)
 
-  -- what ends the last value of a container, and the others
-  marks : (bracket : Bracket) → (after_move (Some bracket) (closing (container_of bracket)) ≡ Close) × (extends_number (closing (container_of bracket)) ≡ false) × (after_move (Some bracket) 44 ≡ To (after_comma bracket))
-  marks Square = (refl, refl, refl)
-  marks Curly = (refl, refl, refl)
-
   mutual
     pub tree_over : (tree : Tree) (m : Mode) (st : List Bracket) → Awaits m st → IsGood tree → depth tree ≤ limit - length st → IsOver (spelling tree) m st
     tree_over (scalar literal) m st awaits (inl number) shallow = scalar_over m st awaits literal number (number_run literal number)
-    tree_over (scalar literal) m st awaits (inr (inl word)) shallow = rw word (whole m st awaits _ (λ rest. first_over m st awaits 110 (117 ∷ 108 ∷ 108 ∷ rest) refl refl))
-    tree_over (scalar literal) m st awaits (inr (inr (inl word))) shallow = rw word (whole m st awaits _ (λ rest. first_over m st awaits 116 (114 ∷ 117 ∷ 101 ∷ rest) refl refl))
-    tree_over (scalar literal) m st awaits (inr (inr (inr word))) shallow = rw word (whole m st awaits _ (λ rest. first_over m st awaits 102 (97 ∷ 108 ∷ 115 ∷ 101 ∷ rest) refl refl))
+    tree_over (scalar literal) m st awaits (inr word) shallow = whole m st awaits _ (λ rest. grind (arith, word, awaits))
     tree_over (text pieces) m st awaits good shallow = whole m st awaits _ (λ rest. rw append_assoc (first_over m st awaits 34 (flat_map piece_spelling pieces ++ 34 ∷ rest) refl refl ∙ string_over Role.Value st pieces rest good))
     tree_over (empty array blank) m st awaits good shallow = held m st awaits Square blank (omega arith) (λ rest. blank_over Fresh (Square ∷ st) (λ b s. rw s refl) blank (93 ∷ rest) good)
     tree_over (empty object blank) m st awaits good shallow = held m st awaits Curly blank (omega arith) (λ rest. blank_over Fresh (Curly ∷ st) (λ b s. rw s refl) blank (125 ∷ rest) good)
@@ -155,13 +137,13 @@ module _ (limit : ℕ) where
         let l = label_over bracket label first st good.0 in
         let v = tree_over value l.0 (bracket ∷ st) l.1 good.1 (omega arith) in
         let more : List ℕ = blank ++ closing (container_of bracket) ∷ rest in
-        rw regroup-last (l.2 (spelling value ++ more) ∙ v.runs more ∙ behind_over bracket st (spelling value) v.next v.done blank good.2 (closing (container_of bracket)) Close rest ((marks bracket).0, (marks bracket).1))
+        rw regroup-last (l.2 (spelling value ++ more) ∙ v.runs more ∙ behind_over bracket st (spelling value) v.next v.done blank good.2 (closing (container_of bracket)) Close rest (grind arith))
     values_over bracket (next label value blank values) first st good shallow rest =
         let l = label_over bracket label first st good.0 in
         let v = tree_over value l.0 (bracket ∷ st) l.1 good.1 (omega arith) in
         let others : List ℕ = values_spelling values ++ closing (container_of bracket) ∷ rest in
         rw regroup-next (l.2 (spelling value ++ (blank ++ 44 ∷ others)) ∙ v.runs (blank ++ 44 ∷ others)
-        ∙ behind_over bracket st (spelling value) v.next v.done blank good.2 44 (To (after_comma bracket)) others ((marks bracket).2, refl)
+        ∙ behind_over bracket st (spelling value) v.next v.done blank good.2 44 (To (after_comma bracket)) others (grind arith)
         ∙ values_over bracket values false st good.3 (omega arith) rest)
 
 -- ---- every state can be brought to the end of a value
@@ -182,8 +164,7 @@ module _ (limit : ℕ) where
   -- no number goes on with it
   rest_closed : (st : List Bracket) → (w : List ℕ) × Rest limit [] st w × Quiet w
   rest_closed [] = ([], refl, tt)
-  rest_closed (Square ∷ st) = let r = rest_closed st in (93 ∷ r.0, here (inl (r.0, refl, r.1)), refl)
-  rest_closed (Curly ∷ st) = let r = rest_closed st in (125 ∷ r.0, here (inl (r.0, refl, r.1)), refl)
+  rest_closed (bracket ∷ st) = let r = rest_closed st in (closing (container_of bracket) ∷ r.0, here (inl (r.0, refl, r.1)), grind arith)
 
   pub runs_backward : (left xs w : List ℕ) (o : Outcome) → Reaches limit left (run limit o xs) w → Reaches limit left o (xs ++ w)
   runs_backward left [] w o r = r
@@ -237,8 +218,7 @@ module _ (limit : ℕ) where
 
   pub was_state : (o : Outcome) (xs : List ℕ) (m : Mode) (st : List Bracket) → run limit o xs ≡ state m st → Runs limit o []
   was_state (state m0 st0) xs m st e = record { mode = m0; brackets = st0; reached = refl }
-  was_state (ended b) xs m st e = absurd (ended_stays b xs m st e)
-  was_state refused xs m st e = absurd (refused_stays xs m st e)
+  was_state o xs m st e = absurd (grind (arith, refused_stays, ended_stays))
 
   -- ---- what begins a value is run over, and no other text
   pub value_runs : (blank value found : List ℕ) → is_blank blank ≡ true → Value limit value found → (ending : Mode) × IsDone value ending × (run limit start (blank ++ value) ≡ state ending [])
@@ -306,18 +286,11 @@ abbrev Goes : Mode → List Bracket → List ℕ → Type 0
 Goes m st [] = step 128 m st 32 ≡ ended 32
 Goes m st (b ∷ more) = step 128 m st b ≡ refused → ⊥
 
-done_goes : (value : List ℕ) (m : Mode) → IsDone value m → (rest : List ℕ) → Follows value rest → Goes m [] rest
-done_goes value m done [] follows = done_ends value m done 32 (λ number. refl)
-done_goes value m done (b ∷ rest) follows = λ stuck. let e = done_ends value m done b follows in cc
-
 -- the machine has run over xs, and over ys to where a value is done
 goes_on : (value : List ℕ) (ending : Mode) → IsDone value ending → (xs ys left rest : List ℕ) (o : Outcome) (m : Mode) (st : List Bracket) → run 128 o ys ≡ state ending [] → run 128 o xs ≡ state m st
     → xs ++ left ≡ ys ++ rest → Follows value rest → Goes m st left
 goes_on value ending done [] [] left rest o m st over is e follows =
-    let same : state ending [] ≡ state m st = sym over ∙ is in
-    let mode : ending ≡ m = cc in
-    let open' : [] ≡ st = cc in
-    rw (← mode, ← open', e) (done_goes value ending done rest follows)
+    grind (arith, over, is, e, done_ends value ending done)
 goes_on value ending done [] (y ∷ ys) left rest o m st over is e follows = rw e (λ stuck. refused_stays 128 ys ending [] (rw (is, stuck) at over))
 goes_on value ending done (x ∷ xs) [] left rest o m st over is e follows =
     absurd (ended_stays 128 x xs m st (ap (λ o. run 128 o xs) (sym (done_ends value ending done x (subst (Follows value) (sym e) follows))) ∙ (rw over at is)))

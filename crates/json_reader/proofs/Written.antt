@@ -26,12 +26,11 @@ module _ (bytes : List ℕ) (at next : ℕ) (machine : Machine) (writer : Writer
   pub value-written : Ends machine.mode machine.brackets (drop next bytes)
       → (text : List ℕ) × Stands (drop at bytes) text (drop next bytes) × (writing_at bytes next writer ≡ between (grown fresh text) [])
   value-written ends =
-      let front = stretch bytes at next in
-      let found = ends_stands front machine.mode machine.brackets read.runs (drop next bytes) ends in
+      let found = ends_stands (stretch bytes at next) machine.mode machine.brackets read.runs (drop next bytes) ends in
       let s : Stands (drop at bytes) found.0 (drop next bytes) = subst (λ xs. Stands xs found.0 (drop next bytes)) (sym (parted bytes at next read.low)) found.1 in (
         found.0,
         s,
-        read.written s.blank [] s.reads.tree s.space s.reads.good (ap (λ x. s.blank ++ x) s.reads.spells ∙ sym (whole_value bytes at next read.low found.0 s) ∙ sym (append-nil front))
+        read.written s.blank [] s.reads.tree s.space s.reads.good (ap (λ x. s.blank ++ x) s.reads.spells ∙ sym (whole_value bytes at next read.low found.0 s) ∙ sym (append-nil _))
             ∙ ap (λ t. between (grown fresh t) []) s.reads.means,
       )
 
@@ -65,10 +64,9 @@ module _ (bytes : List ℕ) (at next : ℕ) (machine : Machine) (writer : Writer
     pub can_put : Can (deed_at (writing_at bytes next writer) (get_or bytes next 0)) (writing_at bytes next writer) (get_or bytes next 0)
     can_put =
         let b = get_or bytes next 0 in
-        let front = stretch bytes at next in
-        let begins = runs_begins 128 (front ++ b ∷ []) (record { mode = after.mode; brackets = after.brackets; reached = ap (run 128 start) (sym (one_more bytes at next read.low high)) ∙ ran }) in
+        let begins = runs_begins 128 (stretch bytes at next ++ b ∷ []) (record { mode = after.mode; brackets = after.brackets; reached = rw (one_more bytes at next read.low high) at ran }) in
         let v = begins.reads in
-        (read.written begins.blank (b ∷ begins.more) v.tree begins.space v.good (ap (λ x. begins.blank ++ x) v.spells ∙ sym begins.parts ∙ append_assoc front (b ∷ []) begins.more)).0
+        (read.written begins.blank (b ∷ begins.more) v.tree begins.space v.good (ap (λ x. begins.blank ++ x) v.spells ∙ sym begins.parts ∙ append_assoc _ (b ∷ []) begins.more)).0
 
     pub has_put : (new : Writer) → HasPut (deed_at (writing_at bytes next writer) (get_or bytes next 0)) bytes next writer new → HasRead bytes at (next + 1) after new
     has_put new put = onward (next + 1) after new (omega arith) (omega arith) ran put.fits

@@ -8,6 +8,10 @@ use crate::collapsing::{FEW, Place, Span, collapse};
 use json_text::{Text, push_quote};
 use std::alloc::{AllocError, Global};
 use std::marker::Model;
+use std::mem::swap;
+
+/// So many bytes of text are few, as most elements have.
+const FEW_BYTES: usize = 4096;
 
 /// What is written of the innermost object that is open, behind its bracket, or of the text outside objects. Bytes that are
 /// still to be appended may stand before the offsets.
@@ -94,17 +98,16 @@ impl Draft {
         Ok(())
     }
 
-    /// Appends these bytes, which may be many. Behind a single byte, as the outermost object has it, they stay where they
-    /// are.
-    pub(crate) fn append(&mut self, bytes: Vec<u8>) -> Result<(), AllocError>
-        ensures { OnOk result (self.new ≡ grown self.old bytes.items) }
+    /// Appends the text of an inner object, which may be long. Behind a single byte, as the outermost object has it, it stays
+    /// where it is.
+    pub(crate) fn append(&mut self, inner: &mut Draft) -> Result<(), AllocError>
+        ensures { OnOk result (self.new ≡ grown self.old inner.old.text) }
     {
         let [first] = self.text.as_slice() else {
-            return self.extend(bytes.as_slice());
+            return self.extend(inner.text.as_slice());
         };
-        let mut whole = bytes;
-        whole.insert(0, *first)?;
-        self.text = whole;
+        inner.text.insert(0, *first)?;
+        swap(&mut self.text, &mut inner.text);
         Ok(())
     }
 
@@ -159,22 +162,35 @@ impl Draft {
         Ok(())
     }
 
-    /// What stands between the brackets of the object, each name once.
-    pub(crate) fn close(self, alloc: Global) -> Result<Vec<u8>, AllocError>
-        requires { IsWhole self }
-        ensures { IfOk result (λ text. text.items ≡ closed self) }
+    /// Leaves the text that stands between the brackets of the object, each name once.
+    pub(crate) fn close(&mut self, alloc: Global) -> Result<(), AllocError>
+        requires { IsWhole self.old }
+        ensures { OnOk result (self.new.text ≡ closed self.old) }
     {
-        let Draft {
-            mut text,
-            from,
-            name,
-            mut places,
-            level: _level,
-        } = self;
-        let end = text.len();
-        place_member(&mut places, name, Span { start: from, end })?;
-        collapse(alloc, &mut text, places.as_slice())?;
-        Ok(text)
+        let end = self.text.len();
+        let value = Span {
+            start: self.from,
+            end,
+        };
+        place_member(&mut self.places, self.name, value)?;
+        collapse(alloc, &mut self.text, self.places.as_slice())?;
+        Ok(())
+    }
+
+    /// Whether it has no more room than most elements need.
+    pub(crate) fn is_small(&self) -> bool {
+        self.text.capacity() <= FEW_BYTES && self.places.capacity() <= FEW
+    }
+
+    /// Leaves nothing but the room.
+    pub(crate) fn clear(&mut self)
+        ensures { self.new ≡ fresh }
+    {
+        self.text.clear();
+        self.from = 0;
+        self.name = None;
+        self.places.clear();
+        self.level = 0;
     }
 
     /// The text, where no object is open.

@@ -5,7 +5,8 @@
 ghost use Rattle.std.specs.Prelude.{◌≡◌, ◌↔◌, ◌-◌, ◌≤◌, IsTrue, [], false, take, drop, length};
 ghost use Rattle.std.specs.List.{AllByRecursion};
 ghost use Rattle.json_text.specs.Characters.{is_space, is_hex};
-ghost use Rattle.json_reader.specs.Machine.{first_move, closes_bracket, after_comma, after_string, value_begun, after_move, led_on, tail_led, string_move, first_letter, after_letter, moved, string_fault, bracket_fault, fault_of, top, step, state, ended, Stepped};
+ghost use Rattle.json_text.specs.Tree.{opening, closing};
+ghost use Rattle.json_reader.specs.Machine.{container_of, first_move, closes_bracket, after_comma, after_string, value_begun, after_move, led_on, tail_led, string_move, first_letter, after_letter, moved, string_fault, bracket_fault, fault_of, top, step, state, ended, Stepped};
 ghost use Rattle.json_reader.specs.Runs.{is_over};
 ghost use Rattle.json_reader.specs.Writing.{AreAlike};
 ghost use Rattle.json_reader.specs.declared.machine.Move.TheVariants.{To};
@@ -112,7 +113,9 @@ impl Machine {
         }
     }
 
-    /// Takes one byte more, unless no value goes on with it.
+    /// Takes one byte more, unless no value goes on with it. Few bytes need it: it is one call, for which the machine stays in
+    /// memory.
+    #[inline(never)]
     pub(crate) fn step(&mut self, byte: u8) -> Step
         ensures { Stepped self.old self.new result byte }
     {
@@ -144,27 +147,128 @@ impl Machine {
         stay_end(self.mode, self.brackets.top(), ground, bytes, at)
     }
 
-    /// Takes the byte that most often follows: the beginning of a string, a space where a value must come, a letter of a word,
-    /// and the comma behind a value; other bytes it leaves.
+    /// Takes a quote, if a string begins with it.
+    #[inline(always)]
+    pub(crate) fn begin_string(&mut self) -> bool
+        ensures taken { IsTrue result → step 128 self.old.mode self.old.brackets 34 ≡ state self.new.mode self.new.brackets }
+        ensures left { result ≡ false → self.new ≡ self.old }
+    {
+        let role = match (self.mode, self.brackets.top()) {
+            (Mode::Name, _) | (Mode::Fresh, Some(Bracket::Curly)) => Role::Name,
+            (Mode::Value, _) | (Mode::Fresh, Some(Bracket::Square)) => Role::Value,
+            _ => return false,
+        };
+        self.mode = Mode::Quoted(role, Place::Plain);
+        true
+    }
+
+    /// Takes a comma behind a value.
+    #[inline(always)]
+    pub(crate) fn separate(&mut self) -> bool
+        ensures taken { IsTrue result → step 128 self.old.mode self.old.brackets 44 ≡ state self.new.mode self.new.brackets }
+        ensures left { result ≡ false → self.new ≡ self.old }
+    {
+        match (self.mode, self.brackets.top()) {
+            (
+                Mode::After | Mode::Number(Part::Zero | Part::Whole | Part::Fraction),
+                Some(bracket),
+            ) => self.mode = after_comma(bracket),
+            _ => return false,
+        }
+        true
+    }
+
+    /// Takes a byte with which a part of a number begins, up to its fraction.
+    #[inline(always)]
+    pub(crate) fn begin_part(&mut self, byte: u8) -> bool
+        ensures taken { IsTrue result → step 128 self.old.mode self.old.brackets byte ≡ state self.new.mode self.new.brackets }
+        ensures left { result ≡ false → self.new ≡ self.old }
+    {
+        let part = match (self.mode, self.brackets.top()) {
+            (Mode::Value, _) | (Mode::Fresh, Some(Bracket::Square)) => Part::begun(byte),
+            (Mode::Number(Part::Minus), _) => Part::whole_begun(byte),
+            (Mode::Number(Part::Zero | Part::Whole), _) if byte == b'.' => Some(Part::Dot),
+            (Mode::Number(Part::Dot), _) if byte.is_ascii_digit() => Some(Part::Fraction),
+            _ => None,
+        };
+        match part {
+            Some(part) => self.mode = Mode::Number(part),
+            None => return false,
+        }
+        true
+    }
+
+    /// Takes a letter of a word, a bracket, or a space where a value must come; other bytes it leaves.
     #[inline(always)]
     pub(crate) fn follow(&mut self, byte: u8) -> bool
         ensures taken { IsTrue result → step 128 self.old.mode self.old.brackets byte ≡ state self.new.mode self.new.brackets }
         ensures left { result ≡ false → self.new ≡ self.old }
     {
-        match (self.mode, byte) {
-            (Mode::Name, b'"') => self.mode = Mode::Quoted(Role::Name, Place::Plain),
-            (Mode::Value, b'"') => self.mode = Mode::Quoted(Role::Value, Place::Plain),
-            (Mode::Value, b' ') => {}
-            (Mode::Word(letters), _) if byte == letters.first() => self.mode = letters.after(),
-            (Mode::After | Mode::Number(Part::Zero | Part::Whole | Part::Fraction), b',') => {
-                match self.brackets.top() {
-                    Some(bracket) => self.mode = after_comma(bracket),
-                    None => return false,
-                }
-            }
-            _ => return false,
+        match byte {
+            b'[' => self.open(Bracket::Square),
+            b']' => self.close(Bracket::Square),
+            b'{' => self.open(Bracket::Curly),
+            b'}' => self.close(Bracket::Curly),
+            _ => self.go_on(byte),
         }
+    }
+
+    /// Takes a letter of a word, or a space where a value must come; other bytes it leaves.
+    #[inline(always)]
+    fn go_on(&mut self, byte: u8) -> bool
+        ensures taken { IsTrue result → step 128 self.old.mode self.old.brackets byte ≡ state self.new.mode self.new.brackets }
+        ensures left { result ≡ false → self.new ≡ self.old }
+    {
+        self.mode = match (self.mode, byte) {
+            (Mode::Word(letters), _) if byte == letters.first() => letters.after(),
+            (Mode::Value, b'n') => Mode::Word(Letters::Ull),
+            (Mode::Value, b't') => Mode::Word(Letters::Rue),
+            (Mode::Value, b'f') => Mode::Word(Letters::Alse),
+            (Mode::Value, b' ') => Mode::Value,
+            _ => return false,
+        };
         true
+    }
+
+    /// Takes the bracket that opens an array or an object.
+    #[inline(always)]
+    fn open(&mut self, bracket: Bracket) -> bool
+        ensures taken { IsTrue result → step 128 self.old.mode self.old.brackets (opening (container_of bracket)) ≡ state self.new.mode self.new.brackets }
+        ensures left { result ≡ false → self.new ≡ self.old }
+    {
+        let may_open = match (self.mode, self.brackets.top()) {
+            (Mode::Value, _) | (Mode::Fresh, Some(Bracket::Square)) => !self.brackets.is_full(),
+            _ => false,
+        };
+        if may_open {
+            self.brackets.push(bracket);
+            self.mode = Mode::Fresh;
+        }
+        may_open
+    }
+
+    /// Takes the bracket that closes an array or an object.
+    #[inline(always)]
+    fn close(&mut self, bracket: Bracket) -> bool
+        ensures taken { IsTrue result → step 128 self.old.mode self.old.brackets (closing (container_of bracket)) ≡ state self.new.mode self.new.brackets }
+        ensures left { result ≡ false → self.new ≡ self.old }
+    {
+        let may_close = match (bracket, self.brackets.top()) {
+            (Bracket::Square, Some(Bracket::Square)) | (Bracket::Curly, Some(Bracket::Curly)) => {
+                matches!(
+                    self.mode,
+                    Mode::After
+                        | Mode::Fresh
+                        | Mode::Number(Part::Zero | Part::Whole | Part::Fraction)
+                )
+            }
+            _ => false,
+        };
+        if may_close {
+            self.brackets.pop();
+            self.mode = Mode::After;
+        }
+        may_close
     }
 
     /// Takes the end of a string between two characters; other bytes it leaves.

@@ -19,6 +19,7 @@ pub(crate) enum Part {
 
 impl Part {
     /// The part that this byte begins a number with.
+    #[inline(always)]
     pub(crate) fn begun(byte: u8) -> Option<Part>
         ensures { result ≡ part_begun byte }
     {
@@ -69,7 +70,9 @@ impl Part {
         }
     }
 
-    fn whole_begun(byte: u8) -> Option<Part>
+    /// The part that this byte begins the whole number with.
+    #[inline(always)]
+    pub(crate) fn whole_begun(byte: u8) -> Option<Part>
         ensures { result ≡ part_after Part.Minus byte }
     {
         match byte {

@@ -121,7 +121,7 @@ fn take(
     ensures read { IfOk result (λ end. (at : ℕ) (before : Machine) → HasRead bytes.now at next before writer.old
         → GoesOn before (slice_index bytes.now next) machine.old → HasRead bytes.now at end machine.new writer.new) }
 {
-    put(alloc, machine, writer, bytes, next)?;
+    put(alloc, machine, writer, bytes, next, bytes[next])?;
     let end = pass(machine, writer, bytes, next + 1)?;
     follow(alloc, machine, writer, bytes, end)
 }
@@ -134,18 +134,20 @@ fn put(
     writer: &mut Writer,
     bytes: &[u8],
     next: usize,
+    byte: u8,
 ) -> Result<(), AllocError>
     requires within { next < length bytes.now }
+    requires byte { slice_index bytes.now next ≡ byte }
     requires read { (at : ℕ) × (before : Machine) × HasRead bytes.now at next before writer.old × GoesOn before (slice_index bytes.now next) machine.now }
     ensures { OnOk result ((at : ℕ) (before : Machine) → HasRead bytes.now at next before writer.old
         → GoesOn before (slice_index bytes.now next) machine.now → HasRead bytes.now at (next + 1) machine.now writer.new) }
 {
-    writer.put(alloc, bytes, next)?;
+    writer.put(alloc, bytes, next, byte)?;
     Ok(())
 }
 
-/// Takes what most often follows at an offset, with the strings that begin there up to a character that is escaped or isn't
-/// ASCII. It gives the offset after that.
+/// Takes what most often follows at an offset, up to a character of a string that is escaped or isn't ASCII. It gives the
+/// offset after that.
 #[inline(always)]
 fn follow(
     alloc: Global,
@@ -158,14 +160,60 @@ fn follow(
     ensures { IfOk result (λ end. ReadsOn bytes.now at machine.old writer.old end machine.new writer.new) }
 {
     let mut next = at;
-    while next < bytes.len() && machine.follow(bytes[next]) {
-        put(alloc, machine, writer, bytes, next)?;
-        next += 1;
-        if matches!(writer.ground(), Ground::Quoted) {
-            next = finish_string(alloc, machine, writer, bytes, next)?;
+    while next < bytes.len() {
+        let end = take_next(alloc, machine, writer, bytes, next)?;
+        if end == next {
+            return Ok(next);
         }
+        next = end;
     }
     Ok(next)
+}
+
+/// Takes what most often stands at an offset, and gives the offset after that. What is most frequent has an arm of its own,
+/// in which it is known what its byte does.
+#[inline(always)]
+fn take_next(
+    alloc: Global,
+    machine: &mut Machine,
+    writer: &mut Writer,
+    bytes: &[u8],
+    at: usize,
+) -> Result<usize, AllocError>
+    requires within { at < length bytes.now }
+    requires read { (from : ℕ) × HasRead bytes.now from at machine.old writer.old }
+    ensures { IfOk result (λ end. ReadsOn bytes.now at machine.old writer.old end machine.new writer.new) }
+{
+    match bytes[at] {
+        b'"' => {
+            if !machine.begin_string() {
+                return Ok(at);
+            }
+            put(alloc, machine, writer, bytes, at, b'"')?;
+            finish_string(alloc, machine, writer, bytes, at + 1)
+        }
+        b',' => {
+            if !machine.separate() {
+                return Ok(at);
+            }
+            put(alloc, machine, writer, bytes, at, b',')?;
+            Ok(at + 1)
+        }
+        b'-'..=b'9' => {
+            if !machine.begin_part(bytes[at]) {
+                return Ok(at);
+            }
+            put(alloc, machine, writer, bytes, at, bytes[at])?;
+            pass(machine, writer, bytes, at + 1)
+        }
+        byte => {
+            if !machine.follow(byte) {
+                return Ok(at);
+            }
+            put(alloc, machine, writer, bytes, at, byte)?;
+            Ok(at + 1)
+        }
+    }
 }
 
 /// Takes what is left of a string, up to a character that is escaped or isn't ASCII, its end, and the colon behind a name.
@@ -185,12 +233,12 @@ fn finish_string(
     if end == bytes.len() || !machine.end_string(bytes[end]) {
         return Ok(end);
     }
-    put(alloc, machine, writer, bytes, end)?;
+    put(alloc, machine, writer, bytes, end, bytes[end])?;
     let next = end + 1;
     if next == bytes.len() || !machine.end_name(bytes[next]) {
         return Ok(next);
     }
-    put(alloc, machine, writer, bytes, next)?;
+    put(alloc, machine, writer, bytes, next, bytes[next])?;
     Ok(next + 1)
 }
 

@@ -61,6 +61,8 @@ pub(crate) struct Writer {
     here: Draft,
     /// The objects around it, the outermost first.
     around: Vec<Draft>,
+    /// Of small objects that were closed. Their room is used again.
+    spare: Vec<Draft>,
 }
 
 // By hand, so that whoever drops a writer sees one call and not what it holds.
@@ -74,6 +76,7 @@ impl Drop for Writer {
             from: _,
             here: _here,
             around: _around,
+            spare: _spare,
         } = self;
     }
 }
@@ -92,21 +95,29 @@ impl Writer {
             from: at,
             here: Draft::new(alloc),
             around: Vec::new(alloc),
+            spare: Vec::new(alloc),
         }
     }
 
     /// Takes the byte at an offset.
     #[inline(always)]
-    pub(crate) fn put(&mut self, alloc: Global, bytes: &[u8], next: usize) -> Result<(), AllocError>
+    pub(crate) fn put(
+        &mut self,
+        alloc: Global,
+        bytes: &[u8],
+        next: usize,
+        byte: u8,
+    ) -> Result<(), AllocError>
         requires within { next < length bytes.now }
+        requires byte { slice_index bytes.now next ≡ byte }
         requires fits { Fits next self.old }
         requires can { Can (deed_at (writing_at bytes.now next self.old) (slice_index bytes.now next)) (writing_at bytes.now next self.old) (slice_index bytes.now next) }
         ensures { OnOk result (HasPut (deed_at (writing_at bytes.now next self.old) (slice_index bytes.now next)) bytes.now next self.old self.new) }
     {
         if self.quoted {
-            self.put_quoted(alloc, bytes, next)
+            self.put_quoted(alloc, bytes, next, byte)
         } else {
-            self.put_between(alloc, bytes, next)
+            self.put_between(alloc, bytes, next, byte)
         }
     }
 
@@ -159,6 +170,7 @@ impl Writer {
             from,
             mut here,
             around: _around,
+            spare: _spare,
         } = self;
         here.extend(&bytes[from..end])?;
         Ok(here.into_text())
@@ -167,9 +179,16 @@ impl Writer {
     /// Takes a byte in a string.
     #[tactic(auto, using(crate::proofs::Copying::string_steps))]
     #[inline(always)]
-    fn put_quoted(&mut self, alloc: Global, bytes: &[u8], next: usize) -> Result<(), AllocError>
+    fn put_quoted(
+        &mut self,
+        alloc: Global,
+        bytes: &[u8],
+        next: usize,
+        byte: u8,
+    ) -> Result<(), AllocError>
         requires quoted { self.old.quoted ≡ true }
         requires within { next < length bytes.now }
+        requires byte { slice_index bytes.now next ≡ byte }
         requires fits { Fits next self.old }
         requires can { Can (deed (inside self.old.escaped) self.old.here.level (slice_index bytes.now next)) (writing_at bytes.now next self.old) (slice_index bytes.now next) }
         ensures { OnOk result (HasPut (deed (inside self.old.escaped) self.old.here.level (slice_index bytes.now next)) bytes.now next self.old self.new) }
@@ -178,7 +197,7 @@ impl Writer {
             self.escaped = false;
             return Ok(());
         }
-        match bytes[next] {
+        match byte {
             b'"' if self.escapes => self.quote(alloc, bytes, next)?,
             b'"' => self.quoted = false,
             b'\\' => {
@@ -192,14 +211,21 @@ impl Writer {
 
     /// Takes a byte outside strings.
     #[inline(always)]
-    fn put_between(&mut self, alloc: Global, bytes: &[u8], next: usize) -> Result<(), AllocError>
+    fn put_between(
+        &mut self,
+        alloc: Global,
+        bytes: &[u8],
+        next: usize,
+        byte: u8,
+    ) -> Result<(), AllocError>
         requires apart { self.old.quoted ≡ false }
         requires within { next < length bytes.now }
+        requires byte { slice_index bytes.now next ≡ byte }
         requires fits { Fits next self.old }
         requires can { Can (deed outside self.old.here.level (slice_index bytes.now next)) (writing_at bytes.now next self.old) (slice_index bytes.now next) }
         ensures { OnOk result (HasPut (deed outside self.old.here.level (slice_index bytes.now next)) bytes.now next self.old self.new) }
     {
-        match deed_between(self.here.level(), bytes[next]) {
+        match deed_between(self.here.level(), byte) {
             Deed::Begin => {
                 self.begin(next);
                 Ok(())
@@ -277,7 +303,8 @@ impl Writer {
         ensures { OnOk result (HasPut Open bytes.now next self.old self.new) }
     {
         self.copy(bytes, next + 1)?;
-        let outer = replace(&mut self.here, Draft::of_object(alloc)?);
+        let inner = unused(alloc, &mut self.spare)?;
+        let outer = replace(&mut self.here, inner);
         self.around.push(outer)?;
         Ok(())
     }
@@ -296,9 +323,12 @@ impl Writer {
         let Some(outer) = self.around.pop() else {
             unreachable!()
         };
-        let inner = replace(&mut self.here, outer);
-        let text = inner.close(alloc)?;
-        self.here.append(text)?;
+        let mut inner = replace(&mut self.here, outer);
+        inner.close(alloc)?;
+        self.here.append(&mut inner)?;
+        if inner.is_small() {
+            self.spare.push(inner)?;
+        }
         Ok(())
     }
 
@@ -362,7 +392,21 @@ impl Writer {
     }
 }
 
+/// A draft of which nothing is written, with the room of a spare one if there is one.
+fn unused(alloc: Global, spare: &mut Vec<Draft>) -> Result<Draft, AllocError>
+    ensures { IfOk result (λ draft. draft ≡ fresh) }
+{
+    match spare.pop() {
+        Some(mut draft) => {
+            draft.clear();
+            Ok(draft)
+        }
+        None => Draft::of_object(alloc),
+    }
+}
+
 /// What is done with a byte outside strings, where so many arrays are open in the innermost object.
+#[inline(always)]
 fn deed_between(level: u64, byte: u8) -> Deed
     ensures { result ≡ deed outside level byte }
 {

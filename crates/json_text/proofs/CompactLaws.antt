@@ -9,7 +9,7 @@ use Rattle.std.specs.Char.{encode_utf8}
 use Rattle.std.specs.List.{AllByRecursion, IsDistinct, join_with_byte, list_all, list_any}
 use Rattle.json_text.specs.Alike.{AreAlike, AreItemsAlike, AreLastAlike, first_names, last_named}
 use Rattle.json_text.specs.Characters.{quote, is_digit}
-use Rattle.json_text.specs.Tree.{Piece, bare, letter, unit, Container, array, object, opening, closing, unnamed, named, Tree, scalar, text, empty, filled, Values, last, next, IsNumber, IsWord, IsIntegerPart, IsGood, AreGood, spelling, values_spelling, string_spelling, depth, values_depth}
+use Rattle.json_text.specs.Tree.{Piece, bare, letter, unit, Container, array, object, unnamed, named, Tree, scalar, text, empty, filled, Values, last, next, IsNumber, IsWord, IsIntegerPart, IsGood, AreGood, spelling, values_spelling, string_spelling, depth, values_depth}
 use Rattle.json_text.specs.Compact.{Member, member_text, last_value, has_other_name, collapsed, content, label_name, array_text, object_text, compact, members}
 use Rattle.json_text.specs.Value.{Value, IsCompact, Stands}
 pub use Rattle.json_text.specs.Parts.{AreMembers}
@@ -85,9 +85,7 @@ fields limit m (n ∷ ns) name value =
       values = next (named [] q.pieces [] []) value.0.tree [] others.values;
       good = ((refl, q.good, refl, refl), value.0.good, refl, others.good);
       shallow = omega (arith, value.0.shallow, others.shallow);
-      spells = append_assoc (string_spelling q.pieces) (58 ∷ []) _
-          ∙ ap₂ (λ s rest. s ++ 58 ∷ rest) q.spells (ap₂ (λ v rest. v ++ 44 ∷ rest) value.0.spells others.spells)
-          ∙ sym (append_assoc (quote m.0) (58 ∷ m.1) _);
+      spells = grind (arith, append_assoc, q.spells, value.0.spells, others.spells);
       means = rw (q.means, value.0.means, others.means) refl;
     }
 
@@ -199,13 +197,10 @@ collapsed-alike ms ns firsts lasts =
 -- ---- alike trees
 mutual
   pub alike_compact : (t u : Tree) → AreAlike t u → compact t ≡ compact u
-  alike_compact (scalar s) (scalar other) same = same
-  alike_compact (text pieces) (text others) same = ap quote same
-  alike_compact (empty container blank) (empty other more) same = ap (λ c. opening c ∷ closing c ∷ []) same
   alike_compact (filled array values) (filled array others) same = ap array_text (items-alike values others same)
   alike_compact (filled object values) (filled object others) same =
       ap object_text (collapsed-alike (members values) (members others) same.0 (lasts values others same.1))
-  alike_compact t u same = absurd same
+  alike_compact t u same = grind arith
 
   items-alike : (vs ws : Values) → AreItemsAlike vs ws → map (λ (m : Member). m.1) (members vs) ≡ map (λ (m : Member). m.1) (members ws)
   items-alike (last label value blank) (last other another more) same = cc (alike_compact value another same)
@@ -240,17 +235,13 @@ pub ruleset read_whole = (stands-alone, Value-compact)
 pub join-push : (c : ℕ) (ts : List (List ℕ)) (t : List ℕ) → 0 < length ts →
     join_with_byte c (ts ++ t ∷ []) ≡ join_with_byte c ts ++ c ∷ t
 join-push c [] t h = absurd (omega arith)
-join-push c (u ∷ []) t h = refl
-join-push c (u ∷ v ∷ ts) t h = rw (join-push c (v ∷ ts) t (omega arith)) (sym (append_assoc u (c ∷ join_with_byte c (v ∷ ts)) (c ∷ t)))
+join-push c (u ∷ ts) t h = grind (arith, join-push c ts t, append_assoc u)
 
 -- one turn of a loop that writes items between commas, behind what stands before them
 pub items-step : (front : List ℕ) (ts : List (List ℕ)) (t : List ℕ) (i : ℕ) (out comma done : List ℕ) → i < length ts → t ≡ get_or ts i t →
     out ≡ front ++ join_with_byte 44 (take i ts) → ((0 < i) × (comma ≡ out ++ 44 ∷ [])) ⊎ ((i ≡ 0) × (comma ≡ out)) → done ≡ comma ++ t →
     done ≡ front ++ join_with_byte 44 (take (i + 1) ts)
-items-step front ts t i out comma done l at before (inl (more, e)) behind =
-    let long : 0 < length (take i ts) = rw (length-take-le i ts (omega arith)) more in
-    rw (behind, e, before, take_more ts i t l, ← at, join-push 44 (take i ts) t long) (append_assoc (front ++ join_with_byte 44 (take i ts)) (44 ∷ []) t ∙ append_assoc front (join_with_byte 44 (take i ts)) (44 ∷ t))
-items-step front ts t i out comma done l at before (inr (none, e)) behind = rw (behind, e, before, take_more ts i t l, ← at, none) (ap (λ x. x ++ t) (append-nil front))
+items-step front ts t i out comma done l at before between behind = grind (arith, take_more ts i t l, length-take-le i ts, join-push 44 (take i ts) t, append_assoc, append-nil)
 
 -- the closing bracket of an array and of an object
 pub array-written : (ts : List (List ℕ)) (i : ℕ) (out done : List ℕ) → length ts ≤ i → out ≡ 91 ∷ join_with_byte 44 (take i ts) → done ≡ out ++ 93 ∷ [] → done ≡ array_text ts

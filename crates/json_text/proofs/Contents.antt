@@ -63,16 +63,15 @@ letter_takes xs old new first other e text after u =
     let b = get_or xs 1 0 in
     let h = letter-first u.pieces xs after u.good u.parts first other in
     left-over old (letter_meaning b ∷ []) new h.pieces (Ahead-unread h)
-    (sym (ap (λ s. s ++ content h.pieces) (encode_ascii (letter_meaning b) (meaning-low b))) ∙ sym (content-first (letter b) h.pieces (low_scalar (letter_meaning b) (omega (arith, meaning-low b)))) ∙ sym (ap content h.is) ∙ u.means) e
+    (grind (arith, encode_ascii (letter_meaning b) (meaning-low b), content-first (letter b) h.pieces (low_scalar (letter_meaning b) (omega (arith, meaning-low b))), h.is, u.means)) e
 
 -- a unit that is no high surrogate before a low one stands alone
 alone : (u : ℕ) (ps : List Piece) (after : List ℕ) → AllByRecursion IsPiece ps →
     ((second : ℕ) → is_high u ≡ true → is_low second ≡ true → StartsWithUnit (flat_map piece_spelling ps ++ 34 ∷ after) second → ⊥) →
     characters (u ∷ map piece_value ps) ≡ lone u ∷ characters (map piece_value ps)
-alone u [] after good none = refl
 alone u (unit a b c d ∷ ps) after good none =
     let pairs = λ (high : is_high u ≡ true) (low : is_low (piece_value (unit a b c d)) ≡ true). none _ high low (omega arith, refl, refl, refl) in grind (arith, pairs)
-alone u (p ∷ ps) after good none = grind (arith, nat_tests, meaning-low)
+alone u ps after good none = grind (arith, nat_tests, meaning-low)
 
 module _ (xs : List ℕ) (first : ℕ) (old new : List ℕ) (zeroth : get_or xs 0 0 ≡ 92) (one : get_or xs 1 0 ≡ 117) (is : first ≡ piece_value (unit_at xs)) where
   pub unit-takes : ((second : ℕ) → is_high first ≡ true → is_low second ≡ true → StartsWithUnit (take (length xs - 6) (drop 6 xs)) second → ⊥) →
@@ -81,8 +80,7 @@ module _ (xs : List ℕ) (first : ℕ) (old new : List ℕ) (zeroth : get_or xs 
   unit-takes none e text after u =
       let h = unit-ahead u zeroth one in
       let single = alone first h.pieces after h.good.1 (λ second high low starts. none second high low (rw (take_rest, h.rest) starts)) in
-      let means : content (unit_at xs ∷ h.pieces) ≡ encode_utf8 (lone first) ++ content h.pieces = rw (← is, single) refl in
-      left-over old (encode_utf8 (lone first)) new h.pieces (Ahead-unread h) (sym (ap content h.is ∙ means) ∙ u.means) e
+      left-over old (encode_utf8 (lone first)) new h.pieces (Ahead-unread h) (sym (ap content h.is ∙ (rw (← is, single) refl)) ∙ u.means) e
 
   pub pair-takes : (second : ℕ) → is_high first ≡ true → is_low second ≡ true → StartsWithUnit (take (length xs - 6) (drop 6 xs)) second →
       new ≡ old ++ encode_utf8 (lone (paired first second)) → Takes Unread xs 12 old new
@@ -92,8 +90,7 @@ module _ (xs : List ℕ) (first : ℕ) (old new : List ℕ) (zeroth : get_or xs 
       let h = unit-ahead u zeroth one in
       let k = unit-first h.pieces (drop 6 xs) after h.good.1 h.rest here.1 here.2 in
       let whole = lone-same (paired first second) (paired-scalar first second (rw (high, low) refl)) in
-      let values : map piece_value h.pieces ≡ second ∷ map piece_value k.pieces = ap (map piece_value) k.is ∙ ap (λ v. v ∷ map piece_value k.pieces) here.3 in
-      let means : content (unit_at xs ∷ h.pieces) ≡ encode_utf8 (paired first second) ++ content k.pieces = rw (← is, values, high, low) refl in
+      let means : content (unit_at xs ∷ h.pieces) ≡ encode_utf8 (paired first second) ++ content k.pieces = grind (arith, is, k.is, here.3, high, low) in
       left-over old (encode_utf8 (paired first second)) new k.pieces (rw (← drop-drop 6 6 xs) (Ahead-unread k)) (sym (ap content h.is ∙ means) ∙ u.means) (rw whole at e)
 
 -- the characters before the next `"` or `\`
@@ -108,8 +105,7 @@ passed_within p bytes at end low is = (omega arith, omega (arith, prefix_len-le-
 pub passed_all : (p : ℕ → Bool) (P : ℕ → Type 0) → ((b : ℕ) → p b ≡ true → P b) → (bytes : List ℕ) (at end : ℕ) → end ≡ at + prefix_len p (drop at bytes)
     → AllByRecursion P (take (end - at) (drop at bytes))
 passed_all p P each bytes at end is =
-    let count : end - at ≡ prefix_len p (drop at bytes) = omega arith in
-    subst (λ n. AllByRecursion P (take n (drop at bytes))) (sym count) (front (drop at bytes))
+    subst (λ n. AllByRecursion P (take n (drop at bytes))) (omega arith) (front (drop at bytes))
   where
     front : (xs : List ℕ) → AllByRecursion P (take (prefix_len p xs) xs)
     front [] = tt
@@ -144,7 +140,7 @@ pub drop-after : (xs : List ℕ) (at : ℕ) {b : ℕ} {rest : List ℕ} → drop
 drop-after xs at {b} {rest} e = sym (drop-drop 1 at xs) ∙ ap (drop 1) e
 
 pub inside-after : (xs : List ℕ) (at : ℕ) {b : ℕ} {rest : List ℕ} → drop at xs ≡ b ∷ rest → at < length xs
-inside-after xs at {b} {rest} e = let size : length xs - at ≡ suc (length rest) = sym (length-drop at xs) ∙ ap length e in omega arith
+inside-after xs at {b} {rest} e = omega (arith, length-drop at xs, ap length e)
 
 -- where a string closes, nothing of its text is left
 pub close : (xs after : List ℕ) (ps : List Piece) → AllByRecursion IsPiece ps → xs ≡ flat_map piece_spelling ps ++ 34 ∷ after → get_or xs 0 0 ≡ 34 →

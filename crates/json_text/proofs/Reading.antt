@@ -1,7 +1,7 @@
 -- Numbers and words; and that a text is read in one way alone: trees whose spellings begin one text are equal, and so is
 -- what follows them.
-use Rattle.std.proofs.Common.{◌≡◌, ℕ, List, [], ◌∷◌, ◌++◌, Bool, true, false, ◌||◌, ◌==◌, refl, sym, ap, ◌∙◌, eqb, arith, append_assoc, ◌⊎◌, flat_map, ◌<◌, ◌^◌, not, ◌&&◌, subst, decimal, get_or, append-nil, eq-zero-or-pos, inl, inr, ⊎_elim}
-use Rattle.std.proofs.lemmas.Bool.{and_parts, both_ways, or_left}
+use Rattle.std.proofs.Common.{◌≡◌, ℕ, List, [], ◌∷◌, ◌++◌, Bool, true, false, ◌||◌, ◌==◌, refl, sym, ap, ◌∙◌, arith, append_assoc, ◌⊎◌, flat_map, ◌<◌, ◌^◌, not, ◌&&◌, subst, decimal, get_or, append-nil, eq-zero-or-pos, inl, inr, ⊎_elim}
+use Rattle.std.proofs.lemmas.Bool.{and_parts, or_left}
 use Rattle.std.proofs.lemmas.Bool.Decides.{nat_tests}
 use Rattle.std.specs.List.{list_all}
 use Rattle.std.specs.Str.Parse.{AllDigits}
@@ -12,7 +12,7 @@ use Rattle.json_text.specs.Characters.{is_digit, is_space, is_blank, is_opening,
 use Rattle.json_text.specs.Tree.{Piece, piece_spelling, Container, array, object, opening, closing, Label, unnamed, named, label_spelling, Tree, scalar, text, empty, filled, Values, last, next, IsNumber, IsWord, IsGood, AreGood, IsLabel, spelling, values_spelling, IsSign, IsIntegerPart, IsFraction, IsExponent}
 use Rattle.json_text.specs.Compact.{compact}
 use Rattle.json_text.specs.Value.{extends_number, Follows, Stands}
-use Rattle.json_text.proofs.Strings.{pieces-once, heads-differ}
+use Rattle.json_text.proofs.Strings.{pieces-once}
 
 -- a byte that is no white space and neither opens, ends nor parts a value
 abbrev pub is_part_of_literal : ℕ → Bool
@@ -39,8 +39,7 @@ number-extends s n =
 
 -- ---- neither numbers nor words open, end or part a value
 pub literal-plain : (s : List ℕ) → IsNumber s ⊎ IsWord s → list_all is_part_of_literal s ≡ true
-literal-plain s (inl n) = list_all-each extends_number is_part_of_literal (λ b h. grind (arith, nat_tests)) s (number-extends s n)
-literal-plain s (inr word) = grind (arith, nat_tests)
+literal-plain s literal = grind (arith, nat_tests, number-extends s, list_all-each extends_number is_part_of_literal (λ b h. grind (arith, nat_tests)) s)
 
 -- ---- how numbers are spelled
 -- four parts spell a number, and a whole part alone does
@@ -108,7 +107,7 @@ append-none (x ∷ xs) ys e = cc
 
 -- a list that begins with a byte that passes does not begin with one that fails
 pub head-apart : (p : ℕ → Bool) (s r t : List ℕ) (b : ℕ) → Head p s → p b ≡ false → s ++ r ≡ b ∷ t → ⊥
-head-apart p s r t b h fails e = let same : h.first ≡ b = first-same (rw h.parts at e) in both_ways (p b) fails (rw (← same) h.begins)
+head-apart p s r t b h fails e = grind (arith, h.parts, h.begins)
 
 -- the first byte of a value
 abbrev pub begins_value : ℕ → Bool
@@ -125,8 +124,7 @@ pub tree-Stops : (t : Tree) (r : List ℕ) → IsGood t → Stops is_space (spel
 tree-Stops t r good = let h = tree-Head t good in rw h.parts (begins-no-space h.first h.begins)
 
 pub Follows-Stops : (s r : List ℕ) → IsNumber s → Follows s r → Stops extends_number r
-Follows-Stops s [] n h = tt
-Follows-Stops s (b ∷ bs) n h = h n
+Follows-Stops s r n h = grind arith
 
 scalar-once : (s u r t : List ℕ) → IsNumber s ⊎ IsWord s → IsNumber u ⊎ IsWord u → Follows s r → Follows u t → s ++ r ≡ u ++ t → (s ≡ u) × (r ≡ t)
 scalar-once s u r t good fine before after e =
@@ -151,8 +149,7 @@ label-once object (named before name between after) (named front other middle ba
     let first = run-once is_space before front _ _ h.0 k.0 refl refl (sym (spread before name between after r) ∙ e ∙ spread front other middle back t) in
     let second = pieces-once name other _ _ h.1 k.1 (tail-same first.1) in
     let third = run-once is_space between middle _ _ h.2 k.2 refl refl second.1 in
-    let fourth = run-once is_space after back r t h.3 k.3 stop halt (tail-same third.1) in
-    (cc, fourth.1)
+    grind (arith, first, second, third, run-once is_space after back r t h.3 k.3 stop halt (tail-same third.1))
 label-once c l m r t h k stop halt e = absurd (grind arith)
 
 -- a byte that ends a value: neither white space nor one that a number goes on with
@@ -174,9 +171,6 @@ item-once c l m v w blank other rest more b d good fine end end' once e =
 -- brackets
 closing-Ends : (c : Container) → Ends (closing c)
 closing-Ends c = grind (arith, nat_tests)
-
-pub closing-no-comma : (c : Container) → eqb (closing c) 44 ≡ false
-closing-no-comma c = grind (arith, nat_tests)
 
 -- some bytes, and then P; and white space, and then P
 pub record Front (Q P : List ℕ → Type 0) (w : List ℕ) : Type 0 where
@@ -222,33 +216,26 @@ no-mix c d blank vs r s space good e =
 mutual
   pub tree-once : (t u : Tree) (r s : List ℕ) → IsGood t → IsGood u → Follows (spelling t) r → Follows (spelling u) s → spelling t ++ r ≡ spelling u ++ s → (t ≡ u) × (r ≡ s)
   tree-once (scalar a) (scalar b) r s good fine before after e = let both = scalar-once a b r s good fine before after e in (cc, both.1)
-  tree-once (text ps) (text qs) r s good fine before after e = let both = pieces-once ps qs r s good fine (simp append_assoc at (tail-same e)) in (cc, both.1)
+  tree-once (text ps) (text qs) r s good fine before after e = grind (arith, pieces-once ps qs r s good fine (simp append_assoc at (tail-same e)))
   tree-once (empty c blank) (empty d other) r s good fine before after e =
-      let same : c ≡ d = grind (arith, nat_tests) in
-      let run = run-once is_space blank other (closing c ∷ r) (closing d ∷ s) good fine (closing-Ends c).0 (closing-Ends d).0 (simp append_assoc at (tail-same e)) in
-      (cc, tail-same run.1)
+      grind (arith, nat_tests, run-once is_space blank other (closing c ∷ r) (closing d ∷ s) good fine (closing-Ends c).0 (closing-Ends d).0 (simp append_assoc at (tail-same e)))
   tree-once (empty c blank) (filled d vs) r s good fine before after e = absurd (no-mix c d blank vs r s good fine e)
   tree-once (filled c vs) (empty d blank) r s good fine before after e = absurd (no-mix d c blank vs s r fine good (sym e))
   tree-once (filled c vs) (filled d ws) r s good fine before after e =
       let same : c ≡ d = grind (arith, nat_tests) in
-      let both = values-once c vs ws r s good (rw same fine) (rw (← same) at (simp append_assoc at (tail-same e))) in
-      (cc, both.1)
+      grind (arith, values-once c vs ws r s good (rw same fine) (rw (← same) at (simp append_assoc at (tail-same e))))
   tree-once t u r s good fine before after e = absurd (grind (arith, nat_tests, scalar-Head))
 
   values-once : (c : Container) (vs ws : Values) (r s : List ℕ) → AreGood c vs → AreGood c ws → values_spelling vs ++ closing c ∷ r ≡ values_spelling ws ++ closing c ∷ s → (vs ≡ ws) × (r ≡ s)
   values-once c (last l v blank) (last m w other) r s good fine e =
-      let all = item-once c l m v w blank other r s _ _ good fine (closing-Ends c) (closing-Ends c) (tree-once v w _ _ good.1 fine.1) (simp append_assoc at e) in
-      (cc, tail-same all.3)
+      grind (arith, item-once c l m v w blank other r s _ _ good fine (closing-Ends c) (closing-Ends c) (tree-once v w _ _ good.1 fine.1) (simp append_assoc at e))
   values-once c (last l v blank) (next m w other ws) r s good fine e =
-      let all = item-once c l m v w blank other _ _ _ _ good (fine.0, fine.1, fine.2) (closing-Ends c) (refl, refl) (tree-once v w _ _ good.1 fine.1) (simp append_assoc at e) in
-      absurd (heads-differ (closing c) 44 _ _ (closing-no-comma c) all.3)
+      absurd (grind (arith, item-once c l m v w blank other _ _ _ _ good (fine.0, fine.1, fine.2) (closing-Ends c) (refl, refl) (tree-once v w _ _ good.1 fine.1) (simp append_assoc at e)))
   values-once c (next l v blank vs) (last m w other) r s good fine e =
-      let all = item-once c l m v w blank other _ _ _ _ (good.0, good.1, good.2) fine (refl, refl) (closing-Ends c) (tree-once v w _ _ good.1 fine.1) (simp append_assoc at e) in
-      absurd (heads-differ (closing c) 44 _ _ (closing-no-comma c) (sym all.3))
+      absurd (grind (arith, item-once c l m v w blank other _ _ _ _ (good.0, good.1, good.2) fine (refl, refl) (closing-Ends c) (tree-once v w _ _ good.1 fine.1) (simp append_assoc at e)))
   values-once c (next l v blank vs) (next m w other ws) r s good fine e =
       let all = item-once c l m v w blank other _ _ _ _ (good.0, good.1, good.2) (fine.0, fine.1, fine.2) (refl, refl) (refl, refl) (tree-once v w _ _ good.1 fine.1) (simp append_assoc at e) in
-      let rest = values-once c vs ws r s good.3 fine.3 (tail-same all.3) in
-      (cc, rest.1)
+      grind (arith, all, values-once c vs ws r s good.3 fine.3 (tail-same all.3))
 
 -- At the front of a text stands one value at most.
 pub Stands-once : {bytes a b r s : List ℕ} → Stands bytes a r → Stands bytes b s → (a ≡ b) × (r ≡ s)

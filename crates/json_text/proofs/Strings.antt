@@ -19,9 +19,8 @@ pub four-hex : (a b c d : ℕ) → list_all is_hex (a ∷ b ∷ c ∷ d ∷ []) 
 four-hex a b c d h = grind arith
 
 piece_value-lt : (p : Piece) → IsPiece p → piece_value p < 0x11_0000
-piece_value-lt (unit a b c d) h =
-    let small : (digit : ℕ) → is_hex digit ≡ true → hex_value digit < 16 = λ digit is. grind (arith, nat_tests) in grind (arith, four-hex a b c d, small)
-piece_value-lt p h = grind (arith, nat_tests)
+piece_value-lt p h =
+    let small : (digit : ℕ) → is_hex digit ≡ true → hex_value digit < 16 = λ digit is. grind (arith, nat_tests) in grind (arith, nat_tests, four-hex, small)
 
 characters-scalars : (ps : List Piece) → AllByRecursion IsPiece ps → scalars (characters (map piece_value ps)) ≡ true
 characters-scalars [] h = refl
@@ -39,8 +38,7 @@ pub lone-same : (u : ℕ) → scalar u ≡ true → lone u ≡ u
 lone-same u h = grind (arith, nat_tests)
 
 pub lone-first : (u : ℕ) (us : List ℕ) → scalar u ≡ true → characters (u ∷ us) ≡ u ∷ characters us
-lone-first u [] h = rw (lone-same u h) refl
-lone-first u (v ∷ us) h = grind (arith, nat_tests)
+lone-first u us h = grind (arith, nat_tests)
 
 characters-same : (us : List ℕ) → scalars us ≡ true → characters us ≡ us
 characters-same [] h = refl
@@ -127,8 +125,7 @@ pub pieces-once : (ps qs : List Piece) (r t : List ℕ) → AllByRecursion IsPie
 pieces-once [] [] r t good other e = (refl, cc)
 pieces-once (p ∷ ps) (q ∷ qs) r t good other e =
     let first = piece-once p q _ _ good.0 other.0 (simp append_assoc at e) in
-    let others = pieces-once ps qs r t good.1 other.1 first.1 in
-    (cc, others.1)
+    grind (arith, first, pieces-once ps qs r t)
 pieces-once ps qs r t good other e = let first = simp append_assoc at e in absurd (grind (arith, nat_tests, first_code))
 
 -- a plain byte is neither mark

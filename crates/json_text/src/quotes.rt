@@ -12,6 +12,7 @@ use std::alloc::AllocError;
 
 /// Appends the quote of a text. For want of memory nothing is appended.
 #[tactic(auto, using(crate::proofs::CompactLaws::compact_texts))]
+#[inline(always)]
 pub fn push_quote(out: &mut Vec<u8>, text: &Text) -> Result<(), AllocError>
     ensures ok { OnOk result (out.new.items ≡ out.old.items ++ quote text.now) }
     ensures err { OnErr result (out.new.items ≡ out.old.items) }
@@ -51,6 +52,7 @@ pub fn whole_or_cut(
 }
 
 /// Appends the quote of a text of these bytes. For want of memory nothing is appended.
+#[inline(never)]
 fn push_quote_of(out: &mut Vec<u8>, text: &[u8]) -> Result<(), AllocError>
     ensures ok { OnOk result (out.new.items ≡ out.old.items ++ quote text.now) }
     ensures err { OnErr result (out.new.items ≡ out.old.items) }

@@ -11,4 +11,5 @@ pub mod SettledLaws
 pub mod Sorting
 pub mod Tabled
 pub mod TextLaws
+mod Unlinked
 pub mod UnplacedLaws

@@ -5,7 +5,7 @@ use Rattle.std.specs.Cmp.{IsStrictWeakOrder}
 use Rattle.std.specs.Cmp.Lexicographic.{slice_cmp, nat_list_cmp_total, texts_ties}
 use Rattle.std.specs.Ordering.{is_eq, is_le, ordering_reverse}
 use Rattle.std.specs.declared.cmp.Ordering.TheVariants.{Less, Equal, Greater}
-use Rattle.std.proofs.lemmas.Bool.{both_ways, true_from_ne_false, not-true, not_from_false, cond-true, cond-false}
+use Rattle.std.proofs.lemmas.Bool.{both_ways, true_from_ne_false, false_from_ne_true, not-true, not_from_false, cond-true, cond-false}
 use Rattle.std.proofs.lemmas.List.Elements.{filter_agree}
 use Rattle.std.proofs.lemmas.List.Sorted.{ranks_by, sorted_far}
 use Rattle.std.proofs.Math.Seq.{take-nil, drop-nil}
@@ -139,6 +139,15 @@ module _ (rows : List Row) (key : List ℕ) (a b : ℕ)
   rows-ordered l =
       turns-ordered (is_below key) (is_up_to key) (λ row. is_eq (slice_cmp nat_cmp row.key.now key))
       (λ row h. before_is _ h) (λ row h k. at_is _ h k) (λ row h. behind_is _ h) (λ row h. less_is _ h) rows a b l start end'
+
+-- where no row behind the lesser ones has the id, both tests turn there
+pub absent-point : (rows : List Row) (key : List ℕ) (a : ℕ) → IsSortedBy row_less rows
+    → IsPartitionPoint (λ row. is_below key row ≡ true) (λ row. is_below key row ≡ false) rows a → ((d : Row) → a < length rows → is_up_to key (get_or rows a d) ≡ false)
+    → IsPartitionPoint (λ row. is_up_to key row ≡ true) (λ row. is_up_to key row ≡ false) rows a
+absent-point rows key a up start behind = (
+  λ k d l m. less_is _ (start.0 k d l m),
+  λ k d l m. false_from_ne_true (is_up_to key (get_or rows k d)) (λ h. both_ways _ (behind d (omega (arith, l, m))) (up_to-partitioned rows key up a k d l m h)),
+)
 
 -- ---- rows of one id keep their order
 blank : ElementValue

@@ -1,9 +1,10 @@
 //! Settling the links of a list of elements.
 
-ghost use Rattle.std.specs.Prelude.{◌≡◌, map, IfOk};
+ghost use Rattle.std.specs.Prelude.{◌≡◌, is_some, map, IfOk, OnOk};
+ghost use Rattle.std.specs.List.{list_any};
 ghost use Rattle.links.specs.Arrows.{settled_arrows};
 ghost use Rattle.elem.specs.Order.{HaveDistinctIds};
-ghost use Rattle.links.specs.Settled.{unlinked, ArrowsAgree, TextsAgree, HaveOneText, NameTargets};
+ghost use Rattle.links.specs.Settled.{is_linked, unlinked, ArrowsAgree, TextsAgree, HaveOneText, NameTargets};
 ghost use Rattle.links.specs.Tables as tables;
 ghost use Rattle.links.specs.Texts as texts;
 ghost use Rattle.links.specs.Texts.{settled_texts};
@@ -26,9 +27,27 @@ pub fn settle_texts(alloc: Global, list: List<Element>) -> Result<List<Element>,
     ensures distinct { IfOk result HaveDistinctIds }
 {
     let mut list = list.into_vec();
-    let kept = kept_containers(alloc, &list)?;
-    change_each(&mut list, kept, set_container);
+    settle_containers(alloc, &mut list)?;
     Ok(List::from_vec(list))
+}
+
+/// Takes from each element its container, if it doesn't keep it.
+fn settle_containers(alloc: Global, list: &mut Vec<Element>) -> Result<(), AllocError>
+    ensures { OnOk result (list.new.items ≡ settled_texts list.old.items) }
+{
+    if !name_containers(list) {
+        return Ok(());
+    }
+    let kept = kept_containers(alloc, list)?;
+    change_each(list, kept, set_container);
+    Ok(())
+}
+
+/// Whether an element has a container.
+fn name_containers(list: &[Element]) -> bool
+    ensures { result ≡ list_any (λ e. is_some e.container) list.now }
+{
+    list.iter().any(|e| e.container.is_some())
 }
 
 /// For each element, whether it keeps its container as a text.
@@ -68,9 +87,37 @@ pub fn settle_arrows(alloc: Global, list: List<Element>) -> Result<List<Element>
     ensures distinct { IfOk result HaveDistinctIds }
 {
     let mut list = list.into_vec();
-    let links = links(alloc, &list)?;
-    change_each(&mut list, links, set_links);
+    settle_links(alloc, &mut list)?;
     Ok(List::from_vec(list))
+}
+
+/// Gives each element its links.
+fn settle_links(alloc: Global, list: &mut Vec<Element>) -> Result<(), AllocError>
+    ensures { OnOk result (list.new.items ≡ settled_arrows list.old.items) }
+{
+    if !have_links(list) {
+        return Ok(());
+    }
+    let links = links(alloc, list)?;
+    change_each(list, links, set_links);
+    Ok(())
+}
+
+/// Whether an element names another one or lists one.
+fn have_links(list: &[Element]) -> bool
+    ensures { result ≡ list_any is_linked list.now }
+{
+    list.iter().any(is_linked)
+}
+
+/// Whether an element names another one or lists one.
+fn is_linked(e: &Element) -> bool
+    ensures { result ≡ is_linked e.now }
+{
+    !e.bound.as_slice().is_empty()
+        || e.container.is_some()
+        || e.start_binding.is_some()
+        || e.end_binding.is_some()
 }
 
 /// The links of each element.

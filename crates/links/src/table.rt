@@ -51,6 +51,11 @@ fn ends_under(rows: &Vec<Row<'_>>, key: &[u8]) -> (usize, usize)
     ensures among { slice_range rows.now.items result.0 result.1 ≡ filter (is_under key.now) rows.now.items }
 {
     let start = rows.partition_point(|row| bytes_order(row.key, key).is_lt());
-    let end = rows.partition_point(|row| bytes_order(row.key, key).is_le());
-    (start, end)
+    match rows.get(start) {
+        Some(row) if bytes_order(row.key, key).is_le() => {
+            let end = rows.partition_point(|row| bytes_order(row.key, key).is_le());
+            (start, end)
+        }
+        _ => (start, start),
+    }
 }

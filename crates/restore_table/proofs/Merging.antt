@@ -1,16 +1,22 @@
 -- Members and the table, whose names rise, merged: what is found at each name.
-use Rattle.std.proofs.Common.{◌≡◌, ℕ, List, [], ◌∷◌, ◌++◌, append_assoc, Bool, true, false, Option, Some, None, bytes_eq, nat_cmp, refl, sym, subst, ap, ◌∙◌, if◌then◌else◌}
-use Rattle.std.specs.Cmp.Lexicographic.{slice_cmp}
+use Rattle.std.proofs.Common.{◌≡◌, ◌≢◌, ℕ, List, [], ◌∷◌, ◌++◌, ◌+◌, ◌≤◌, zero, suc, length, take, drop, set, get_or, slice_get, insert, arith, Ordering, Bool, true, false, Option, Some, None, bytes_eq, nat_cmp, refl, sym, subst, ap, ◌∙◌, if◌then◌else◌}
+use Rattle.std.specs.Cmp.Lexicographic.{slice_cmp, nat_list_cmp_total}
 use Rattle.std.specs.List.{AllByRecursion}
-use Rattle.std.specs.Ordering.{match_ordering}
+use Rattle.std.specs.List.Sorted.{IsPermutation}
+use Rattle.std.specs.Option.{option_map_or}
+use Rattle.std.specs.Ordering.{match_ordering, ordering_reverse}
 use Rattle.std.specs.declared.cmp.Ordering.TheVariants.{Less, Equal, Greater}
+use Rattle.std.proofs.lemmas.Cmp.{tied_itself}
 use Rattle.std.proofs.lemmas.Map.Entries.{lookup_head, lookup_tail}
 use Rattle.json_text.specs.Compact.{Member as Pair}
+use Rattle.json_text.specs.Members.{pairs, pair_of}
 use Rattle.json_text.specs.Tree.{null_word}
+use Rattle.json_text.specs.declared.text.Member.{Member}
 use Rattle.scene_json.specs.Named.{value_at, HaveRisingNames}
 use Rattle.json_text.proofs.Collapsed.{bytes_eq-true}
 use Rattle.scene_json.proofs.Lookups.{IsBelow, IsBelow-less, bytes_eq-tied, less_turned, value_at-below, rising_parts, rising_from, rising_none}
-use Rattle.restore_table.specs.Merged.{chosen, spliced, merged}
+use Rattle.restore_table.specs.Merged.{chosen, spliced, merged, RiseAfter, IsWholeAfter, AreCompleted}
+use Rattle.restore_table.specs.Table.{defaults}
 use Rattle.restore_table.specs.Restored.{filled}
 
 -- ---- the names rise
@@ -136,24 +142,97 @@ pub merged-values : (P : List ℕ → Type 0) (ms rows : List Pair) → AllByRec
 merged-values P [] rows left right = right
 merged-values P (m ∷ ms) rows left right = spliced-values P m rows (merged ms) left.0 right (λ rs each. merged-values P ms rs left.1 each)
 
--- ---- one member after the other
-pub placed-before : (m row : Pair) (rows all more : List Pair) (f : List Pair → List Pair) → slice_cmp nat_cmp row.0 m.0 ≡ Less → more ≡ all ++ row ∷ [] →
-    more ++ spliced m rows f ≡ all ++ spliced m (row ∷ rows) f
-placed-before m row rows all more f less is =
-    ap (λ xs. xs ++ spliced m rows f) is ∙ (append_assoc all (row ∷ []) (spliced m rows f)
-    ∙ ap (λ o. all ++ match_ordering o (row ∷ spliced m rows f) (chosen row m ∷ f rows) (m ∷ f (row ∷ rows))) (sym less))
+-- ---- one row or member after the other
+merged-no_rows : (ms : List Pair) → merged ms [] ≡ ms
+merged-no_rows [] = refl
+merged-no_rows (m ∷ ms) = ap (λ xs. m ∷ xs) (merged-no_rows ms)
 
-pub placed-there : (m row : Pair) (rows all more : List Pair) (f : List Pair → List Pair) → slice_cmp nat_cmp row.0 m.0 ≡ Equal → more ≡ all ++ chosen row m ∷ [] →
-    more ++ f rows ≡ all ++ spliced m (row ∷ rows) f
-placed-there m row rows all more f tied is =
-    ap (λ xs. xs ++ f rows) is ∙ (append_assoc all (chosen row m ∷ []) (f rows)
-    ∙ ap (λ o. all ++ match_ordering o (row ∷ spliced m rows f) (chosen row m ∷ f rows) (m ∷ f (row ∷ rows))) (sym tied))
+-- what the members before a place, the others and these rows make
+abbrev pub made_at : ℕ → List Member → List Pair → List Pair
+made_at place ms rows = pairs (take place ms) ++ merged (pairs (drop place ms)) rows
 
-pub placed-behind : (m row : Pair) (rows all more : List Pair) (f : List Pair → List Pair) → slice_cmp nat_cmp row.0 m.0 ≡ Greater → more ≡ all ++ m ∷ [] →
-    more ++ f (row ∷ rows) ≡ all ++ spliced m (row ∷ rows) f
-placed-behind m row rows all more f behind is =
-    ap (λ xs. xs ++ f (row ∷ rows)) is ∙ (append_assoc all (m ∷ []) (f (row ∷ rows))
-    ∙ ap (λ o. all ++ match_ordering o (row ∷ spliced m rows f) (chosen row m ∷ f rows) (m ∷ f (row ∷ rows))) (sym behind))
+-- how a row compares to the member at a place
+abbrev pub order_at : Pair → ℕ → List Member → Ordering
+order_at row place ms = option_map_or (λ (m : Member). slice_cmp nat_cmp row.0 m.name) (slice_get ms place) Less
 
-pub placed-last : (m : Pair) (all more : List Pair) (f : List Pair → List Pair) → more ≡ all ++ m ∷ [] → more ++ f [] ≡ all ++ spliced m [] f
-placed-last m all more f is = ap (λ xs. xs ++ f []) is ∙ append_assoc all (m ∷ []) (f [])
+abbrev by_order : Pair → Pair → List Pair → List Pair → Ordering → List Pair
+by_order row m ms rows o = match_ordering o (row ∷ spliced m rows (merged ms)) (chosen row m ∷ merged ms rows) (m ∷ merged ms (row ∷ rows))
+
+pub within : (row : Pair) (place : ℕ) (ms : List Member) → order_at row place ms ≢ Less → place + 1 ≤ length ms
+within row zero [] other = absurd (other refl)
+within row (suc place) [] other = absurd (other refl)
+within row zero (m ∷ ms) other = omega arith
+within row (suc place) (m ∷ ms) other = omega (arith, within row place ms other)
+
+pub made-before : (place : ℕ) (ms : List Member) (new : Member) (row : Pair) (rows : List Pair) → place ≤ length ms → pair_of new ≡ row → order_at row place ms ≡ Less →
+    made_at (place + 1) (insert ms place new) rows ≡ made_at place ms (row ∷ rows)
+made-before zero [] new row rows h is less = ap (λ r. r ∷ rows) is
+made-before (suc place) [] new row rows h is less = absurd (omega arith)
+made-before zero (m ∷ ms) new row rows h is less = ap (λ r. r ∷ merged (pairs (m ∷ ms)) rows) is ∙ sym (ap (by_order row (pair_of m) (pairs ms) rows) less)
+made-before (suc place) (m ∷ ms) new row rows h is less = let e : suc place + 1 ≡ suc (place + 1) = omega arith in rw e (ap (λ xs. pair_of m ∷ xs) (made-before place ms new row rows (omega arith) is less))
+
+pub made-there : (place : ℕ) (ms : List Member) (old new : Member) (row : Pair) (rows : List Pair) → old ≡ get_or ms place old → pair_of new ≡ chosen row (pair_of old) →
+    order_at row place ms ≡ Equal → made_at (place + 1) (set ms place new) rows ≡ made_at place ms (row ∷ rows)
+made-there zero [] old new row rows there is tied = cc
+made-there (suc place) [] old new row rows there is tied = cc
+made-there zero (m ∷ ms) old new row rows there is tied =
+    ap (λ r. r ∷ merged (pairs ms) rows) (is ∙ ap (λ n. chosen row (pair_of n)) there) ∙ sym (ap (by_order row (pair_of m) (pairs ms) rows) tied)
+made-there (suc place) (m ∷ ms) old new row rows there is tied =
+    let e : suc place + 1 ≡ suc (place + 1) = omega arith in rw e (ap (λ xs. pair_of m ∷ xs) (made-there place ms old new row rows there is tied))
+
+pub made-behind : (place : ℕ) (ms : List Member) (row : Pair) (rows : List Pair) → order_at row place ms ≡ Greater →
+    made_at (place + 1) ms (row ∷ rows) ≡ made_at place ms (row ∷ rows)
+made-behind zero [] row rows behind = cc
+made-behind (suc place) [] row rows behind = cc
+made-behind zero (m ∷ ms) row rows behind = sym (ap (by_order row (pair_of m) (pairs ms) rows) behind)
+made-behind (suc place) (m ∷ ms) row rows behind = let e : suc place + 1 ≡ suc (place + 1) = omega arith in rw e (ap (λ xs. pair_of m ∷ xs) (made-behind place ms row rows behind))
+
+pub made-all : (place : ℕ) (ms : List Member) → made_at place ms [] ≡ pairs ms
+made-all zero ms = merged-no_rows (pairs ms)
+made-all (suc place) [] = refl
+made-all (suc place) (m ∷ ms) = ap (λ xs. pair_of m ∷ xs) (made-all place ms)
+
+-- ---- members that are whole
+pub first_name : (last : List ℕ) (row : Pair) (rows : List Pair) → RiseAfter last (row ∷ rows) → RiseAfter row.0 rows
+first_name last row rows rise = (rising_parts (last, []) (row ∷ rows) rise).1
+
+-- a name before the first of the rows
+abbrev pub IsBeforeFirst : List ℕ → List Pair → Type 0
+IsBeforeFirst name [] = Unit {0}
+IsBeforeFirst name (row ∷ rows) = slice_cmp nat_cmp name row.0 ≡ Less
+
+pub rise-before : (last name : List ℕ) (rows : List Pair) → RiseAfter last rows → IsBeforeFirst name rows → RiseAfter name rows
+rise-before last name [] rise before = rising_from (name, []) [] tt rising_none
+rise-before last name (row ∷ rows) rise before =
+    let parts = rising_parts (last, []) (row ∷ rows) rise in
+    rising_from (name, []) (row ∷ rows) (before, IsBelow-less name row.0 rows before (rising_parts row rows parts.1).0) parts.1
+
+rise-member : (last : List ℕ) (m : Pair) (others : List Pair) → slice_cmp nat_cmp last m.0 ≡ Less → RiseAfter m.0 others → RiseAfter last (m ∷ others)
+rise-member last m others less rise =
+    let parts = rising_parts (m.0, []) others rise in
+    rising_from (last, []) (m ∷ others) (less, IsBelow-less last m.0 others less parts.0) (rising_from m others parts.0 parts.1)
+
+pub whole-row : (last : List ℕ) (row m : Pair) (rows others : List Pair) → RiseAfter last (row ∷ rows) → m.0 ≡ row.0 → chosen row m ≡ m → IsWholeAfter m.0 rows others →
+    IsWholeAfter last (row ∷ rows) (m ∷ others)
+whole-row last row m rows others rise named stays w =
+    let less : slice_cmp nat_cmp last m.0 ≡ Less = rw named (rising_parts (last, []) (row ∷ rows) rise).0.0 in
+    let same : slice_cmp nat_cmp row.0 m.0 ≡ Equal = rw named (tied_itself nat_list_cmp_total row.0) in
+    record {
+      rise = rise-member last m others less w.rise;
+      whole = ap (by_order row m others rows) same ∙ (ap (λ n. n ∷ merged others rows) stays ∙ ap (λ xs. m ∷ xs) w.whole);
+    }
+
+pub whole-member : (last : List ℕ) (m : Pair) (rows others : List Pair) → slice_cmp nat_cmp last m.0 ≡ Less → IsBeforeFirst m.0 rows → IsWholeAfter m.0 rows others →
+    IsWholeAfter last rows (m ∷ others)
+whole-member last m [] others less before w = record { rise = rise-member last m others less w.rise; whole = ap (λ xs. m ∷ xs) w.whole }
+whole-member last m (row ∷ rows) others less before w =
+    let behind : slice_cmp nat_cmp row.0 m.0 ≡ Greater = nat_list_cmp_total.antisymm row.0 m.0 ∙ ap ordering_reverse before in
+    record { rise = rise-member last m others less w.rise; whole = ap (by_order row m others rows) behind ∙ ap (λ xs. m ∷ xs) w.whole }
+
+pub whole-completed : (ms ns : List Member) → IsPermutation ms ns → IsWholeAfter [] defaults (pairs ns) → AreCompleted ms ns
+whole-completed ms ns moved w = record {
+  ordered = ns;
+  moved = moved;
+  rise = λ apart. (rising_parts ([], []) (pairs ns) w.rise).1;
+  made = sym w.whole;
+}

@@ -43,6 +43,9 @@ rising (m ∷ n ∷ ms) h =
 pub defaults-rise : HaveRisingNames defaults
 defaults-rise = rising defaults refl
 
+pub defaults-after : HaveRisingNames (([], []) ∷ defaults)
+defaults-after = rising (([], []) ∷ defaults) refl
+
 pub defaults-old : value_at old_name defaults ≡ None
 defaults-old = refl
 

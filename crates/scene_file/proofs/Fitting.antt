@@ -38,7 +38,7 @@ use Rattle.elem_store.proofs.Lists.{filter-Contains}
 use Rattle.elem_store.proofs.StoreLaws.{AreStored-best}
 use Rattle.scene_file.specs.Heads.{Heading, IsJoinedHead, lesser_source, least_source, settings_of, files_of}
 use Rattle.scene_file.specs.Layouts.{IsWrittenIn}
-use Rattle.scene_file.specs.Reading.{value_unless_null, IsSource, loaded, IsHeadOf, IsSceneOf}
+use Rattle.scene_file.specs.Reading.{IsSource, loaded, IsHeadOf, IsSceneOf}
 use Rattle.scene_file.specs.Scenes.{scene_text}
 use Rattle.scene_file.specs.declared.layout.Layout.{Layout}
 use Rattle.scene_file.specs.declared.layout.Layout.TheVariants.{Compact, Pretty}

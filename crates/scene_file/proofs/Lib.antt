@@ -6,6 +6,7 @@ pub mod HeadsTold
 pub mod Joining
 pub mod NamedFiles
 pub mod Nesting
+pub mod Apart
 pub mod Once
 pub mod Ordered
 pub mod ReadBack

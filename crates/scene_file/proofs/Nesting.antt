@@ -18,7 +18,7 @@ nests-at limit (m ∷ members) zero member nest within is = subst (λ (x : Membe
 nests-at limit (m ∷ members) (suc i) member nest within is = nests-at limit members i member nest.1 (omega arith) is
 
 -- what is given is found
-value_unless_null-found : (name : List ℕ) (members : List Pair) (value : List ℕ) → value_unless_null name members ≡ Some value → value_at name members ≡ Some value
+pub value_unless_null-found : (name : List ℕ) (members : List Pair) (value : List ℕ) → value_unless_null name members ≡ Some value → value_at name members ≡ Some value
 value_unless_null-found name members value e =
     elim (value_at name members) as (λ (found : Option (List ℕ)). elim found [ None ↦ None | Some v ↦ cond (bytes_eq v null_word) None (Some v) ] ≡ Some value → found ≡ Some value) [
       | None ↦ λ none. none

@@ -22,7 +22,7 @@ use Rattle.file_table.specs.Table.{IsLeast, AreLeastEntries}
 use Rattle.file_table.proofs.Least.{least-is}
 use Rattle.view.specs.Shown.{shown}
 use Rattle.scene_file.specs.Heads.{Heading, lesser_source, least_source, settings_of, files_of, IsJoinedHead}
-use Rattle.scene_file.specs.Reading.{value_unless_null, loaded, IsSource, IsHeadOf, IsSceneAt}
+use Rattle.scene_file.specs.Reading.{loaded, IsSource, IsHeadOf, IsSceneAt}
 use Rattle.scene_file.specs.Whole.{IsWholeHead, HaveKeys, IsWholeScene}
 use Rattle.scene_file.specs.declared.scene.Scene.{Scene}
 use Rattle.scene_file.proofs.Nesting.{nests-value_unless_null}

@@ -4,5 +4,6 @@ pub mod Layouts
 pub mod Printing
 pub mod Reading
 pub mod Scenes
+pub mod Taken
 pub mod Texts
 pub mod Whole

@@ -1,13 +1,14 @@
 //! Reading scenes.
 
-ghost use Rattle.std.specs.Prelude.{◌≡◌, ◌<◌, ◌≤◌, ℕ, List as Items, [], length, drop, Err, IfOk, MatchOption, option_copied, is_some};
+ghost use Rattle.std.specs.Prelude.{◌≡◌, ◌<◌, ◌≤◌, ℕ, List as Items, [], length, drop, Ok, Err, None, IfOk, IfSome, MatchOption, option_copied, is_some};
 ghost use Rattle.std.specs.List.{list_all};
 ghost use Rattle.json_text.specs.Compact.{Member as Pair};
 ghost use Rattle.json_text.specs.Members.{pairs};
-ghost use Rattle.scene_json.specs.Walks.{AreLeft};
-ghost use Rattle.elem_read.specs.Elements.{AreRead, IsFirstFaulty};
-ghost use Rattle.elem_read.specs.declared.fault.ElemFault.{ElemFault};
-ghost use Rattle.scene_file.specs.Reading.{value_unless_null, loaded, HasItems, HasMembers, IsSceneOf, IsSceneFault, IsSceneAt, IsSceneFaultAt};
+ghost use Rattle.elem.specs.ElementValue.{ElementValue};
+ghost use Rattle.elem.specs.Forms.{IsObject};
+ghost use Rattle.elem_read.specs.declared.fault.FaultyElement.{FaultyElement};
+ghost use Rattle.scene_file.specs.Reading.{value_unless_null, loaded, HasMembers, IsSceneOf, IsSceneFault, IsSceneAt, IsSceneFaultAt};
+ghost use Rattle.scene_file.specs.Taken.{IsTaken};
 ghost use Rattle.scene_file.specs.declared.scene.Scene.{Scene};
 ghost use Rattle.scene_file.specs.declared.fault.SceneFault.{SceneFault};
 
@@ -16,10 +17,10 @@ use crate::head::head_of;
 use crate::scene::Scene;
 use board_io::{List, Stop};
 use elem::Element;
-use elem_read::read_array;
+use elem_read::{FaultyElement, read_array};
 use json_reader::scan;
 use json_text::{Member, Raw};
-use scene_json::{Objects, has_value, is_null, members, shaped, value_named};
+use scene_json::{has_value, is_null, members, members_to, shaped, value_named};
 use std::alloc::{AllocError, Global};
 use view::with_repaired_keys;
 
@@ -48,13 +49,13 @@ pub fn scene_of(alloc: Global, value: &Raw) -> Result<Scene, Stop<SceneFault>>
     ensures scene { IfOk result (IsSceneOf value.now) }
     ensures fault { (fault : SceneFault) → result ≡ Err (Stop.Fault fault) → IsSceneFault value.now fault }
 {
-    let Some(found) = shaped(members(alloc, value))? else {
+    let Some((found, given)) = taken_apart(alloc, value)? else {
         return Err(Stop::Fault(SceneFault::NotObject));
     };
     if !has_value(&found, "type", "\"excalidraw\"") {
         return Err(Stop::Fault(SceneFault::NotScene));
     }
-    let Some(objects) = objects_given(&found, "elements") else {
+    let Some(read) = given else {
         return Err(Stop::Fault(SceneFault::Elements));
     };
     let Some(settings) = members_given(alloc, &found, "appState")? else {
@@ -63,12 +64,54 @@ pub fn scene_of(alloc: Global, value: &Raw) -> Result<Scene, Stop<SceneFault>>
     let Some(entries) = members_given(alloc, &found, "files")? else {
         return Err(Stop::Fault(SceneFault::Files));
     };
-    let read = elements_of(alloc, objects)?;
-    let elements = loaded(alloc, read.into_vec())?;
+    let elements = match read {
+        Ok(elements) => loaded(alloc, elements.into_vec())?,
+        Err(faulty) => {
+            return Err(Stop::Fault(SceneFault::Element(faulty.place, faulty.fault)));
+        }
+    };
     Ok(Scene {
         head: head_of(alloc, &found, settings, entries)?,
         elements: List::from_vec(elements),
     })
+}
+
+/// The members of a scene's object, but for an array of elements, and what came of the elements: they are read as they
+/// stand, while the object is taken apart. `None` where it is no object, and in place of the elements where they are in no
+/// array.
+fn taken_apart(
+    alloc: Global,
+    value: &Raw,
+) -> Result<Option<(List<Member>, Option<Result<List<Element>, FaultyElement>>)>, AllocError>
+    ensures shape { result ≡ Ok None → (members : Items Pair) → IsObject value.now members → ⊥ }
+    ensures taken { IfOk result (λ found. IfSome found (λ taken. IsTaken value.now (pairs taken.0) taken.1)) }
+{
+    let Some((before, walk)) = shaped(members_to(alloc, value, "elements"))? else {
+        return Ok(None);
+    };
+    let Some(mut objects) = walk else {
+        if given(&before, "elements").is_some() {
+            return Ok(Some((before, None)));
+        }
+        return Ok(Some((before, Some(Ok(List::new(alloc))))));
+    };
+    let read = kept_aside(read_array(alloc, &mut objects))?;
+    let found = objects.members_around(alloc, before)?;
+    Ok(Some((found, Some(read))))
+}
+
+/// The elements or the first fault among them.
+fn kept_aside(
+    read: Result<List<Element>, Stop<FaultyElement>>,
+) -> Result<Result<List<Element>, FaultyElement>, AllocError>
+    ensures read { (elements : Items ElementValue) → result ≡ Ok (Ok elements) → read ≡ Ok elements }
+    ensures fault { (faulty : FaultyElement) → result ≡ Ok (Err faulty) → read ≡ Err (Stop.Fault faulty) }
+{
+    match read {
+        Ok(elements) => Ok(Ok(elements)),
+        Err(Stop::Fault(faulty)) => Ok(Err(faulty)),
+        Err(Stop::Memory) => Err(AllocError),
+    }
 }
 
 /// The value of the first member with this name; null counts as missing.
@@ -78,23 +121,6 @@ fn given<'a>(members: &'a List<Member>, name: &str) -> Option<&'a Raw>
     match value_named(members, name) {
         Some(value) if !is_null(value) => Some(value),
         _ => None,
-    }
-}
-
-/// All items of the array that is given under a name, or `None` where it is missing. The outer `None` comes where it is no
-/// array.
-fn objects_given<'a>(members: &'a List<Member>, name: &str) -> Option<Option<Objects<'a>>>
-    ensures { MatchOption result
-        ((values : Items (Items ℕ)) → HasItems (value_unless_null name.now (pairs members.now)) values → ⊥)
-        (λ objects. (values : Items (Items ℕ)) × HasItems (value_unless_null name.now (pairs members.now)) values
-        × MatchOption objects (values ≡ []) (λ walk. AreLeft walk values)) }
-{
-    match given(members, name) {
-        Some(value) => match Objects::of(value) {
-            Some(objects) => Some(Some(objects)),
-            None => None,
-        },
-        None => Some(None),
     }
 }
 
@@ -111,29 +137,6 @@ fn members_given(
     match given(from, name) {
         Some(value) => shaped(members(alloc, value)),
         None => Ok(Some(List::new(alloc))),
-    }
-}
-
-/// The elements that the items of an array are, in their order, or the first fault among them; none where it is missing.
-fn elements_of(
-    alloc: Global,
-    objects: Option<Objects<'_>>,
-) -> Result<List<Element>, Stop<SceneFault>>
-    ensures read { IfOk result (λ elements. (values : Items (Items ℕ)) → MatchOption objects.entry (values ≡ []) (λ walk. AreLeft walk values)
-        → AreRead values elements) }
-    ensures fault { (fault : SceneFault) → result ≡ Err (Stop.Fault fault)
-        → (values : Items (Items ℕ)) → MatchOption objects.entry (values ≡ []) (λ walk. AreLeft walk values)
-        → (place : ℕ) × (why : ElemFault) × (fault ≡ SceneFault.Element place why) × IsFirstFaulty values place why }
-{
-    let Some(objects) = objects else {
-        return Ok(List::new(alloc));
-    };
-    match read_array(alloc, objects) {
-        Ok(elements) => Ok(elements),
-        Err(Stop::Fault(faulty)) => {
-            Err(Stop::Fault(SceneFault::Element(faulty.place, faulty.fault)))
-        }
-        Err(Stop::Memory) => Err(Stop::Memory),
     }
 }
 

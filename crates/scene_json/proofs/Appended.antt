@@ -1,5 +1,5 @@
 -- Items that are appended between commas to what was there.
-use Rattle.std.proofs.Common.{◌≡◌, ◌<◌, ◌≤◌, ℕ, ◌+◌, List, [], ◌∷◌, ◌++◌, ◌⊎◌, sym, ap, ap₂, ◌∙◌, length, map, take, get_or, take_all, All, append_assoc}
+use Rattle.std.proofs.Common.{◌≡◌, ◌<◌, ◌≤◌, ℕ, ◌+◌, List, [], ◌∷◌, ◌++◌, ◌⊎◌, sym, ap, ◌∙◌, length, map, take, get_or, take_all, All, append_assoc}
 use Rattle.std.proofs.lemmas.List.{take-map, length-map, get_or-map}
 use Rattle.std.proofs.lemmas.List.Elements.{All-map, All-same, recursion_from_All}
 use Rattle.std.specs.List.{join_with_byte}
@@ -19,9 +19,7 @@ pub array-closed : {X : Type 0} (f : X → List ℕ) (old start : List ℕ) (xs 
     out ≡ start ++ join_with_byte 44 (map f (take i xs)) → done ≡ out ++ 93 ∷ [] → done ≡ old ++ array_text (map f xs)
 unfolding array_text
 array-closed f old start xs i out done all first before last =
-    let text = join_with_byte 44 (map f xs) in
-    last ∙ ap (λ o. o ++ 93 ∷ []) (before ∙ ap₂ (λ s ys. s ++ join_with_byte 44 (map f ys)) first (take_all i xs all))
-    ∙ append_assoc (old ++ 91 ∷ []) text (93 ∷ []) ∙ append_assoc old (91 ∷ []) (text ++ 93 ∷ [])
+    rw (last, before, first, take_all i xs all) (simp append_assoc)
 
 -- the array of items whose texts are compact
 pub mapped-compact : {X : Type 0} (f : X → List ℕ) (limit i : ℕ) (xs : List X) → length xs ≤ i → All (λ x. IsCompact limit (f x)) (take i xs) → IsCompact (limit + 1) (array_text (map f xs))

@@ -1,5 +1,5 @@
 -- Where a string ends.
-use Rattle.std.proofs.Common.{◌≡◌, ◌≢◌, ℕ, ◌+◌, ◌<◌, ◌≤◌, min, get_or, drop, drop-drop, drop_of_length-le, length-drop, List, [], ◌∷◌, ◌++◌, Bool, true, false, not, ◌&&◌, ◌==◌, length, flat_map, refl, sym, ap, ◌∙◌, append_assoc, arith}
+use Rattle.std.proofs.Common.{◌≡◌, ◌≢◌, ℕ, ◌+◌, ◌<◌, ◌≤◌, min, get_or, drop, drop-drop, drop_of_length-le, length-drop, List, [], ◌∷◌, ◌++◌, Bool, true, false, not, ◌&&◌, ◌==◌, length, flat_map, refl, append_assoc, arith}
 use Rattle.std.specs.List.{list_all, AllByRecursion, prefix_len}
 use Rattle.std.specs.Char.{encode_utf8}
 use Rattle.std.proofs.lemmas.List.{get_or-drop}
@@ -38,28 +38,21 @@ behind-run (b ∷ bs) = grind (arith, nat_tests, drop-drop (prefix_len is_plain 
 
 -- the byte behind a `\` plays no part
 passed : (bs : List ℕ) → behind_string false (drop 1 bs) ≡ behind_string false (92 ∷ bs)
-passed [] = refl
-passed (b ∷ bs) = grind (arith, nat_tests)
+passed bs = grind (arith, nat_tests)
 
 -- At the end of a run what stands behind the string is still to come: nothing where the bytes break off, or what follows
 -- its closing quotation mark, or what stands behind an escape.
 module _ (bytes : List ℕ) (at end : ℕ) (is : end ≡ at + prefix_len is_plain (drop at bytes)) (same : behind_string false (drop at bytes) ≡ behind_string false bytes) where
   stopped : behind_string false (drop end bytes) ≡ behind_string false bytes
-  stopped =
-      let run = prefix_len is_plain (drop at bytes) in
-      ap (λ k. behind_string false (drop k bytes)) is ∙ ap (behind_string false) (sym (drop-drop run at bytes)) ∙ behind-run (drop at bytes) ∙ same
+  stopped = grind (arith, drop-drop (prefix_len is_plain (drop at bytes)) at bytes, behind-run (drop at bytes), is, same)
 
   pub string_broken : length bytes ≡ end → [] ≡ behind_string false bytes
-  string_broken past = ap (behind_string false) (sym (drop_of_length-le bytes (omega arith))) ∙ stopped
+  string_broken past = grind (arith, drop_of_length-le bytes, stopped)
 
   pub string_closed : end < length bytes → get_or bytes end 0 ≡ 34 → drop (end + 1) bytes ≡ behind_string false bytes
-  string_closed within mark = ap (behind_string false) (sym (front bytes end within mark)) ∙ stopped
+  string_closed within mark = grind (arith, front bytes end within mark, stopped)
 
   pub string_escaped : (next : ℕ) → end < length bytes → at ≤ length bytes → get_or bytes end 0 ≢ 34 → next ≡ min (length bytes) (end + 2) → behind_string false (drop next bytes) ≡ behind_string false bytes
   string_escaped next within low other e =
       let inside = prefix_len_stops is_plain (drop at bytes) 0 (omega (arith, length-drop at bytes)) in
-      let solid : is_plain (get_or bytes end 0) ≡ false = rw (is, ← get_or-drop at bytes (prefix_len is_plain (drop at bytes)) 0) inside in
-      let slash : get_or bytes end 0 ≡ 92 = grind (arith, nat_tests) in
-      let all : behind_string false (drop (end + 1 + 1) bytes) ≡ behind_string false bytes =
-      rw (← drop-drop 1 (end + 1) bytes) (passed (drop (end + 1) bytes) ∙ ap (behind_string false) (sym (front bytes end within slash)) ∙ stopped) in
-      grind (arith, all, drop_of_length-le)
+      grind (arith, nat_tests, is, inside, get_or-drop at bytes, drop-drop 1 (end + 1) bytes, passed (drop (end + 1) bytes), front bytes end {b = 92} within, stopped, drop_of_length-le)

@@ -1,5 +1,5 @@
 -- Digits, and the number that they are in decimal.
-use Rattle.std.proofs.Common.{◌≡◌, ℕ, zero, suc, ◌+◌, ◌*◌, ◌-◌, ◌<◌, ◌≤◌, ◌^◌, List, length, get_or, take, take_all, decimal, sym, ◌∙◌, ap, arith}
+use Rattle.std.proofs.Common.{◌≡◌, ℕ, ◌+◌, ◌*◌, ◌-◌, ◌<◌, ◌≤◌, ◌^◌, List, length, get_or, take, take_all, decimal, sym, ◌∙◌, ap, arith}
 use Rattle.std.specs.Int.{IsInRange}
 use Rattle.std.specs.Str.Parse.{AllDigits, digits_value}
 use Rattle.std.proofs.lemmas.Str.{digit_value_digit}
@@ -14,14 +14,11 @@ own = numerals_by_value (AllDigits 10) tells_digits
 -- digits without a leading zero are what `decimal` writes
 pub decimal_of_digits : (ds : List ℕ) (i n : ℕ) → length ds ≤ i → AllDigits 10 (take i ds) → 0 < length ds → (get_or ds 0 0 ≡ 48 → length ds ≡ 1) → digits_value 10 (take i ds) ≡ n → n ≤ 9007199254740991 → ds ≡ decimal n
 decimal_of_digits ds i n past digits some plain is small =
-    let all = take_all i ds past in
-    let fits : digits_value 10 ds < 2 ^ 64 = omega (arith, ap (digits_value 10) all) in
-    sym (decimal-digits_value own ds (rw all at digits) some plain fits) ∙ ap (λ xs. decimal (digits_value 10 xs)) (sym all) ∙ ap decimal is
+    grind (arith, take_all i ds past, decimal-digits_value own ds)
 
 -- one more digit
 pub value_more : (ds : List ℕ) (i n : ℕ) → i < length ds → IsInRange 48 57 (get_or ds i 0) → digits_value 10 (take i ds) ≡ n → digits_value 10 (take (i + 1) ds) ≡ n * 10 + (get_or ds i 0 - 48)
-value_more ds i n within digit is =
-    omega (arith, digits_value_more 10 ds i within, digit_value_digit (get_or ds i 0) digit)
+value_more ds i n within digit is = omega (arith, digits_value_more 10 ds i within, digit_value_digit (get_or ds i 0) digit)
 
 pub digits_step : (ds : List ℕ) (i : ℕ) → i < length ds → IsInRange 48 57 (get_or ds i 0) → AllDigits 10 (take i ds) → AllDigits 10 (take (i + 1) ds)
 digits_step ds i within digit digits = digits_more 10 ds i within digits (omega (arith, digit_value_digit (get_or ds i 0) digit))
@@ -40,14 +37,11 @@ pub only_decimal : (ds : List ℕ) (i whole n : ℕ) → length ds ≤ i → dig
 only_decimal ds i whole n past is small e = sym is ∙ ap (digits_value 10) (take_all i ds past) ∙ value_of_decimal ds n (omega arith) e
 
 pub front_of_decimal : (ds : List ℕ) (n i : ℕ) → n < 2 ^ 64 → ds ≡ decimal n → digits_value 10 (take i ds) ≤ n
-front_of_decimal ds n i small is =
-    omega (arith, digits_value-take-le 10 ds i (omega arith), value_of_decimal ds n small is)
+front_of_decimal ds n i small is = omega (arith, digits_value-take-le 10 ds i (omega arith), value_of_decimal ds n small is)
 
 -- only the decimal of 0 begins with a zero
 pub first_of_decimal : (ds : List ℕ) (n : ℕ) → n < 2 ^ 64 → ds ≡ decimal n → 1 < length ds → get_or ds 0 0 ≡ 48 → ⊥
-first_of_decimal ds zero small is several first = omega (arith, ap length (is ∙ decimal_digit 0 (omega arith)))
-first_of_decimal ds (suc n) small is several first =
-    omega (arith, first_decimal (suc n) (omega arith) small, ap (λ (bs : List ℕ). get_or bs 0 0) is)
+first_of_decimal ds n small is several first = grind (arith, is, decimal_digit 0, first_decimal n)
 
 -- what is known of digits that are read one by one
 pub ruleset decimal_steps = (decimal_of_digits, value_more, digits_step, digits_of_decimal, digit_of_decimal, value_of_decimal, only_decimal, front_of_decimal, first_of_decimal)

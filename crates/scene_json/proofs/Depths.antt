@@ -29,8 +29,7 @@ inside-string escaped level most [] = refl
 inside-string escaped level most (b ∷ bs) = grind (arith, inside-string (b == 92 && not escaped) level most bs)
 
 pub quote-step : (level most : ℕ) (bs : List ℕ) → level ≤ most → deepest outside level most (34 ∷ bs) ≡ deepest outside level most (behind_string false bs)
-quote-step level most bs h =
-    grind (arith, inside-string false level (max most level) bs)
+quote-step level most bs h = grind (arith, inside-string false level (max most level) bs)
 
 -- the deepest place of a value's text
 pub deepest-depth : (t : Tree) → IsGood t → deepest outside 0 0 (spelling t) ≡ depth t
@@ -46,8 +45,7 @@ deepest-depth t good =
 
 -- at the end, the deepest place is as deep as each tree that spells the text
 pub depth-seen : (level most limit : ℕ) (rest text value : List ℕ) → length rest ≡ 0 → deepest outside level most rest ≡ deepest outside 0 0 text → text ≡ value → (v : IsCompact limit value) → most ≡ depth v.tree
-depth-seen level most limit rest text value none same is v =
-    sym (ap (deepest outside level most) (nil_from_length rest none)) ∙ same ∙ ap (deepest outside 0 0) (is ∙ sym v.spells) ∙ deepest-depth v.tree v.good
+depth-seen level most limit rest text value none same is v = grind (arith, nil_from_length rest none, deepest-depth v.tree v.good, v.spells)
 
 pub depth_holds : (level most : ℕ) (rest text value : List ℕ) → length rest ≡ 0 → deepest outside level most rest ≡ deepest outside 0 0 text → text ≡ value → IsCompact 128 value → IsCompact most value
 depth_holds level most rest text value none same is v =
@@ -55,13 +53,12 @@ depth_holds level most rest text value none same is v =
 
 -- a value that doesn't begin with an opening bracket nests at no depth
 pub scalar-nests : (limit : ℕ) (text : List ℕ) → IsCompact 128 text → ((byte : ℕ) (more : List ℕ) → text ≡ byte ∷ more → is_opening byte ≡ false) → IsCompact limit text
-scalar-nests limit text v opens = none (Value-Form v)
-  where
-    none : Form 128 text → IsCompact limit text
-    none (literal h) = literal-compact limit text h
-    none (quoted t u e) = rw e (quote-compact limit t u)
-    none (listed ts all some e) = let starts = array-starts ts in absurd (grind (arith, opens 91 starts.0 (e ∙ starts.1)))
-    none (membered ms are some e) = let starts = object-starts ms in absurd (grind (arith, opens 123 starts.0 (e ∙ starts.1)))
+scalar-nests limit text v opens = elim (Value-Form v) [
+  | literal h ↦ literal-compact limit text h
+  | quoted t u e ↦ rw e (quote-compact limit t u)
+  | listed ts all some e ↦ let starts = array-starts ts in absurd (grind (arith, opens 91 starts.0 (e ∙ starts.1)))
+  | membered ms are some e ↦ let starts = object-starts ms in absurd (grind (arith, opens 123 starts.0 (e ∙ starts.1)))
+]
 
 -- what a pass that counts brackets goes by at a string
 pub ruleset depth_steps = (quote-step, length-behind_string, depth_holds)

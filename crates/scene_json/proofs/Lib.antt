@@ -2,7 +2,7 @@
 pub mod Decimals
 mod Behind
 mod Passing
-mod Depths
+pub mod Depths
 mod Skipped
 mod Spread
 pub mod Laid

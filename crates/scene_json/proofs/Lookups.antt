@@ -1,5 +1,5 @@
 -- Looking members up by their names.
-use Rattle.std.proofs.Common.{◌≡◌, ℕ, zero, suc, ◌+◌, ◌<◌, List, [], ◌∷◌, length, drop, get_or, Some, None, bytes_eq, refl, sym, subst, ap, ◌∙◌, true, false, nat_cmp, map, cond, ◌↔◌, arith}
+use Rattle.std.proofs.Common.{◌≡◌, ℕ, suc, ◌+◌, ◌<◌, List, [], ◌∷◌, length, drop, get_or, Some, None, bytes_eq, refl, sym, subst, ap, ◌∙◌, true, false, nat_cmp, map, cond, ◌↔◌, arith}
 use Rattle.std.proofs.lemmas.Float.{T_from_true}
 use Rattle.std.specs.Cmp.Lexicographic.{slice_cmp, nat_list_cmp_total, nat_list_eq_equiv, texts_ties}
 use Rattle.std.specs.List.{AllByRecursion, IsDistinct}
@@ -7,7 +7,6 @@ use Rattle.std.specs.List.Sorted.{IsPermutation, IsSortedBy, IsStrictlySortedBy}
 use Rattle.std.specs.Ordering.{is_eq, is_lt, ordering_reverse}
 use Rattle.std.specs.declared.cmp.Ordering.TheVariants.{Less, Equal, Greater}
 use Rattle.std.proofs.lemmas.List.Sorted.{Contains-permutation, IsPermutation-sym, IsPermutation-map}
-use Rattle.std.proofs.lemmas.Map.Entries.{lookup_tail}
 use Rattle.std.specs.FinMap.{slice_cmp-IsAntisymmetric, nat_cmp-IsAntisymmetric}
 use Rattle.std.specs.FinMap.Entries.{find, is_sorted, below_all, same_entries}
 use Rattle.std.proofs.lemmas.List.{length-map, get_or-map}
@@ -24,9 +23,8 @@ use Rattle.json_text.proofs.Collapsed.{bytes_eq-true}
 -- what a look-up from a place on finds there
 pub value_at-found : (name : List ℕ) (ms : List Member) (i : ℕ) (m : Member) → i < length ms → m ≡ get_or ms i m → bytes_eq name m.name ≡ true →
     value_at name (pairs (drop i ms)) ≡ Some m.value
-value_at-found name [] i m h e test = absurd (omega arith)
-value_at-found name (x ∷ xs) zero m h e test = grind arith
 value_at-found name (x ∷ xs) (suc i) m h e test = value_at-found name xs i m (omega arith) e test
+value_at-found name ms i m h e test = grind arith
 
 -- ---- the order of members of distinct names plays no part
 found_moved : (name value : List ℕ) (ms ns : List Pair) → IsDistinct bytes_eq (names_of ns) → IsPermutation ms ns →
@@ -41,9 +39,7 @@ distinct_moved ms ns moved apart =
 
 pub same_moved : (ms ns : List Pair) → IsDistinct bytes_eq (names_of ms) → IsPermutation ms ns → AreSameMembers ms ns
 same_moved ms ns apart moved name =
-    let there = λ (value : List ℕ). found_moved name value ms ns (distinct_moved ms ns moved apart) moved in
-    let back = λ (value : List ℕ). found_moved name value ns ms apart (IsPermutation-sym ms ns moved) in
-    grind (arith, there, back)
+    grind (arith, found_moved name, distinct_moved ms ns moved apart, moved, IsPermutation-sym ms ns moved)
 
 -- ---- members whose names rise
 -- the name is less than those of all these members
@@ -65,8 +61,7 @@ IsBelow-less a b (m ∷ ms) less below = (nat_list_cmp_total.trans a b m.0 less 
 
 pub value_at-below : (name : List ℕ) (ms : List Pair) → IsBelow name ms → value_at name ms ≡ None
 value_at-below name [] below = refl
-value_at-below name (m ∷ ms) below =
-    lookup_tail (bytes_eq name) m ms (bytes_eq-less name m.0 below.0) ∙ value_at-below name ms below.1
+value_at-below name (m ∷ ms) below = grind (arith, bytes_eq-less name m.0, value_at-below name ms)
 
 pub rising_parts : (m : Pair) (ms : List Pair) → HaveRisingNames (m ∷ ms) → IsBelow m.0 ms × HaveRisingNames ms
 unfolding IsStrictlySortedBy
@@ -105,14 +100,12 @@ rising_from_sort vs up apart =
 -- the same as a finite map says it
 below_same : (name : List ℕ) (ms : List Pair) → (below_all (slice_cmp nat_cmp) name ms ≡ true) ↔ IsBelow name ms
 below_same name [] = (λ h. tt, λ h. refl)
-below_same name (m ∷ ms) = let others = below_same name ms in (λ h. grind (arith, others), λ h. grind (arith, others))
+below_same name (m ∷ ms) = grind (arith, below_same name ms)
 
 pub sorted_same : (ms : List Pair) → (is_sorted (slice_cmp nat_cmp) ms ≡ true) ↔ HaveRisingNames ms
 unfolding IsStrictlySortedBy
 sorted_same [] = (λ h. tt, λ h. refl)
-sorted_same (m ∷ ms) =
-    let first = below_same m.0 ms in
-    let others = sorted_same ms in (λ h. grind (arith, first, others), λ h. grind (arith, first, others))
+sorted_same (m ∷ ms) = grind (arith, below_same m.0 ms, sorted_same ms)
 
 pub find_same : (name : List ℕ) (ms : List Pair) → find (slice_cmp nat_cmp) name ms ≡ value_at name ms
 find_same name [] = refl

@@ -1,5 +1,5 @@
 -- The members of an object that are left while it is taken apart.
-use Rattle.std.proofs.Common.{◌≡◌, ◌≢◌, ◌<◌, ◌+◌, ◌-◌, ℕ, List, [], ◌∷◌, ◌++◌, length, map, take, drop, get_or, refl, sym, ap, ◌∙◌, append_assoc, IsUtf8, drop-drop}
+use Rattle.std.proofs.Common.{◌≡◌, ◌≢◌, ◌<◌, ◌+◌, ◌-◌, inl, inr, ℕ, List, [], ◌∷◌, ◌++◌, Option, None, All, length, map, take, drop, get_or, refl, ap, ◌∙◌, arith, append_assoc, length-append, length-drop, IsUtf8}
 use Rattle.std.specs.List.{AllByRecursion, join_with_byte}
 use Rattle.json_text.specs.Characters.{quote}
 use Rattle.json_text.specs.Tree.{object}
@@ -7,14 +7,10 @@ use Rattle.json_text.specs.Compact.{Member, member_text, object_text}
 use Rattle.json_text.specs.Value.{IsCompact}
 use Rattle.json_text.specs.Walk.{Quoted}
 use Rattle.json_text.specs.Parts.{AreMembers}
-use Rattle.json_text.specs.Members.{pairs}
-use Rattle.json_text.specs.declared.text.Member.{Member as Taken}
-use Rattle.json_text.proofs.Forms.{quote-Quoted}
+use Rattle.json_text.proofs.Forms.{array-starts, quote-Quoted}
 use Rattle.json_text.proofs.Contents.{drop-after, inside-after}
-use Rattle.json_text.proofs.Reading.{tail-same}
-use Rattle.json_text.proofs.Strings.{heads-differ}
-use Rattle.scene_json.specs.Passes.{Compacted, IsEnd, EndsAt}
-use Rattle.scene_json.proofs.ItemsLeft.{front-is, behind_item, behind-split, behind-ends, ends-inside}
+use Rattle.scene_json.specs.Passes.{Compacted, IsEnd, EndsAt, left_text, behind_item, StandHere, IsPassed, IsStopped, HaveEnded}
+use Rattle.scene_json.proofs.ItemsLeft.{front-is, behind-split, behind-ends, ends-inside}
 
 -- what follows the first member that is left: the closing bracket, or a comma and the others
 abbrev pub behind_member : List ℕ → List Member → List ℕ
@@ -27,16 +23,7 @@ pub record IsFirst (bytes : List ℕ) (member : Member) (rest : List ℕ) : Type
   pub parts : bytes ≡ quote member.0 ++ (58 ∷ (member.1 ++ rest))
   pub ends : IsEnd rest
 
--- All members are those that were found, the first one here, and some more; the rest follows.
-pub record AreMembersLeft (all found : List Member) (rest bytes : List ℕ) : Type 0 where
-  pub item : Member
-  pub more : List Member
-  pub parts : all ≡ found ++ item ∷ more
-  pub first : IsFirst bytes item (behind_member rest more)
-  pub named : AllByRecursion (λ (m : Member). IsUtf8 m.0) more
-  pub valued : AllByRecursion (λ (m : Member). IsCompact 127 m.1) more
-
-first-here : (rest bytes : List ℕ) (m : Member) (ms : List Member) → IsUtf8 m.0 → IsCompact 127 m.1 → bytes ≡ join_with_byte 44 (map member_text (m ∷ ms)) ++ 125 ∷ rest → IsFirst bytes m (behind_member rest ms)
+first-here : (rest bytes : List ℕ) (m : Member) (ms : List Member) → IsUtf8 m.0 → IsCompact 127 m.1 → bytes ≡ left_text object rest (map member_text (m ∷ ms)) → IsFirst bytes m (behind_member rest ms)
 first-here rest bytes m ms named valued e = record {
   named = named;
   valued = valued;
@@ -45,45 +32,67 @@ first-here rest bytes m ms named valued e = record {
 }
 
 -- ---- the start
-module _ (bytes : List ℕ) (start : ℕ) (rest : List ℕ) where
-  opened : (m : Member) (ms : List Member) → AreMembers 127 (m ∷ ms) → drop start bytes ≡ object_text (m ∷ ms) ++ rest → IsFirst (drop (start + 1) bytes) m (behind_member rest ms)
-  unfolding object_text
-  opened m ms are e =
-      first-here rest (drop (start + 1) bytes) m ms are.named.0 are.valued.0 (drop-after bytes start e ∙ append_assoc (join_with_byte 44 (map member_text (m ∷ ms))) (125 ∷ []) rest)
-
-  pub two-here : (all : List Member) → AreMembers 127 all → drop start bytes ≡ object_text all ++ rest → start + 1 < length bytes
-  unfolding object_text quote
-  two-here [] are e = inside-after bytes (start + 1) (drop-after bytes start e)
-  two-here (m ∷ ms) are e = inside-after bytes (start + 1) (opened m ms are e).parts
-
-  -- Where the bracket is closed at once there is no member, and elsewhere all are left.
-  pub closed-empty : (all : List Member) → AreMembers 127 all → drop start bytes ≡ object_text all ++ rest → get_or bytes (start + 1) 0 ≡ 125 → (all ≡ []) × (drop (start + 2) bytes ≡ rest)
-  unfolding object_text quote
-  closed-empty [] are e closed = (refl, sym (drop-drop 2 start bytes) ∙ ap (drop 2) e)
-  closed-empty (m ∷ ms) are e closed = absurd (heads-differ 34 125 [] [] refl (ap (λ b. b ∷ []) (sym (front-is bytes (start + 1) (opened m ms are e).parts) ∙ closed)))
-
-  pub all-left : (all : List Member) → AreMembers 127 all → drop start bytes ≡ object_text all ++ rest → get_or bytes (start + 1) 0 ≢ 125 → AreMembersLeft all [] rest (drop (start + 1) bytes)
-  unfolding object_text
-  all-left [] are e other = absurd (other (front-is bytes (start + 1) (drop-after bytes start e)))
-  all-left (m ∷ ms) are e other = record { item = m; more = ms; parts = refl; first = opened m ms are e; named = are.named.1; valued = are.valued.1 }
+pub object-opened : (bytes : List ℕ) (start : ℕ) (all : List Member) (rest : List ℕ) → AreMembers 127 all → drop start bytes ≡ object_text all ++ rest → StandHere (drop (start + 1) bytes) all rest
+unfolding object_text
+object-opened bytes start all rest are e = record {
+  named = are.named;
+  valued = are.valued;
+  here = drop-after bytes start e ∙ append_assoc (join_with_byte 44 (map member_text all)) (125 ∷ []) rest;
+}
 
 -- ---- a step
--- At the closing bracket the member was the last; elsewhere the others are left behind a comma.
-pub left-last : {tail : List ℕ} (rest : List ℕ) (found : List Member) (m : Member) (more : List Member) → behind_member rest more ≡ 125 ∷ tail → (found ++ m ∷ [] ≡ found ++ m ∷ more) × (tail ≡ rest)
-left-last rest found m [] e = (refl, sym (tail-same e))
-left-last rest found m (next ∷ more) e = absurd (heads-differ 44 125 _ _ refl e)
+-- The first of these members stands here; behind it are the others.
+pub record IsNextMember (bytes : List ℕ) (all : List Member) (rest : List ℕ) : Type 0 where
+  pub item : Member
+  pub more : List Member
+  pub parts : all ≡ item ∷ more
+  pub first : IsFirst bytes item (behind_member rest more)
+  pub named : AllByRecursion (λ (m : Member). IsUtf8 m.0) more
+  pub valued : AllByRecursion (λ (m : Member). IsCompact 127 m.1) more
 
-pub left-next : (bytes rest : List ℕ) (end : ℕ) (found : List Member) (m : Member) (more : List Member) → AllByRecursion (λ (m : Member). IsUtf8 m.0) more → AllByRecursion (λ (m : Member). IsCompact 127 m.1) more
-    → drop end bytes ≡ behind_member rest more → get_or bytes end 0 ≢ 125 → AreMembersLeft (found ++ m ∷ more) (found ++ m ∷ []) rest (drop (end + 1) bytes)
-left-next bytes rest end found m [] named valued e other = absurd (other (front-is bytes end e))
-left-next bytes rest end found m (next ∷ more) named valued e other = record {
-  item = next;
-  more = more;
-  parts = sym (append_assoc found (m ∷ []) (next ∷ more));
-  first = first-here rest (drop (end + 1) bytes) next more named.0 valued.0 (drop-after bytes end e);
-  named = named.1;
-  valued = valued.1;
-}
+module _ (bytes : List ℕ) (at : ℕ) where
+  pub members-inside : (all : List Member) (rest : List ℕ) → StandHere (drop at bytes) all rest → at < length bytes
+  members-inside all rest s = omega (arith, ap length s.here, length-drop at bytes, length-append (join_with_byte 44 (map member_text all)) (125 ∷ rest))
+
+  -- At the closing bracket there is none.
+  pub members-none : (all : List Member) (rest : List ℕ) → StandHere (drop at bytes) all rest → get_or bytes at 0 ≡ 125 → (all ≡ []) × (drop at bytes ≡ 125 ∷ rest)
+  unfolding quote
+  members-none [] rest s closed = (refl, s.here)
+  members-none (m ∷ ms) rest s closed =
+      absurd (omega (arith, closed, front-is bytes at (first-here rest (drop at bytes) m ms s.named.0 s.valued.0 s.here).parts))
+
+  pub members-next : (all : List Member) (rest : List ℕ) → StandHere (drop at bytes) all rest → get_or bytes at 0 ≢ 125 → IsNextMember (drop at bytes) all rest
+  members-next [] rest s other = absurd (other (front-is bytes at s.here))
+  members-next (m ∷ ms) rest s other = record {
+    item = m;
+    more = ms;
+    parts = refl;
+    first = first-here rest (drop at bytes) m ms s.named.0 s.valued.0 s.here;
+    named = s.named.1;
+    valued = s.valued.1;
+  }
+
+-- All members are those that were passed and those that are left; the rest follows.
+pub record ArePassed (stop : Option (List ℕ)) (all old new : List Member) (rest bytes : List ℕ) : Type 0 where
+  pub passed : List Member
+  pub left : List Member
+  pub parts : all ≡ passed ++ left
+  pub taken : new ≡ old ++ passed
+  pub others : All (IsPassed stop) passed
+  pub here : StandHere bytes left rest
+
+-- ---- the end
+-- At an opening bracket it stopped, and elsewhere all are passed.
+module _ (bytes : List ℕ) (end : ℕ) {stop : Option (List ℕ)} {all passed : List Member} {rest : List ℕ} where
+  pub stopped-here : HaveEnded stop all passed rest (drop end bytes) → get_or bytes end 0 ≡ 91 → IsStopped stop all passed rest (drop end bytes)
+  stopped-here e bracket = grind (arith, front-is bytes end)
+
+  pub ended-here : HaveEnded stop all passed rest (drop end bytes) → get_or bytes end 0 ≢ 91 → (passed ≡ all) × All (IsPassed stop) passed
+  ended-here (inl ended) other = (ended.0, ended.1)
+  ended-here (inr stopped) other = grind (arith, front-is bytes end, stopped.here, array-starts stopped.items)
+
+pub all-ended : {all passed : List Member} {rest bytes : List ℕ} → HaveEnded None all passed rest bytes → (passed ≡ all) × (bytes ≡ 125 ∷ rest)
+all-ended e = grind arith
 
 -- ---- the first member
 pub quoted-here : {bytes rest : List ℕ} {m : Member} → IsFirst bytes m rest → Quoted bytes m.0 (58 ∷ (m.1 ++ rest))
@@ -101,8 +110,3 @@ module _ (bytes : List ℕ) (at colon : ℕ) (name : List ℕ) {m : Member} {res
 
   pub end-here : (end : ℕ) → EndsAt bytes (colon + 1) end → (drop end bytes ≡ rest) × (take (end - (colon + 1)) (drop (colon + 1) bytes) ≡ m.1) × (end < length bytes)
   end-here end ends = let here = ends m.1 rest value-here.2 in (here.0, here.1, ends-inside bytes end [] rest first.ends here.0)
-
--- one member more at the end
-pub pairs-push : (ms : List Taken) (name value : List ℕ) → pairs (ms ++ record { name = name; value = value } ∷ []) ≡ pairs ms ++ (name, value) ∷ []
-pairs-push [] name value = refl
-pairs-push (m ∷ ms) name value = ap (λ (rest : List Member). (m.name, m.value) ∷ rest) (pairs-push ms name value)

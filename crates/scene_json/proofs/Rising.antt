@@ -1,8 +1,7 @@
 -- What is found under names is in one list of members whose names rise.
-use Rattle.std.proofs.Common.{◌≡◌, ℕ, true, false, List, [], ◌∷◌, Bool, T, Option, Some, None, bytes_eq, nat_cmp, if◌then◌else◌, refl, sym, ◌∙◌, arith}
+use Rattle.std.proofs.Common.{◌≡◌, ℕ, false, List, [], ◌∷◌, Option, Some, None, bytes_eq, nat_cmp, if◌then◌else◌, refl, sym, ◌∙◌, arith}
 use Rattle.std.specs.Cmp.Lexicographic.{slice_cmp, nat_list_cmp_total}
 use Rattle.std.specs.FinMap.{FinMap, entries, entries_sorted, from_entries, get-entries, get-from_entries}
-use Rattle.std.specs.FinMap.Entries.{is_sorted}
 use Rattle.std.specs.List.{list_any}
 use Rattle.json_text.specs.Compact.{Member as Pair}
 use Rattle.scene_json.specs.Named.{value_at, HaveRisingNames}
@@ -22,17 +21,13 @@ listed_at : (name : List ℕ) (names : List (List ℕ)) (found : List ℕ → Op
 listed_at name [] found = refl
 listed_at name (n ∷ names) found = grind (arith, bytes_eq-true name n, listed_at name names found)
 
-true_from_T : (b : Bool) → T b → b ≡ true
-true_from_T true h = refl
-true_from_T false h = absurd h
-
 -- Whatever is found under some names, and under no others, is the members of a list whose names rise.
 pub tabled : (names : List (List ℕ)) (find : List ℕ → Option (List ℕ)) → ((name : List ℕ) → list_any (bytes_eq name) names ≡ false → find name ≡ None)
     → (members : List Pair) × HaveRisingNames members × ((name : List ℕ) → value_at name members ≡ find name)
 tabled names find others =
     let map : FinMap (slice_cmp nat_cmp) (List ℕ) = from_entries (listed names find) in (
       entries map,
-      (sorted_same (entries map)).0 (true_from_T (is_sorted (slice_cmp nat_cmp) (entries map)) (entries_sorted map)),
+      (sorted_same (entries map)).0 (grind (arith, entries_sorted map)),
       λ name. sym (find_same name (entries map)) ∙ sym (get-entries map name) ∙ get-from_entries nat_list_cmp_total (listed names find) name
           ∙ find_same name (listed names find) ∙ grind (arith, listed_at name names find, others name),
     )

@@ -1,11 +1,11 @@
 -- How a pass over a text lays it out.
-use Rattle.std.proofs.Common.{◌≡◌, ℕ, zero, suc, ◌+◌, ◌*◌, eqb, length, ◌<◌, List, [], ◌∷◌, ◌++◌, Bool, true, false, take, drop, flat_map, refl, sym, ap, ◌∙◌, append-nil, append_assoc, one-add, arith}
+use Rattle.std.proofs.Common.{◌≡◌, ℕ, zero, suc, ◌+◌, ◌*◌, eqb, length, ◌<◌, List, [], ◌∷◌, ◌++◌, Bool, true, false, take, drop, flat_map, refl, sym, ap, ◌∙◌, append-nil, append_assoc, arith}
 use Rattle.std.specs.List.{list_all, AllByRecursion, prefix_len}
 use Rattle.std.specs.Char.{encode_utf8}
 use Rattle.std.proofs.lemmas.List.{take-append-drop, nil_from_length, replicate-append-replicate}
 use Rattle.std.proofs.lemmas.Bool.{eqb-true}
 use Rattle.std.proofs.lemmas.Bool.Decides.{nat_tests}
-use Rattle.json_text.specs.Characters.{is_space, is_hex, is_plain, is_closing}
+use Rattle.json_text.specs.Characters.{is_space, is_hex, is_plain}
 use Rattle.json_text.specs.Tree.{Piece, bare, letter, unit, IsPiece, piece_spelling, string_spelling, Container, array, object, opening, closing, Label, unnamed, named, IsLabel, label_spelling, Tree, scalar, text, empty, filled, Values, last, next, spelling, values_spelling, IsGood, AreGood}
 use Rattle.json_text.specs.Walk.{outside, inside}
 use Rattle.scene_json.specs.Layout.{line, label_laid_out, laid_out, values_laid_out}
@@ -19,20 +19,16 @@ run-steps [] first spaces bs h = refl
 run-steps (x ∷ xs) first spaces bs h = grind (arith, nat_tests, run-steps xs first spaces bs)
 
 pub run_plain : (bs : List ℕ) (n : ℕ) → n ≡ 0 + prefix_len is_plain bs → list_all is_plain (take n bs) ≡ true
-run_plain bs n e = let same : n ≡ prefix_len is_plain bs = omega arith in rw same (front bs)
-  where
-    front : (xs : List ℕ) → list_all is_plain (take (prefix_len is_plain xs) xs) ≡ true
-    front [] = refl
-    front (x ∷ xs) = rw one-add (grind (arith, front xs))
+run_plain bs zero e = refl
+run_plain [] (suc n) e = refl
+run_plain (x ∷ xs) (suc n) e = grind (arith, run_plain xs n)
 
 -- a part of a text of plain characters is copied, and the layout goes on behind it
 pub run_from : (s : Standing) (n : ℕ) (bytes behind more was copied : List ℕ) → list_all is_plain (take n bytes) ≡ true → (0 < n → s.place ≡ inside false)
     → behind ≡ drop n bytes → copied ≡ was ++ take n bytes → copied ++ layout_from s (behind ++ more) ≡ was ++ layout_from s (bytes ++ more)
 run_from s zero bytes behind more was copied plain quoted left copies = rw (left, copies, append-nil was) refl
 run_from s (suc n) bytes behind more was copied plain quoted left copies =
-    let run = take (suc n) bytes in
-    let whole : run ++ (behind ++ more) ≡ bytes ++ more = sym (append_assoc run behind more) ∙ ap (λ x. x ++ more) (ap (λ x. run ++ x) left ∙ take-append-drop (suc n) bytes) in
-    rw (copies, ← whole, quoted (omega arith)) (simp append_assoc (ap (λ x. was ++ x) (sym (run-steps run s.first s.spaces (behind ++ more) plain))))
+    grind (arith, append_assoc, take-append-drop (suc n) bytes, run-steps (take (suc n) bytes) s.first s.spaces (behind ++ more) plain, quoted)
 
 plain-steps : (xs : List ℕ) (spaces : ℕ) (bs : List ℕ) → list_all is_part_of_literal xs ≡ true → layout outside false spaces (xs ++ bs) ≡ xs ++ layout outside false spaces bs
 plain-steps [] spaces bs h = refl
@@ -58,9 +54,6 @@ string-steps (p ∷ ps) spaces bs good = simp append_assoc (grind (arith, piece-
 opening-step : (c : Container) (spaces : ℕ) (bs : List ℕ) → layout outside false spaces (opening c ∷ bs) ≡ opening c ∷ layout outside true spaces bs
 opening-step c spaces bs = grind arith
 
-closing-step : (c : Container) (spaces : ℕ) (bs : List ℕ) → layout outside false (spaces + 2) (closing c ∷ bs) ≡ line spaces ++ (closing c ∷ layout outside false spaces bs)
-closing-step c spaces bs = grind (arith, λ (b : ℕ). append_assoc (line spaces) (b ∷ []) (layout outside false spaces bs))
-
 -- a label on its line
 label-steps : (c : Container) (l : Label) (spaces : ℕ) (bs : List ℕ) → IsLabel c l → line spaces ++ layout outside false spaces (label_spelling l ++ bs) ≡ label_spelling (label_laid_out spaces l) ++ layout outside false spaces bs
 label-steps array (unnamed before) spaces bs good = ap (λ x. line spaces ++ x) (blank-steps before false spaces bs good)
@@ -72,16 +65,12 @@ label-steps c l spaces bs good = absurd good
 
 -- behind an opening bracket a line begins there
 first-step : (spaces b : ℕ) (bs : List ℕ) → begins_value b ≡ true → layout outside true spaces (b ∷ bs) ≡ line (spaces + 2) ++ layout outside false (spaces + 2) (b ∷ bs)
-first-step spaces b bs begins =
-    let solid = begins-no-space b begins in
-    let closes : is_closing b ≡ false = grind (arith, nat_tests) in
-    rw (solid, closes) (append_assoc (line (spaces + 2)) _ _)
+first-step spaces b bs begins = grind (arith, nat_tests, begins-no-space b begins, append_assoc (line (spaces + 2)))
 
 values-line : (c : Container) (vs : Values) (spaces : ℕ) (bs : List ℕ) → AreGood c vs → layout outside true spaces (values_spelling vs ++ bs) ≡ line (spaces + 2) ++ layout outside false (spaces + 2) (values_spelling vs ++ bs)
 values-line c vs spaces bs good =
     let f = values-Front c vs good in
-    let h = f.follows in
-    rw (f.spells, h.parts) (simp append_assoc (grind (arith, blank-steps f.front, first-step spaces h.first (h.more ++ bs))))
+    grind (arith, f.spells, f.follows.parts, append_assoc, blank-steps f.front, first-step spaces f.follows.first)
 
 -- the pass lays out a value, and what follows as if it stood alone
 mutual
@@ -93,7 +82,7 @@ mutual
 
   values-steps : (c : Container) (vs : Values) (spaces : ℕ) (bs : List ℕ) → AreGood c vs → line (spaces + 2) ++ layout outside false (spaces + 2) (values_spelling vs ++ closing c ∷ bs) ≡ values_spelling (values_laid_out spaces vs) ++ closing c ∷ layout outside false spaces bs
   values-steps c (last label value blank) spaces bs good =
-      simp append_assoc (grind (arith, label-steps c label (spaces + 2), tree-steps value (spaces + 2), blank-steps, closing-step c))
+      simp append_assoc (grind (arith, label-steps c label (spaces + 2), tree-steps value (spaces + 2), blank-steps, λ (b : ℕ). append_assoc (line spaces) (b ∷ []) (layout outside false spaces bs)))
   values-steps c (next label value blank values) spaces bs good =
       simp append_assoc (grind (arith, label-steps c label (spaces + 2), tree-steps value (spaces + 2), blank-steps, values-steps c values))
 
@@ -113,5 +102,4 @@ laid_on s after front piece was now rest none made so_far = record {
 -- two more spaces
 pub line_more : (level : ℕ) (old out done : List ℕ) → out ≡ old ++ line (2 * level) → done ≡ out ++ 32 ∷ 32 ∷ [] → done ≡ old ++ line (2 * (level + 1))
 line_more level old out done before written =
-    let e : 2 * level + 2 ≡ 2 * (level + 1) = omega arith in
-    written ∙ rw (before, ← e) (append_assoc old (line (2 * level)) (32 ∷ 32 ∷ []) ∙ ap (λ x. old ++ 10 ∷ x) (replicate-append-replicate (2 * level) 2 32))
+    grind (arith, append_assoc, replicate-append-replicate {A = ℕ} (2 * level) 2 32)

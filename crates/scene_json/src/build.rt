@@ -102,6 +102,7 @@ pub fn raw_object(alloc: Global, members: &List<Member>) -> Result<Raw, AllocErr
 }
 
 /// Appends a member: its quoted name, a colon and its value. For want of memory nothing is appended.
+#[inline(always)]
 pub fn push_member(out: &mut Vec<u8>, name: &Text, value: &Raw) -> Result<(), AllocError>
     ensures ok { OnOk result (out.new.items ≡ out.old.items ++ member_text (name.now, value.now)) }
     ensures err { OnErr result (out.new.items ≡ out.old.items) }
@@ -113,6 +114,7 @@ pub fn push_member(out: &mut Vec<u8>, name: &Text, value: &Raw) -> Result<(), Al
 }
 
 /// Appends a member. After want of memory a part of it may stand there.
+#[inline(always)]
 fn push_member_parts(out: &mut Vec<u8>, name: &Text, value: &Raw) -> Result<(), AllocError>
     ensures ok { OnOk result (out.new.items ≡ out.old.items ++ member_text (name.now, value.now)) }
     ensures kept { OnErr result (Extends out.old.items out.new.items) }

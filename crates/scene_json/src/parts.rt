@@ -1,6 +1,6 @@
 //! Taking values apart.
 
-ghost use Rattle.std.specs.Prelude.{◌≡◌, ◌≢◌, ◌-◌, ◌<◌, ◌≤◌, ◌^◌, ℕ, List as Items, [], ◌∷◌, ◌++◌, length, take, drop, false, IsTrue, IfOk, IfSome, MatchOption, OnErr};
+ghost use Rattle.std.specs.Prelude.{◌≡◌, ◌≢◌, ◌-◌, ◌<◌, ◌≤◌, ◌^◌, ◌↔◌, ℕ, List as Items, [], ◌∷◌, ◌++◌, length, take, drop, false, Some, option_copied, IsTrue, IfOk, IfSome, MatchOption, OnErr};
 ghost use Rattle.std.specs.Str.{IsUtf8};
 ghost use Rattle.std.specs.List.{AllByRecursion, prefix_len};
 ghost use Rattle.json_text.specs.Characters.{quote, ends_value, is_inert, is_quiet};
@@ -8,8 +8,8 @@ ghost use Rattle.json_text.specs.Compact.{Member as Pair, array_text, object_tex
 ghost use Rattle.json_text.specs.Members.{pairs};
 ghost use Rattle.json_text.specs.Parts.{AreMembers};
 ghost use Rattle.json_text.specs.Value.{IsCompact};
-ghost use Rattle.scene_json.specs.Passes.{Compacted, EndsAt};
-ghost use Rattle.scene_json.specs.Walks.{AreLeft, IsTakenApart};
+ghost use Rattle.scene_json.specs.Passes.{Compacted, EndsAt, StandHere, HaveEnded, GoesOn};
+ghost use Rattle.scene_json.specs.Walks.{AreLeft, AreBehind, AreTakenTo, IsTakenApart};
 
 use crate::nesting::after_string;
 use board_io::{List, Stop};
@@ -21,7 +21,7 @@ use std::marker::Model;
 #[derive(Clone, Copy, Debug, PartialEq, Eq)]
 pub struct Shape;
 
-/// Room is made for so many members at once, as an element has.
+/// Room is made for so many members of an item at once, as an element has.
 const FEW: usize = 40;
 
 /// The text of a string. `Shape` comes exactly where the value is no string.
@@ -57,36 +57,17 @@ pub fn items(alloc: Global, value: &Raw) -> Result<List<Raw>, Stop<Shape>>
     ensures shape { result ≡ Err (Stop.Fault (record {})) → (others : Items (Items ℕ)) → value.now ≢ array_text others }
 {
     let bytes = value.as_bytes();
-    let Some(first) = first_item(value) else {
+    if !begins_with(bytes, b'[') {
         return Err(Stop::Fault(Shape));
-    };
+    }
     let mut found = Vec::new(alloc);
-    let mut at = first;
-    while at < bytes.len() {
+    let mut at = 1;
+    while bytes[at] != b']' {
         let end = next_end(bytes, at);
         found.push(value.cut(at, end)?)?;
-        at = end + 1;
+        at = past_comma(bytes, end);
     }
     Ok(List::from_vec(found))
-}
-
-/// The offset of the first item of an array, or of the array's end where it has none. `None` comes exactly where the value
-/// is no array.
-#[tactic(auto, using(crate::proofs::ItemsLeft::closed_left, crate::proofs::ItemsLeft::open_left))]
-fn first_item(array: &Raw) -> Option<usize>
-    ensures shape { MatchOption result ((others : Items (Items ℕ)) → array.now ≢ array_text others)
-        (λ _. (all : Items (Items ℕ)) × AllByRecursion (IsCompact 127) all × (array.now ≡ array_text all)) }
-    ensures left { IfSome result (λ at. (all : Items (Items ℕ)) → AllByRecursion (IsCompact 127) all → array.now ≡ array_text all → AreLeft (record { array = array.now; at = at }) all) }
-    ensures within { IfSome result (λ at. at ≤ length array.now) }
-{
-    let bytes = array.as_bytes();
-    if !begins_with(bytes, b'[') {
-        return None;
-    }
-    if bytes[1] == b']' {
-        return Some(2);
-    }
-    Some(1)
 }
 
 /// The members of an object, in their order. `Shape` comes exactly where the value is no object.
@@ -99,77 +80,139 @@ pub fn members(alloc: Global, value: &Raw) -> Result<List<Member>, Stop<Shape>>
     if !begins_with(value.as_bytes(), b'{') {
         return Err(Stop::Fault(Shape));
     }
-    let (found, _end) = members_at(alloc, value, 0)?;
-    Ok(found)
+    let mut found = Vec::new(alloc);
+    push_members(alloc, &mut found, value, 1, None)?;
+    Ok(List::from_vec(found))
 }
 
-/// The members of the object at an offset, and the offset after it.
-fn members_at(alloc: Global, value: &Raw, start: usize) -> Result<(List<Member>, usize), AllocError>
-    requires { (all : Items Pair) × (rest : Items ℕ) × AreMembers 127 all × (drop start value.now ≡ object_text all ++ rest) }
-    ensures found { IfOk result (λ found. (all : Items Pair) (rest : Items ℕ) → AreMembers 127 all → drop start value.now ≡ object_text all ++ rest
-        → (pairs found.0 ≡ all) × (drop found.1 value.now ≡ rest)) }
-    ensures within { IfOk result (λ found. (start < found.1) × (found.1 ≤ length value.now)) }
+/// The members of an object before the one of this name whose value is an array, and a walk over the array's items; or all
+/// members where there is none. `Shape` comes exactly where the value is no object.
+pub fn members_to<'a>(
+    alloc: Global,
+    value: &'a Raw,
+    name: &str,
+) -> Result<(List<Member>, Option<Objects<'a>>), Stop<Shape>>
+    ensures taken { IfOk result (λ found. AreTakenTo name.now value.now (pairs found.0) found.1) }
+    ensures shape { result ≡ Err (Stop.Fault (record {})) → (others : Items Pair) → value.now ≢ object_text others }
 {
     let bytes = value.as_bytes();
-    if bytes[start + 1] == b'}' {
-        return Ok((List::new(alloc), start + 2));
+    if !begins_with(bytes, b'{') {
+        return Err(Stop::Fault(Shape));
     }
-    let mut found = Vec::with_capacity(alloc, FEW)?;
-    let mut at = start + 1;
-    loop {
+    let mut found = Vec::new(alloc);
+    let end = push_members(alloc, &mut found, value, 1, Some(name))?;
+    let taken = List::from_vec(found);
+    if bytes[end] == b'[' {
+        let text = value;
+        let at = end + 1;
+        return Ok((taken, Some(Objects { text, at })));
+    }
+    Ok((taken, None))
+}
+
+/// Appends the members of an object from an offset on, and gives the offset of the closing bracket; or those before the one
+/// to stop at, and the offset of its value, which is an array.
+#[inline(always)]
+fn push_members(
+    alloc: Global,
+    found: &mut Vec<Member>,
+    value: &Raw,
+    start: usize,
+    stop: Option<&str>,
+) -> Result<usize, AllocError>
+    requires { (all : Items Pair) × (rest : Items ℕ) × StandHere (drop start value.now) all rest }
+    ensures found { IfOk result (λ end. (all : Items Pair) (rest : Items ℕ) → StandHere (drop start value.now) all rest
+        → (passed : Items Pair) × (pairs found.new.items ≡ pairs found.old.items ++ passed) × HaveEnded (option_copied stop.entry) all passed rest (drop end value.now)) }
+    ensures within { IfOk result (λ end. (start ≤ end) × (end < length value.now)) }
+{
+    let bytes = value.as_bytes();
+    let mut at = start;
+    while bytes[at] != b'}' {
         let (name, colon) = text_at(alloc, value, at)?;
+        if stops_at(stop, &name, bytes[colon + 1]) {
+            return Ok(colon + 1);
+        }
         let end = next_end(bytes, colon + 1);
         let value = value.cut(colon + 1, end)?;
         found.push(Member { name, value })?;
-        if bytes[end] == b'}' {
-            return Ok((List::from_vec(found), end + 1));
-        }
-        at = end + 1;
+        at = past_comma(bytes, end);
+    }
+    Ok(at)
+}
+
+/// Whether a member of this name, whose value begins with this byte, is the one to stop at.
+#[inline(always)]
+fn stops_at(stop: Option<&str>, name: &Text, first: u8) -> bool
+    ensures { IsTrue result ↔ ((option_copied stop.entry ≡ Some name.now) × (first ≡ 91)) }
+{
+    match stop {
+        Some(known) => first == b'[' && name.as_bytes() == known.as_bytes(),
+        None => false,
     }
 }
 
 /// A walk over the items of an array, in which each object is taken apart as it comes.
 #[derive(Drop)]
 pub struct Objects<'a> {
-    array: &'a Raw,
+    /// The text in which the array stands.
+    text: &'a Raw,
+    /// The offset of the next item, or of the closing bracket.
     at: usize,
 }
 
 impl<'a> Model for Objects<'a> {
-    ghost use Rattle.std.specs.Prelude.{ℕ, List, length, ◌≤◌};
+    ghost use Rattle.std.specs.Prelude.{ℕ, List};
     ghost use Rattle.scene_json.specs.Walks.{Walk, AreLeft};
 
     ghost Value = { Walk };
 
-    ghost view = { λ o. record { array = o.array.now; at = o.at } };
+    ghost view = { λ o. record { text = o.text.now; at = o.at } };
 
-    ghost invariant = { λ o. (o.at ≤ length o.array.now) × (left : List (List ℕ)) × AreLeft (record { array = o.array.now; at = o.at }) left };
+    ghost invariant = { λ o. (left : List (List ℕ)) × AreLeft (record { text = o.text.now; at = o.at }) left };
 }
 
 impl<'a> Objects<'a> {
-    /// All items of an array are left. `None` comes exactly where the value is no array.
-    pub fn of(array: &'a Raw) -> Option<Objects<'a>>
-        ensures { MatchOption result ((others : Items (Items ℕ)) → array.now ≢ array_text others)
-            (λ walk. (all : Items (Items ℕ)) × (array.now ≡ array_text all) × AreLeft walk all) }
-    {
-        let at = first_item(array)?;
-        Some(Objects { array, at })
-    }
-
     /// The members of the next item, or `None` where it is no object. The outer `None` comes exactly where no item is left.
     pub fn next(&mut self, alloc: Global) -> Result<Option<Option<List<Member>>>, AllocError>
         ensures next { IfOk result (λ found. (left : Items (Items ℕ)) → AreLeft self.old left → MatchOption found (left ≡ [])
             (λ next. (item : Items ℕ) × (others : Items (Items ℕ)) × (left ≡ item ∷ others) × AreLeft self.new others × IsTakenApart item next)) }
         ensures taken { IfOk result (λ found. IfSome found (λ next. (item : Items ℕ) × IsTakenApart item next)) }
         ensures passed { IfOk result (λ found. IfSome found (λ next. (self.old.at < self.new.at) × (self.new.at < 2 ^ 64))) }
+        ensures behind { (members : Items Pair) → AreBehind self.old members → AreBehind self.new members }
         ensures unchanged { OnErr result (self.new ≡ self.old) }
     {
-        if self.at == self.array.as_bytes().len() {
+        let bytes = self.text.as_bytes();
+        if bytes[self.at] == b']' {
             return Ok(None);
         }
-        let (item, end) = item_at(alloc, self.array, self.at)?;
-        self.at = end + 1;
+        let (item, end) = item_at(alloc, self.text, self.at)?;
+        self.at = past_comma(bytes, end);
         Ok(Some(item))
+    }
+
+    /// The members before the array and those behind it, in their order.
+    pub fn members_around(
+        &self,
+        alloc: Global,
+        before: List<Member>,
+    ) -> Result<List<Member>, AllocError>
+        requires { (members : Items Pair) × AreBehind self.now members }
+        ensures { IfOk result (λ found. (members : Items Pair) → AreBehind self.now members → pairs found ≡ pairs before ++ members) }
+    {
+        let bytes = self.text.as_bytes();
+        let mut at = self.at;
+        while bytes[at] != b']' {
+            at = past_comma(bytes, next_end(bytes, at));
+        }
+        let mut found = before.into_vec();
+        push_members(
+            alloc,
+            &mut found,
+            self.text,
+            past_comma(bytes, at + 1),
+            None,
+        )?;
+        Ok(List::from_vec(found))
     }
 }
 
@@ -186,10 +229,21 @@ fn item_at(
 {
     let bytes = array.as_bytes();
     if bytes[at] == b'{' {
-        let (members, end) = members_at(alloc, array, at)?;
-        return Ok((Some(members), end));
+        let mut members = Vec::with_capacity(alloc, FEW)?;
+        let end = push_members(alloc, &mut members, array, at + 1, None)?;
+        return Ok((Some(List::from_vec(members)), end + 1));
     }
     Ok((None, next_end(bytes, at)))
+}
+
+/// Where the next item or member stands, or the closing bracket, behind the end of one.
+#[inline(always)]
+fn past_comma(bytes: &[u8], end: usize) -> usize
+    requires { end < length bytes.now }
+    ensures next { GoesOn bytes.now end result }
+    ensures within { (end ≤ result) × (result ≤ length bytes.now) }
+{
+    if bytes[end] == b',' { end + 1 } else { end }
 }
 
 /// The offset after the compact text that stands at an offset.

@@ -2,7 +2,7 @@
 use Rattle.std.proofs.Common.{◌≡◌, ℕ, ◌+◌, ◌<◌, Bool, true, false, List, [], ◌∷◌, length, get_or, Ordering, is_lt, bytes_eq, Contains, AllPairs, refl, sym, ap, ◌∙◌, subst₂, inl, inr, arith}
 use Rattle.std.proofs.lemmas.List.{length-map}
 use Rattle.std.specs.Cmp.{IsTotalOrder}
-use Rattle.std.specs.List.{AllByRecursion, IsDistinct}
+use Rattle.std.specs.List.{AllByRecursion, IsAllAdjacentAnswer, IsDistinct}
 use Rattle.std.specs.List.Sorted.{IsPermutation, IsSortedBy, IsStrictlySortedBy}
 use Rattle.std.specs.Cmp.Lexicographic.{nat_list_eq_equiv}
 use Rattle.std.specs.Ordering.{is_eq, ordering_reverse}
@@ -170,3 +170,23 @@ module _ {before : ElementValue → ElementValue → Bool} {R : ElementValue →
 
   pub in_order-from_sort : (es fs : List ElementValue) → HaveDistinctIds es → IsPermutation es fs → IsSortedBy before fs → fs ≡ in_order before es
   in_order-from_sort es fs apart moved up = only_sorted es fs apart moved (sorted_from_sort fs (HaveDistinctIds-permuted es fs moved apart) up)
+
+  -- ---- elements of which each comes before the next
+  pub pairs_from_neighbours : (es : List ElementValue) → IsAllAdjacentAnswer (λ e f b. b ≡ before e f) es true → AllPairs (λ e f. before e f ≡ true) es
+  pairs_from_neighbours [] h i j d l m = absurd (omega arith)
+  pairs_from_neighbours (e ∷ es) h i j d l m =
+      let up = sorted_from_all_adjacent o.total (e ∷ es) e (λ k n. less_from_before (get_or (e ∷ es) k e) (get_or (e ∷ es) (k + 1) e) (sym (h k e n))) in
+      o.less (get_or (e ∷ es) i d) (get_or (e ∷ es) j d) ∙ ap is_lt (Less-from_sorted R (e ∷ es) i j d up l m)
+
+  pub not_in_pairs : (es : List ElementValue) → IsAllAdjacentAnswer (λ e f b. b ≡ before e f) es false → AllPairs (λ e f. before e f ≡ true) es → ⊥
+  not_in_pairs [] h all = absurd (let l : h.0 + 1 < 0 = h.1 in omega arith)
+  not_in_pairs (e ∷ es) h all = both_ways (before (get_or (e ∷ es) h.0 e) (get_or (e ∷ es) (h.0 + 1) e)) (sym (h.2 e)) (all h.0 (h.0 + 1) e (omega arith) h.1)
+
+  -- the same elements, each of which comes before those behind it
+  pub in_order-same : (es fs : List ElementValue) → HaveDistinctIds es → ((e : ElementValue) → Contains fs e → Contains es e) → ((e : ElementValue) → Contains es e → Contains fs e)
+      → AllPairs (λ e f. before e f ≡ true) fs → fs ≡ in_order before es
+  in_order-same es fs apart to back h =
+      let moved = IsPermutation-in_order before es in
+      same_sorted o.total fs (in_order before es) (sorted_from_pairs fs h) (sorted-in_order es apart)
+      (λ e c. Contains-permutation es (in_order before es) e moved (to e c))
+      (λ e c. back e (Contains-permutation (in_order before es) es e (IsPermutation-sym es (in_order before es) moved) c))

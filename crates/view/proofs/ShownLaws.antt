@@ -1,7 +1,7 @@
 -- What is shown: the live elements in scene order, with rising keys, and settled; and the view of a view is that view.
 use Rattle.std.proofs.Common.{◌≡◌, ℕ, zero, suc, ◌+◌, ◌<◌, Bool, true, false, ◌&&◌, cond, List, [], ◌∷◌, ◌++◌, length, map, get_or, take, append-nil, Option, Some, None, bytes_eq, refl, sym, ap, ap₂, ◌∙◌, subst, subst₂, arith}
 use Rattle.std.proofs.lemmas.List.{length-map}
-use Rattle.std.specs.Prelude.{filter, slice_get}
+use Rattle.std.specs.Prelude.{Contains, filter, slice_get}
 use Rattle.std.specs.List.{AllByRecursion, IsDistinct, list_all}
 use Rattle.std.specs.List.Sorted.{IsPermutation}
 use Rattle.std.specs.Cmp.Lexicographic.{nat_list_eq_equiv}
@@ -9,7 +9,7 @@ use Rattle.std.proofs.lemmas.Bool.{and_from, and_parts, or_left, cond-true, cond
 use Rattle.std.proofs.lemmas.Slice.Eq.{bytes_eq-Decides}
 use Rattle.std.proofs.lemmas.List.Elements.{All-from_recursion, filter_more, filter_passes}
 use Rattle.std.proofs.lemmas.Option.{get_or_from_slice_get, slice_get_within}
-use Rattle.std.proofs.lemmas.List.Kept.{AllPairs-cons}
+use Rattle.std.proofs.lemmas.List.Kept.{AllPairs-cons, AllPairs-filter}
 use Rattle.std.proofs.lemmas.Map.Keys.{IsDistinct-IsPermutation}
 use Rattle.std.proofs.lemmas.List.Sums.{AllPass-from_list_all, list_all-from_AllPass}
 use Rattle.std.proofs.lemmas.List.Sorted.{IsPermutation-refl, IsPermutation-sym, IsPermutation-map, All-permutation}
@@ -20,13 +20,14 @@ use Rattle.index_repair.specs.Repair.{repaired}
 use Rattle.index_repair.proofs.RepairLaws.{repaired-law, repaired-rising}
 use Rattle.elem.specs.ElementValue.{ElementValue}
 use Rattle.elem_store.specs.Updates.{ids_of}
+use Rattle.elem_store.proofs.Lists.{Contains-filter, filter-Contains}
 use Rattle.elem_store.proofs.Rising.{less-other}
 use Rattle.elem.specs.Order.{HaveDistinctIds}
 use Rattle.view.specs.Shown.{is_live, live_elements, place_less, comes_before, in_scene_order, AreInSceneOrder, IsSceneOrder, index_of, keyed, placed, shown, bare, HaveKeysOrNone, HaveRisingKeys, without_index, IsView}
 use Rattle.links.proofs.Members.{map-map}
 use Rattle.view.specs.Settled.{settled, unsettled, AreSettled}
 use Rattle.view.proofs.SettledLaws.{map-less, unsettled-settled, settled-are, settled-again}
-use Rattle.view.proofs.InOrder.{in_order-only, in_order-permuted, HaveDistinctIds-permuted}
+use Rattle.view.proofs.InOrder.{in_order-only, in_order-same, in_order-permuted, HaveDistinctIds-permuted}
 use Rattle.view.proofs.SceneOrder.{scene_order, IsPermutation-in_scene_order, in_scene_order-is}
 
 -- ---- ids that rise
@@ -166,18 +167,29 @@ unfolding placed
 placed-permuted live others apart moved = ap (λ ordered. keyed ordered (repaired (map index_of ordered))) (in_order-permuted scene_order live others apart moved)
 
 -- ---- elements that are placed stay in their places
+pub keyed-rising : (es : List ElementValue) → HaveRisingKeys es → keyed es (repaired (map index_of es)) ≡ es
+keyed-rising es h = ap (keyed es) (ap repaired h.each ∙ repaired-rising h.keys h.rise) ∙ keyed-own es h.keys h.each
+
 placed-rising : (es : List ElementValue) → HaveDistinctIds es → HaveRisingKeys es → placed es ≡ es
 unfolding placed
 placed-rising es apart h =
     let sorted : in_scene_order es ≡ es = sym (in_order-only scene_order es es apart (IsPermutation-refl es) (AreInSceneOrder-from_keys es h)) in
-    let keys : repaired (map index_of es) ≡ h.keys = ap repaired h.each ∙ repaired-rising h.keys h.rise in
-    ap (λ ordered. keyed ordered (repaired (map index_of ordered))) sorted ∙ (ap (keyed es) keys ∙ keyed-own es h.keys h.each)
+    ap (λ ordered. keyed ordered (repaired (map index_of ordered))) sorted ∙ keyed-rising es h
 
 all_pass : {X : Type 0} (p : X → Bool) (xs : List X) → list_all p xs ≡ true → filter p xs ≡ xs
 all_pass p [] h = refl
 all_pass p (x ∷ xs) h =
     let both = and_parts (p x) (list_all p xs) h in
     cond-true (p x) (x ∷ filter p xs) (filter p xs) both.0 ∙ ap (λ ys. x ∷ ys) (all_pass p xs both.1)
+
+-- the live ones of elements that came in scene order
+pub given-ordered : (stored given : List ElementValue) → HaveDistinctIds (live_elements stored) → ((e : ElementValue) → Contains given e → Contains stored e) → ((e : ElementValue) → Contains stored e → Contains given e)
+    → AreInSceneOrder given → filter is_live given ≡ in_scene_order (live_elements stored)
+given-ordered stored given apart to back h =
+    in_order-same scene_order (live_elements stored) (filter is_live given) apart
+    (λ e c. let among = filter-Contains is_live given e c in Contains-filter is_live stored e (to e among.0) among.1)
+    (λ e c. let among = filter-Contains is_live stored e c in Contains-filter is_live given e (back e among.0) among.1)
+    (AllPairs-filter (λ e f. comes_before e f ≡ true) is_live given h)
 
 -- ---- what is shown of live elements
 list_all-of : {X : Type 0} (p : X → Bool) (xs : List X) → list_all p xs ≡ list_all (λ (b : Bool). b) (map p xs)

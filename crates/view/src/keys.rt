@@ -1,8 +1,10 @@
 //! Repaired keys for elements that stand in some order.
 
-ghost use Rattle.std.specs.Prelude.{◌≡◌, map, IfOk};
+ghost use Rattle.std.specs.Prelude.{◌≡◌, Some, true, false, map, option_copied, IfOk};
+ghost use Rattle.frac_keys.specs.Keys.{is_key};
+ghost use Rattle.frac_keys.specs.Rising.{ends_rise};
 ghost use Rattle.index_repair.specs.Repair.{repaired};
-ghost use Rattle.view.specs.Shown.{index_of, keyed, with_index, HaveKeysOrNone};
+ghost use Rattle.view.specs.Shown.{index_of, keyed, with_index, HaveKeysOrNone, HaveRisingKeys};
 
 use board_io::{List, change_each};
 use elem::Element;
@@ -10,15 +12,47 @@ use frac_keys::Key;
 use index_repair::repair;
 use std::alloc::{AllocError, Global};
 
-/// The elements in their order, each with the key that repair gives its position. Fails only for want of memory.
+/// The elements in their order, each with the key that repair gives its position, which is its own where all keys rise.
+/// Fails only for want of memory.
 pub fn with_repaired_keys(alloc: Global, elements: Vec<Element>) -> Result<Vec<Element>, AllocError>
     ensures exact { IfOk result (λ new. new.items ≡ keyed elements.items (repaired (map index_of elements.items))) }
     ensures old_keys { IfOk result (λ _. HaveKeysOrNone elements.items) }
 {
+    if have_rising_keys(&elements) {
+        return Ok(elements);
+    }
     let keys = repair(alloc, &indices_of(alloc, &elements)?)?;
     let mut keyed = elements;
     change_each(&mut keyed, keys.into_vec(), set_index);
     Ok(keyed)
+}
+
+/// Whether each element has a key that is greater than the one before it.
+fn have_rising_keys(elements: &Vec<Element>) -> bool
+    ensures rising { result ≡ true → HaveRisingKeys elements.now.items }
+    ensures not_rising { result ≡ false → HaveRisingKeys elements.now.items → ⊥ }
+    ensures keys { result ≡ true → HaveKeysOrNone elements.now.items }
+{
+    let mut low = None;
+    for e in elements {
+        match &e.index {
+            Some(key) if is_above(low, key) => low = Some(key),
+            _ => return false,
+        }
+    }
+    true
+}
+
+/// Whether a key is greater than the one given, if there is one.
+fn is_above(low: Option<&Key>, key: &Key) -> bool
+    ensures above { result ≡ ends_rise (option_copied low.entry) (Some key.now) }
+    ensures key { is_key key.now ≡ true }
+{
+    let _bytes = key.as_bytes();
+    match low {
+        Some(low) => low < key,
+        None => true,
+    }
 }
 
 /// The indices of the elements, copied.

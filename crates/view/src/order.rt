@@ -1,9 +1,9 @@
 //! Elements in scene order.
 
-ghost use Rattle.std.specs.Prelude.{◌≡◌, OnOk, IsPermutation};
+ghost use Rattle.std.specs.Prelude.{◌≡◌, true, false, OnOk, IsPermutation};
 ghost use Rattle.std.specs.Ordering.{is_lt};
 ghost use Rattle.elem.specs.Order.{HaveDistinctIds};
-ghost use Rattle.view.specs.Shown.{comes_before, in_scene_order};
+ghost use Rattle.view.specs.Shown.{comes_before, in_scene_order, AreInSceneOrder};
 ghost use Rattle.view.specs.Spots.{elements_of};
 
 use elem::Element;
@@ -24,6 +24,14 @@ pub(crate) fn sort(spots: &mut Vec<Spot<'_>>) -> Result<(), AllocError>
     ensures permutation { IsPermutation spots.old.items spots.new.items }
 {
     spots.sort_by(|spot, other| scene_order(spot.element, other.element))
+}
+
+/// Whether each of the elements comes before those behind it.
+pub(crate) fn are_in_order(elements: &[Element]) -> bool
+    ensures in_order { result ≡ true → AreInSceneOrder elements.now }
+    ensures not_in_order { result ≡ false → AreInSceneOrder elements.now → ⊥ }
+{
+    elements.is_sorted_by(|e, next| scene_order(e, next).is_lt())
 }
 
 /// The order of a scene: by index, none last, and then by id.

@@ -1,6 +1,6 @@
 //! The view of a board.
 
-ghost use Rattle.std.specs.Prelude.{◌≡◌, ◌≢◌, List as Items, true, length, filter_map, map, slice_get, Some, All, AllPairs, IfOk, IfSome, IsPermutation, bytes_eq, IsTrue, option_copied};
+ghost use Rattle.std.specs.Prelude.{◌≡◌, ◌≢◌, List as Items, true, length, filter, filter_map, map, slice_get, Some, All, AllPairs, IfOk, IfSome, IsPermutation, bytes_eq, IsTrue, option_copied};
 ghost use Rattle.frac_keys.specs.Rising.{are_rising};
 ghost use Rattle.index_repair.specs.Repair.{repaired};
 ghost use Rattle.elem.specs.ElementValue.{ElementValue};
@@ -11,7 +11,7 @@ ghost use Rattle.view.specs.Spots.{elements_of, indices_of, AreSpotsIn};
 ghost use Rattle.view.specs.Shown.{as_stored, in_scene_order, index_of, is_live, keyed, live_elements, shown, HaveKeysOrNone, HaveRisingKeys, IsSceneOrder, bare};
 
 use crate::keys::with_repaired_keys;
-use crate::order::{Spot, sort};
+use crate::order::{Spot, are_in_order, sort};
 use board_io::List;
 use elem::{Element, same};
 use elem_store::Store;
@@ -106,13 +106,26 @@ pub fn into_shown(alloc: Global, store: Store) -> Result<List<Element>, AllocErr
     Ok(elements)
 }
 
-/// The live elements of a store in scene order, moved out of it.
+/// The live elements of a store in scene order, moved out of it. Where they came in this order, they are in their places.
 fn ordered_of(alloc: Global, store: Store) -> Result<Vec<Element>, AllocError>
     ensures exact { IfOk result (λ ordered. ordered.items ≡ in_scene_order (live_elements store.elements)) }
     ensures live { IfOk result (λ _. HaveDistinctIds (live_elements store.elements)) }
 {
+    store.tell();
+    if are_in_order(store.given()) {
+        return Ok(live_given(store));
+    }
     let order = order_of(alloc, &store)?;
     store.into_elements_at(alloc, order.as_slice())
+}
+
+/// The live elements of a store in the order in which their ids came, moved out of it.
+fn live_given(store: Store) -> Vec<Element>
+    ensures { result.items ≡ filter is_live store.given }
+{
+    let mut elements = store.into_given();
+    elements.retain(is_live);
+    elements
 }
 
 /// Where the live elements of a store stand in it, in scene order.

@@ -1,23 +1,21 @@
-use Rattle.std.proofs.Common.{◌≡◌, ◌++◌, take, drop, sym, ap, ◌∙◌, subst}
-use Rattle.std.specs.Str.{IsUtf8}
-use Rattle.std.proofs.lemmas.List.Elements.{All-same}
-use Rattle.json_text.specs.Members.{pairs}
-use Rattle.json_text.specs.declared.text.Member.{Member}
-use Rattle.elem.specs.Printing.{IsBegun, members_below}
-use Rattle.elem.proofs.Merging.{members_below-take, members_not_below-drop}
+use Rattle.std.proofs.Common.{◌≡◌, [], ◌∙◌, refl, ap, sym, subst}
+use Rattle.std.proofs.lemmas.List.{nil_from_length}
+use Rattle.elem.specs.Printing.{members_below}
+use Rattle.elem.proofs.Merging.{Passed, passed-more, passed-named}
 use Rattle.elem.proofs.object.push_below.Goals as goal
-use Rattle.elem.proofs.object.push_below.Goals.{In_ok-push_members}
 
-below : (c : In_ok-push_members) → c.split_at.result.0.now ≡ members_below c.args.name.now c.args.members.now
-below c = c.split_at.ensures.front ∙ ap (λ n. take n c.args.members.now) c.count_below.ensures.count ∙ members_below-take c.args.name.now c.args.members.now
+pub returns-then-not-is_below-clause-named : goal.returns-then-not-is_below-clause-named
+returns-then-not-is_below-clause-named c =
+    let none : members_below c.args.name.now c.loop-member.left.now ≡ [] = rw (c.in-Some.ensures.cases.0, sym c.is_below.ensures ∙ c.if-not-is_below.true) refl in
+    passed-named c.args.name.now c.args.start c.args.out.now.items c.loop-member.out.items c.args.members.now c.loop-member.left.now c.loop-member.invariant none
 
-pub returns-clause-begun : goal.returns-clause-begun
-returns-clause-begun c = λ before first at is.
-    subst (λ ms. IsBegun before (first ++ pairs ms) c.push_members.new.out.items) (below c) (c.in_ok-push_members.ensures.begun before first at is)
-
-pub returns-clause-left : goal.returns-clause-left
-returns-clause-left c =
-    c.split_at.ensures.back ∙ ap (λ n. drop n c.args.members.now) c.count_below.ensures.count ∙ members_not_below-drop c.args.name.now c.args.members.now
+pub loop-member-preserved : goal.loop-member-preserved
+loop-member-preserved c =
+    passed-more c.args.name.now c.args.start c.args.out.now.items c.loop-member.out.items c.push_mark.new.out.items c.push_member.new.out.items c.args.members.now c.in-Some.others.now c.in-Some.member.now
+    (subst (Passed c.args.name.now c.args.start c.args.out.now.items c.loop-member.out.items c.args.members.now) c.in-Some.ensures.cases.0 c.loop-member.invariant)
+    (sym c.is_below.ensures ∙ c.if-not-is_below.false) c.in_ok-push_member.ensures.utf8 c.in_ok-push_mark.ensures.ok c.in_ok-push_member.ensures.ok
 
 pub returns-clause-named : goal.returns-clause-named
-returns-clause-named c = All-same (λ (m : Member). IsUtf8 m.name) _ _ (sym (below c)) c.in_ok-push_members.ensures.named
+returns-clause-named c =
+    let none : members_below c.args.name.now c.loop-member.left.now ≡ [] = ap (members_below c.args.name.now) (nil_from_length _ c.in_default.ensures.cases) in
+    passed-named c.args.name.now c.args.start c.args.out.now.items c.loop-member.out.items c.args.members.now c.loop-member.left.now c.loop-member.invariant none

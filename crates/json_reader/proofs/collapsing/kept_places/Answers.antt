@@ -1,4 +1,4 @@
-use Rattle.std.proofs.Common.{◌≡◌, ◌<◌, ℕ, List, length, Some, get_or, sym, ap, ◌∙◌, arith}
+use Rattle.std.proofs.Common.{◌≡◌, ℕ, List, length, Some, get_or, sym, ap, ◌∙◌, arith}
 use Rattle.std.proofs.lemmas.Map.Text.{btree_map_updates_str}
 use Rattle.std.specs.BTreeMap.{get_by}
 use Rattle.std.specs.Cmp.Lexicographic.{slice_cmp}
@@ -23,13 +23,12 @@ loop-place-preserved c =
     let l = c.loop-place in
     let bytes = c.args.bytes.now in
     let places = c.args.places.now in
-    let here : l.place-index < length places = omega arith in
     let is = found (goal.at.loop-place-preserved c).After-copied in
     elim c.match-copied.branch [
       | in-Some w ↦
-          rw (w.kept-is, w.keep_last.ensures, w.known-is, w.repeats-is) (kept_last bytes places l.kept.items l.place-index _ l.repeats l.invariant here c.requires w.in-Some.first (sym is ∙ w.in-Some.is) _)
+          rw (w.kept-is, w.keep_last.ensures, w.known-is, w.repeats-is) (kept_last bytes places l.kept.items l.place-index _ l.repeats l.invariant (omega arith) c.requires w.in-Some.first (sym is ∙ w.in-Some.is) _)
       | in-None+in_ok-insert-in-None+in_ok-push-in-None w ↦
           let count : w.len.result ≡ length l.kept.items = omega arith in
-          rw (w.kept-is, w.in_ok-push-in-None.ensures.items, w.known-is, w.repeats-is) (kept_new bytes places l.kept.items l.place-index _ l.repeats l.invariant here c.requires (sym is ∙ w.in-None.is) _
+          rw (w.kept-is, w.in_ok-push-in-None.ensures.items, w.known-is, w.repeats-is) (kept_new bytes places l.kept.items l.place-index _ l.repeats l.invariant (omega arith) c.requires (sym is ∙ w.in-None.is) _
           (λ q. rw (← count, ← c.bytes_at-name.ensures) (btree_map_updates_str c.bytes_at-name.result.now l.known w.insert.new.self (Some w.len.result) w.in_ok-insert-in-None.ensures.updates q)))
     ]

@@ -3,8 +3,7 @@ use Rattle.json_reader.proofs.reader.put.Goals as goal
 
 pub put-requires-clause-can : goal.put-requires-clause-can
 put-requires-clause-can c =
-    let r = c.requires.read in
-    can_put c.args.bytes.now r.0 c.args.next r.1 c.args.writer.now r.2 c.args.machine.now c.requires.within r.3
+    can_put c.args.bytes.now c.requires.read.0 c.args.next c.requires.read.1 c.args.writer.now c.requires.read.2 c.args.machine.now c.requires.within c.requires.read.3
 
 pub returns : goal.returns
 returns c at before read goes =

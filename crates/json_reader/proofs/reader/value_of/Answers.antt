@@ -6,14 +6,12 @@ use Rattle.json_reader.proofs.reader.value_of.Goals as goal
 
 pub into_text-requires-clause-whole : goal.into_text-requires-clause-whole
 into_text-requires-clause-whole c =
-    let r = c.requires in
-    let v = value-written c.args.bytes.now r.0 c.args.end r.1 c.args.writer r.2 r.3 in
+    let v = value-written c.args.bytes.now c.requires.0 c.args.end c.requires.1 c.args.writer c.requires.2 c.requires.3 in
     (v.0, v.2)
 
 pub from_compact-requires : goal.from_compact-requires
 from_compact-requires c =
-    let r = c.requires in
-    let v = value-written c.args.bytes.now r.0 c.args.end r.1 c.args.writer r.2 r.3 in
+    let v = value-written c.args.bytes.now c.requires.0 c.args.end c.requires.1 c.args.writer c.requires.2 c.requires.3 in
     subst (IsCompact 128) (sym (c.in_ok-into_text.ensures v.0 v.2)) (Value-compact v.1.reads)
 
 pub returns : goal.returns

@@ -1,18 +1,11 @@
-use Rattle.std.proofs.Common.{◌≡◌, map, ap, ◌∙◌}
-use Rattle.std.specs.List.{zip}
+use Rattle.std.proofs.Common.{◌≡◌, ap, ◌∙◌}
 use Rattle.links.specs.Arrows.{settled_arrows}
-use Rattle.links.specs.Tables.{links_of, with_links}
 use Rattle.links.proofs.ArrowLaws.{ArrowsAgree-settled, TextsAgree-settled, HaveOneText-settled, NameTargets-settled, settled_arrows-again, settled_texts-linked}
 use Rattle.links.proofs.SettledLaws.{unlinked-arrows, distinct-arrows}
-use Rattle.links.proofs.Tabled.{zip-map}
 use Rattle.links.proofs.settle.settle_arrows.Goals as goal
 
 exact : (c : goal.After-from_vec) → c.from_vec.result ≡ settled_arrows c.args.list
-exact c =
-    c.from_vec.ensures ∙ c.change_each.ensures with_links (λ e v new changed. changed)
-    ∙ ap (λ links. map (λ p. with_links p.0 p.1) (zip c.into_vec-list.result.items links)) c.in_ok-links.ensures
-    ∙ zip-map (links_of c.into_vec-list.result.items) with_links c.into_vec-list.result.items
-    ∙ ap settled_arrows c.into_vec-list.ensures
+exact c = c.from_vec.ensures ∙ (c.in_ok-settle_links.ensures ∙ ap settled_arrows c.into_vec-list.ensures)
 
 pub returns-clause-exact : goal.returns-clause-exact
 returns-clause-exact c = exact c

@@ -1,18 +1,11 @@
-use Rattle.std.proofs.Common.{◌≡◌, map, ap, ◌∙◌}
-use Rattle.std.specs.List.{zip}
-use Rattle.links.specs.Tables.{with_container}
-use Rattle.links.specs.Texts.{keeps_container, settled_texts}
+use Rattle.std.proofs.Common.{◌≡◌, ap, ◌∙◌}
+use Rattle.links.specs.Texts.{settled_texts}
 use Rattle.links.proofs.SettledLaws.{unlinked-texts, distinct-texts}
-use Rattle.links.proofs.Tabled.{zip-map}
 use Rattle.links.proofs.TextLaws.{settled_texts-again}
 use Rattle.links.proofs.settle.settle_texts.Goals as goal
 
 exact : (c : goal.After-from_vec) → c.from_vec.result ≡ settled_texts c.args.list
-exact c =
-    c.from_vec.ensures ∙ c.change_each.ensures with_container (λ e v new changed. changed)
-    ∙ ap (λ kept. map (λ p. with_container p.0 p.1) (zip c.into_vec-list.result.items kept)) c.in_ok-kept.ensures
-    ∙ zip-map (keeps_container c.into_vec-list.result.items) with_container c.into_vec-list.result.items
-    ∙ ap settled_texts c.into_vec-list.ensures
+exact c = c.from_vec.ensures ∙ (c.in_ok-settle_containers.ensures ∙ ap settled_texts c.into_vec-list.ensures)
 
 pub returns-clause-exact : goal.returns-clause-exact
 returns-clause-exact c = exact c

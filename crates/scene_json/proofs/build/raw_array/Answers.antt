@@ -1,4 +1,4 @@
-use Rattle.std.proofs.Common.{◌≡◌, [], ◌∷◌, ◌+◌, ◌≤◌, length, arith, ◌∙◌, sym, subst}
+use Rattle.std.proofs.Common.{◌≡◌, [], ◌∷◌, ◌+◌, arith, ◌∙◌, sym, subst}
 use Rattle.std.proofs.lemmas.List.Elements.{recursion_from_All}
 use Rattle.std.proofs.lemmas.Result.{IfOk-weaker}
 use Rattle.json_text.specs.Compact.{array_text}
@@ -14,8 +14,7 @@ loop-i-preserved c =
 
 written : (c : In_ok-push-2) → c.push-2.new.self.items ≡ array_text c.args.items.now
 written c =
-    let past : length c.as_slice-item-items.result.now ≤ c.loop-i.i = omega arith in
-    rw (← c.as_slice-item-items.ensures) (array-written c.as_slice-item-items.result.now c.loop-i.i _ _ past c.loop-i.invariant c.in_ok-push-2.ensures.items)
+    rw (← c.as_slice-item-items.ensures) (array-written c.as_slice-item-items.result.now c.loop-i.i _ _ (omega arith) c.loop-i.invariant c.in_ok-push-2.ensures.items)
 
 pub from_compact-requires : goal.from_compact-requires
 from_compact-requires c = rw (written c) (array-compact 127 c.args.items.now (recursion_from_All (IsCompact 127) _ c.requires))

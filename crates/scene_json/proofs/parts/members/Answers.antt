@@ -1,24 +1,37 @@
-use Rattle.std.proofs.Common.{◌≡◌, List, [], append-nil, refl, sym, ap, ◌∙◌, rules}
+use Rattle.std.proofs.Common.{◌≡◌, ◌++◌, List, ℕ, [], drop, append-nil, refl, sym, ap, ◌∙◌}
 use Rattle.json_text.specs.Parts.{AreMembers}
 use Rattle.json_text.specs.Compact.{Member as Pair, object_text}
+use Rattle.json_text.specs.Members.{pairs}
 use Rattle.json_text.proofs.CompactLaws.{Value-Form}
 use Rattle.json_text.proofs.Forms.{starts-same, object-starts, form-membered}
+use Rattle.scene_json.specs.Passes.{StandHere}
+use Rattle.scene_json.proofs.MembersLeft.{object-opened, all-ended}
 use Rattle.scene_json.proofs.parts.members.Goals as goal
+use Rattle.scene_json.proofs.parts.members.Goals.{After-found-1}
 
 pub returns-then-not-begins_with-clause-shape : goal.returns-then-not-begins_with-clause-shape
 returns-then-not-begins_with-clause-shape c =
-    λ _ others e.
-    let starts = object-starts others in
-    c.if-not-begins_with.ensures.no refl starts.0 (c.as_bytes.ensures.value ∙ e ∙ starts.1)
+    λ _ others e. c.if-not-begins_with.ensures.no refl (object-starts others).0 (c.as_bytes.ensures.value ∙ e ∙ (object-starts others).1)
 
-pub members_at-requires : goal.members_at-requires
-members_at-requires c =
-    let form = form-membered 128 c.args.value.now (Value-Form c.as_bytes.ensures.compact) (starts-same 123 c.as_bytes.ensures.value (c.if-not-begins_with.ensures.yes refl)) in
-    (form.0, [], form.1, form.2 ∙ sym (append-nil (object_text form.0)))
+whole : (c : After-found-1) → (all : List Pair) × AreMembers 127 all × (c.args.value.now ≡ object_text all)
+whole c = form-membered 128 c.args.value.now (Value-Form c.as_bytes.ensures.compact) (starts-same 123 c.as_bytes.ensures.value (c.if-not-begins_with.ensures.yes refl))
 
-pub returns : goal.returns
-returns c =
-    let form = form-membered 128 c.args.value.now (Value-Form c.as_bytes.ensures.compact) (starts-same 123 c.as_bytes.ensures.value (c.if-not-begins_with.ensures.yes refl)) in
-    let only = λ (others : List Pair) (are : AreMembers 127 others) (e : c.args.value.now ≡ object_text others). (c.in_ok-found.ensures.found others [] are (e ∙ sym (append-nil (object_text others)))).0 in
-    let found = only form.0 form.1 form.2 in
-    record { spelled = form.2 ∙ ap object_text (sym found); kept = rw found form.1; only = only; shape = search rules }
+opened : (value : List ℕ) (all : List Pair) → AreMembers 127 all → value ≡ object_text all → StandHere (drop 1 value) all []
+opened value all are e = object-opened value 0 all [] are (e ∙ sym (append-nil (object_text all)))
+
+pub push_members-requires : goal.push_members-requires
+push_members-requires c = let w = whole c in (w.0, [], opened c.args.value.now w.0 w.1 w.2)
+
+found : (c : goal.After-from_vec) (all : List Pair) → AreMembers 127 all → c.args.value.now ≡ object_text all → pairs c.from_vec.result ≡ all
+found c all are e =
+    let f = c.in_ok-push_members.ensures.found all [] (opened c.args.value.now all are e) in
+    ap pairs c.from_vec.ensures ∙ f.1 ∙ ap (λ ms. pairs ms ++ f.0) c.new-found.ensures.items ∙ (all-ended f.2).0
+
+pub returns-clause-spelled : goal.returns-clause-spelled
+returns-clause-spelled c = let w = whole (goal.at.returns-clause-spelled c).After-found-1 in w.2 ∙ ap object_text (sym (found c w.0 w.1 w.2))
+
+pub returns-clause-kept : goal.returns-clause-kept
+returns-clause-kept c = let w = whole (goal.at.returns-clause-kept c).After-found-1 in rw (found c w.0 w.1 w.2) w.1
+
+pub returns-clause-only : goal.returns-clause-only
+returns-clause-only c = found c

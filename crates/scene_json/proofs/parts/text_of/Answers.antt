@@ -6,9 +6,7 @@ use Rattle.scene_json.proofs.parts.text_of.Goals as goal
 
 pub returns-then-not-begins_with-clause-shape : goal.returns-then-not-begins_with-clause-shape
 returns-then-not-begins_with-clause-shape c =
-    λ _ other e.
-    let starts = quote-starts other in
-    c.if-not-begins_with.ensures.no refl starts.0 (c.as_bytes-bytes.ensures.value ∙ e ∙ starts.1)
+    λ _ other e. c.if-not-begins_with.ensures.no refl (quote-starts other).0 (c.as_bytes-bytes.ensures.value ∙ e ∙ (quote-starts other).1)
 
 pub text_at-requires : goal.text_at-requires
 text_at-requires c =

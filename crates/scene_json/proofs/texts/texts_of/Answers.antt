@@ -1,4 +1,4 @@
-use Rattle.std.proofs.Common.{◌≡◌, ◌<◌, [], ◌∷◌, ◌++◌, Ok, IsUtf8, get_or, length, map, take, take_all, sym, ap, ◌∙◌, arith, rules}
+use Rattle.std.proofs.Common.{◌≡◌, [], ◌∷◌, Ok, IsUtf8, get_or, map, take_all, sym, ap, ◌∙◌, arith, rules}
 use Rattle.std.proofs.lemmas.List.{take_more, map-append, length-map, get_or-map}
 use Rattle.std.proofs.lemmas.List.Elements.{All-push, recursion_from_All}
 use Rattle.json_text.specs.Characters.{quote}
@@ -10,9 +10,8 @@ pub returns-in-None : goal.returns-in-None
 returns-in-None c = λ others h.
     let only = rw (c.in_ok-items.ensures.found c.in-Some.items (ap Ok c.in-Some.is)) at c.items.ensures.only in
     let listed : c.as_slice-item-items.result.now ≡ map quote others = c.as_slice-item-items.ensures ∙ only (map quote others) (quotes-compact others h.0) h.1 in
-    let within : c.loop-item.item-index < length others = omega (arith, simp length-map at (ap length listed)) in
     c.text_of.ensures.shape (c.in_ok-text.ensures.none (ap Ok c.in-None.is)) (get_or others c.loop-item.item-index [])
-    (c.item-item.is ∙ ap (λ items. get_or items c.loop-item.item-index c.item-item.result) listed ∙ get_or-map quote others c.loop-item.item-index [] c.item-item.result within)
+    (grind (arith, c.item-item.is, listed, length-map others quote, get_or-map quote others c.loop-item.item-index [] c.item-item.result))
 
 pub loop-item-preserved : goal.loop-item-preserved
 loop-item-preserved c =
@@ -21,8 +20,7 @@ loop-item-preserved c =
     let texts = c.loop-item.texts.items in
     rw c.in_ok-push-in-Some-2.ensures.items (record {
       utf8 = All-push IsUtf8 texts c.in-Some-2.text c.loop-item.invariant.utf8 (search rules);
-      quoted = take_more c.as_slice-item-items.result.now c.loop-item.item-index c.item-item.result (omega arith)
-          ∙ ap (λ item. take c.loop-item.item-index c.as_slice-item-items.result.now ++ item ∷ []) (sym c.item-item.is ∙ quoted) ∙ ap (λ items. items ++ quote c.in-Some-2.text ∷ []) c.loop-item.invariant.quoted ∙ sym (map-append quote texts (c.in-Some-2.text ∷ []));
+      quoted = grind (arith, take_more c.as_slice-item-items.result.now c.loop-item.item-index c.item-item.result, c.item-item.is, quoted, c.loop-item.invariant.quoted, map-append quote texts (c.in-Some-2.text ∷ []));
     })
 
 pub returns : goal.returns

@@ -1,10 +1,11 @@
-use Rattle.std.proofs.Common.{◌≡◌, ℕ, List, [], ◌∷◌, Option, true, length, map, refl, ap, ◌∙◌, subst}
+use Rattle.std.proofs.Common.{◌≡◌, ℕ, List, [], ◌∷◌, Option, true, length, map, refl, sym, ap, ◌∙◌, subst}
 use Rattle.std.specs.List.{zip, list_all}
 use Rattle.std.proofs.lemmas.List.{length-map}
 use Rattle.frac_keys.specs.Rising.{is_key_or_none}
 use Rattle.index_repair.specs.Repair.{repaired}
 use Rattle.elem.specs.ElementValue.{ElementValue}
 use Rattle.view.specs.Shown.{index_of, keyed, with_index}
+use Rattle.view.proofs.ShownLaws.{keyed-rising}
 use Rattle.view.proofs.keys.with_repaired_keys.Goals as goal
 
 keyed-zip : (es : List ElementValue) (keys : List (List ℕ)) → map (λ (p : ElementValue × List ℕ). with_index p.0 p.1) (zip es keys) ≡ keyed es keys
@@ -15,6 +16,9 @@ keyed-zip (e ∷ es) (key ∷ keys) = ap (λ fs. with_index e key ∷ fs) (keyed
 
 pub change_each-requires-clause-one_each : goal.change_each-requires-clause-one_each
 change_each-requires-clause-one_each c = ap length c.into_vec.ensures ∙ c.in_ok-keys.ensures.count ∙ ap length c.in_ok-indices_of.ensures ∙ length-map c.args.elements.items index_of
+
+pub returns-then-have_rising_keys-clause-exact : goal.returns-then-have_rising_keys-clause-exact
+returns-then-have_rising_keys-clause-exact c = sym (keyed-rising c.args.elements.items (c.have_rising_keys.ensures.rising c.if-have_rising_keys.true))
 
 pub returns-clause-exact : goal.returns-clause-exact
 returns-clause-exact c =

@@ -1,6 +1,6 @@
 -- A search ends at the element of the id, or where there is none.
 use Rattle.std.proofs.Common.{sym, ap, ◌∙◌}
-use Rattle.elem_store.specs.Stock.{Stock}
+use Rattle.elem_store.specs.Stock.{Held}
 use Rattle.elem_store.specs.Updates.{element_of}
 use Rattle.elem_store.proofs.Edits.{element-gap}
 use Rattle.elem_store.proofs.Placed.{element-found}
@@ -12,4 +12,4 @@ returns-in-Ok c =
 
 pub returns-in-Err : goal.returns-in-Err
 returns-in-Err c =
-    sym (element-gap _ c.args.id.now c.in-Err.field-0 c.in-Err.ensures.absent) ∙ ap (λ (s : Stock). element_of s.elements c.args.id.now) c.self.view_is
+    sym (element-gap _ c.args.id.now c.in-Err.field-0 c.in-Err.ensures.absent) ∙ ap (λ (s : Held). element_of s.elements c.args.id.now) c.self.view_is

@@ -6,7 +6,7 @@ use Rattle.elem.specs.ElementValue.{ElementValue}
 use Rattle.elem.specs.Facts.{IsElement}
 use Rattle.elem.specs.Said.{HasValidTexts}
 use Rattle.elem_store.specs.Updates.{is_taken}
-use Rattle.elem_store.specs.Stock.{Stock}
+use Rattle.elem_store.specs.Stock.{Held}
 use Rattle.elem_store.specs.Places.{elements_at, IsAt, IsGapFor}
 use Rattle.elem_store.proofs.StoreLaws.{AreStored-push}
 use Rattle.elem_store.proofs.Edits.{element-gap, is_taken-gap}
@@ -60,7 +60,7 @@ returns-in-Ok-clause-taken c =
     let s = c.self.inside in
     c.replace_beaten.ensures.beaten
     ∙ sym (taken-replaced s.elements.items s.places.places c.self.invariant.in_order c.args.e c.in-Ok.i c.unwrap-place.result (at (goal.at.returns-in-Ok-clause-taken c).In-Ok) (place-read (goal.at.returns-in-Ok-clause-taken c).After-unwrap-place))
-    ∙ ap (λ (s : Stock). is_taken s.elements c.args.e) c.self.view_is
+    ∙ ap (λ (s : Held). is_taken s.elements c.args.e) c.self.view_is
 
 pub add-requires : goal.add-requires
 add-requires c =
@@ -87,8 +87,8 @@ returns-in_ok-add-in-Err-clause-stored c updates stored =
 
 pub returns-in_ok-add-in-Err-clause-taken : goal.returns-in_ok-add-in-Err-clause-taken
 returns-in_ok-add-in-Err-clause-taken c =
-    sym (is_taken-gap _ c.args.e c.in-Err.i (gap (goal.at.returns-in_ok-add-in-Err-clause-taken c).In-Err)) ∙ ap (λ (s : Stock). is_taken s.elements c.args.e) c.self.view_is
+    sym (is_taken-gap _ c.args.e c.in-Err.i (gap (goal.at.returns-in_ok-add-in-Err-clause-taken c).In-Err)) ∙ ap (λ (s : Held). is_taken s.elements c.args.e) c.self.view_is
 
 pub returns-in_err-add-in-Err-clause-known : goal.returns-in_err-add-in-Err-clause-known
 returns-in_err-add-in-Err-clause-known c some =
-    grind (arith, element-gap _ c.args.e.id c.in-Err.i (gap (goal.at.returns-in_err-add-in-Err-clause-known c).In-Err), ap (λ (s : Stock). s.elements) c.self.view_is)
+    grind (arith, element-gap _ c.args.e.id c.in-Err.i (gap (goal.at.returns-in_err-add-in-Err-clause-known c).In-Err), ap (λ (s : Held). s.elements) c.self.view_is)

@@ -3,7 +3,7 @@ use Rattle.json_reader.specs.Writing.{Ends}
 use Rattle.json_reader.proofs.Written.{has-ended}
 use Rattle.json_reader.proofs.Outcomes.{over_ends}
 use Rattle.json_reader.proofs.reader.Reader.read.Goals as goal
-use Rattle.json_reader.proofs.reader.Reader.read.Goals.{In-Ended, Then-is_over}
+use Rattle.json_reader.proofs.reader.Reader.read.Goals.{In-Ended}
 
 pub loop-next-preserved : goal.loop-next-preserved
 loop-next-preserved c =
@@ -14,10 +14,6 @@ loop-next-preserved c =
 -- the value ends before a byte
 before : (c : In-Ended) (more : List ℕ) → Ends c.loop-next.machine.mode c.loop-next.machine.brackets (drop c.loop-next.next c.args.bytes.now ++ more)
 before c more = rw (drop-cons c.args.bytes.now c.loop-next.next 0 c.loop-next-test.true) c.in-Ended.ensures.0
-
--- nothing more is waited for
-over : (c : Then-is_over) (more : List ℕ) → Ends c.loop-next.machine.mode c.loop-next.machine.brackets (drop c.loop-next.next c.args.bytes.now ++ more)
-over c more = over_ends c.loop-next.machine.mode c.loop-next.machine.brackets (sym c.is_over.ensures ∙ c.if-is_over.true) (drop c.loop-next.next c.args.bytes.now ++ more)
 
 pub value_of-requires : goal.value_of-requires
 value_of-requires c =
@@ -31,14 +27,9 @@ returns-in-Ended c at read =
     let ends = before (goal.at.returns-in-Ended c).In-Ended in
     has-ended c.args.bytes.now at l.next l.machine l.writer there ends c.in_ok-value_of-in-Ended.field-0 (c.in_ok-value_of-in-Ended.ensures at l.machine there (rw append-nil at (ends [])))
 
-pub value_of-requires-then-is_over : goal.value_of-requires-then-is_over
-value_of-requires-then-is_over c =
-    let l = c.loop-next in
-    (c.requires.0, l.machine, l.invariant.2 c.requires.0 c.requires.1, rw append-nil at (over (goal.at.value_of-requires-then-is_over c).Then-is_over []))
-
 pub returns-then-is_over : goal.returns-then-is_over
 returns-then-is_over c at read =
     let l = c.loop-next in
     let there = l.invariant.2 at read in
-    let ends = over (goal.at.returns-then-is_over c).Then-is_over in
+    let ends = λ (more : List ℕ). over_ends l.machine.mode l.machine.brackets (sym c.is_over.ensures ∙ c.if-is_over.true) (drop l.next c.args.bytes.now ++ more) in
     has-ended c.args.bytes.now at l.next l.machine l.writer there ends c.in_ok-value_of.field-0 (c.in_ok-value_of.ensures at l.machine there (rw append-nil at (ends [])))

@@ -1,31 +1,64 @@
-use Rattle.std.proofs.Common.{◌≡◌, ◌<◌, List, ℕ, length, ap, arith}
-use Rattle.scene_json.specs.Walks.{AreLeft}
-use Rattle.scene_json.proofs.ItemsLeft.{IsNext, left-next}
+use Rattle.std.proofs.Common.{◌≡◌, ◌<◌, List, ℕ, [], map, ap, arith}
+use Rattle.json_text.specs.Tree.{object}
+use Rattle.json_text.specs.Compact.{member_text}
+use Rattle.scene_json.specs.Passes.{GoesOn, behind_item}
+use Rattle.scene_json.specs.Walks.{Walk, Leaves, AreLeft, AreBehind}
+use Rattle.scene_json.proofs.ItemsLeft.{IsNext, ends-inside, left-next, left-none, left-inside}
 use Rattle.scene_json.proofs.parts.Objects.next.Goals as goal
-use Rattle.scene_json.proofs.parts.Objects.next.Goals.{After-as_bytes}
+use Rattle.scene_json.proofs.parts.Objects.next.Goals.{Else-bytes-self-eq93, After-self-1}
 
-next : (c : After-as_bytes) (left : List (List ℕ)) → (c.self.inside.at ≡ length c.as_bytes.result.now → ⊥) → AreLeft (record { array = c.self.inside.array.now; at = c.self.inside.at }) left → IsNext c.self.inside.array.now c.self.inside.at left
-next c left other are =
-    let some : c.self.inside.at < length c.self.inside.array.now = omega (arith, c.self.invariant.0, other, ap length c.as_bytes.ensures.value) in
-    left-next c.self.inside.array.now c.self.inside.at left are some
+pub bounds-bytes-self-inside : goal.bounds-bytes-self-inside
+bounds-bytes-self-inside c = rw c.as_bytes-bytes.ensures.value (left-inside c.self.inside.text.now c.self.inside.at c.self.invariant.0 c.self.invariant.1.0 c.self.invariant.1.1)
+
+pub returns-then-bytes-self-eq93-clause-next : goal.returns-then-bytes-self-eq93-clause-next
+returns-then-bytes-self-eq93-clause-next c =
+    λ left are.
+    let here : AreLeft (record { text = c.self.inside.text.now; at = c.self.inside.at }) left = rw c.self.view_is are in
+    (left-none c.self.inside.text.now c.self.inside.at left here.0 here.1 (rw (← c.as_bytes-bytes.ensures.value) c.if-bytes-self-eq93.true)).0
+
+next : (c : Else-bytes-self-eq93) (left : List (List ℕ)) (rest : List ℕ) → Leaves (record { text = c.self.inside.text.now; at = c.self.inside.at }) left rest → IsNext c.self.inside.text.now c.self.inside.at left rest
+next c left rest l = left-next c.self.inside.text.now c.self.inside.at left rest l (rw (← c.as_bytes-bytes.ensures.value) c.if-bytes-self-eq93.false)
 
 pub item_at-requires : goal.item_at-requires
-item_at-requires c = (_, _, (next (goal.at.item_at-requires c).After-as_bytes c.self.invariant.1 c.if-self-as_bytes.false c.self.invariant.2).stands)
+item_at-requires c = (_, _, (next c c.self.invariant.0 c.self.invariant.1.0 c.self.invariant.1.1).stands)
+
+pub past_comma-self-inside-requires : goal.past_comma-self-inside-requires
+past_comma-self-inside-requires c =
+    let n = next (goal.at.past_comma-self-inside-requires c).Else-bytes-self-eq93 c.self.invariant.0 c.self.invariant.1.0 c.self.invariant.1.1 in
+    rw c.as_bytes-bytes.ensures.value (ends-inside c.self.inside.text.now c.in_ok-item.end [] _ n.stands.ends (c.in_ok-item.ensures.item _ _ n.stands).1)
+
+after : (c : After-self-1) {left : List (List ℕ)} {rest : List ℕ} (n : IsNext c.self.inside.text.now c.self.inside.at left rest) →
+    (c.self.inside.at < c.past_comma-self-inside.result) × Leaves (record { text = c.self.inside.text.now; at = c.past_comma-self-inside.result }) n.others rest
+after c n =
+    let goes : GoesOn c.self.inside.text.now c.in_ok-item.end c.past_comma-self-inside.result = rw (← c.as_bytes-bytes.ensures.value) c.past_comma-self-inside.ensures.next in
+    n.goes_on c.in_ok-item.end c.past_comma-self-inside.result (c.in_ok-item.ensures.item _ _ n.stands).1 goes c.past_comma-self-inside.ensures.within.0
 
 pub invariant_of-self : goal.invariant_of-self
 invariant_of-self c =
-    let n = next (goal.at.invariant_of-self c).After-as_bytes c.self.invariant.1 c.if-self-as_bytes.false c.self.invariant.2 in
-    let after = n.goes_on c.in_ok-item.end (c.in_ok-item.ensures.item _ _ n.stands).1 in
-    (omega (arith, after.0), n.others, after.1)
-
-pub returns-clause-taken : goal.returns-clause-taken
-returns-clause-taken c =
-    let n = next (goal.at.returns-clause-taken c).After-as_bytes c.self.invariant.1 c.if-self-as_bytes.false c.self.invariant.2 in
-    (n.item, (c.in_ok-item.ensures.item _ _ n.stands).0)
+    let n = next (goal.at.invariant_of-self c).Else-bytes-self-eq93 c.self.invariant.0 c.self.invariant.1.0 c.self.invariant.1.1 in
+    (n.others, (c.self.invariant.1.0, (after c n).1))
 
 pub returns-clause-next : goal.returns-clause-next
 returns-clause-next c =
     λ left are.
-    let n = next (goal.at.returns-clause-next c).After-as_bytes left c.if-self-as_bytes.false (rw c.self.view_is are) in
-    let found = c.in_ok-item.ensures.item _ _ n.stands in
-    (n.item, n.others, n.parts, (n.goes_on c.in_ok-item.end found.1).1, found.0)
+    let here : AreLeft (record { text = c.self.inside.text.now; at = c.self.inside.at }) left = rw c.self.view_is are in
+    let n = next (goal.at.returns-clause-next c).Else-bytes-self-eq93 left here.0 here.1 in
+    (n.item, n.others, n.parts, (here.0, (after c n).1), (c.in_ok-item.ensures.item _ _ n.stands).0)
+
+pub returns-clause-taken : goal.returns-clause-taken
+returns-clause-taken c =
+    let n = next (goal.at.returns-clause-taken c).Else-bytes-self-eq93 c.self.invariant.0 c.self.invariant.1.0 c.self.invariant.1.1 in
+    (n.item, (c.in_ok-item.ensures.item _ _ n.stands).0)
+
+pub returns-clause-passed : goal.returns-clause-passed
+returns-clause-passed c =
+    let n = next (goal.at.returns-clause-passed c).Else-bytes-self-eq93 c.self.invariant.0 c.self.invariant.1.0 c.self.invariant.1.1 in
+    let same : c.self.inside.at ≡ c.args.self.now.at = ap (λ (w : Walk). w.at) c.self.view_is in
+    (omega (arith, same, (after c n).0), omega (arith, c.past_comma-self-inside.ensures.within, c.as_bytes-bytes.type_inv.0))
+
+pub returns-clause-behind : goal.returns-clause-behind
+returns-clause-behind c =
+    λ members are.
+    let b : AreBehind (record { text = c.self.inside.text.now; at = c.self.inside.at }) members = rw c.self.view_is are in
+    let n = next (goal.at.returns-clause-behind c).Else-bytes-self-eq93 b.items (behind_item object b.rest (map member_text members)) b.left in
+    record { named = b.named; valued = b.valued; items = n.others; rest = b.rest; left = (after c n).1 }
