@@ -7,7 +7,8 @@ ghost use Rattle.commands.specs.Faults.{code_of};
 
 mod words;
 
-use board_io::{Bytes, List, StdSink, StdSource};
+use board_base::{Bytes, List};
+use board_ends::{StdSink, StdSource};
 use commands::{Fault, Status, board};
 use std::alloc::AllocError;
 use std::process::ExitCode;

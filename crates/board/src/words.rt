@@ -2,7 +2,7 @@
 
 ghost use Rattle.std.specs.Prelude.{◌≡◌, drop, map, string_bytes, IfOk};
 
-use board_io::{Bytes, List};
+use board_base::{Bytes, List};
 use std::alloc::{AllocError, Global};
 use std::env;
 use std::io::ErrorKind;

@@ -13,7 +13,7 @@ use crate::scenes::push_scene;
 use crate::values::{
     push_default, push_first, push_pretty, push_restored, push_scanned, push_taken_apart,
 };
-use board_io::{List, Stop};
+use board_base::{List, Stop};
 use json_text::{Member, Raw, Text};
 use scene_json::value_named;
 use std::alloc::Global;

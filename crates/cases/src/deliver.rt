@@ -3,7 +3,7 @@
 use crate::follow::{are_same, element_of_text};
 use crate::given::{count_of, given};
 use crate::told::{push_number, push_truth};
-use board_io::{List, Stop};
+use board_base::{List, Stop};
 use elem::Element;
 use frac_keys::{Key, n_between};
 use json_text::{Member, Text};

@@ -4,7 +4,7 @@ ghost use Rattle.std.specs.Prelude.{◌≡◌, IsTrue};
 
 use crate::given::{bytes_of, given, listed};
 use crate::told::{push_member_of, push_string, push_told, push_truth, push_value};
-use board_io::{List, Stop};
+use board_base::{List, Stop};
 use clash::Clash;
 use delta::{Part, apply, are_one_kind, difference, invert};
 use elem::{Element, beats, push_element, same, same_but_stamp};

@@ -1,10 +1,11 @@
 //! The events that a case tells of links.
 
 ghost use Rattle.std.specs.Prelude.{◌≡◌, IsTrue};
-ghost use Rattle.board_io.specs.Events.{OpensFrom};
+ghost use Rattle.board_ends.specs.Events.{OpensFrom};
 
 use crate::given::{bytes_named, is_given, values_of};
-use board_io::{LinkEvent, List};
+use board_base::List;
+use board_ends::LinkEvent;
 use json_text::{Member, Raw};
 use scene_json::{members, shaped, whole_named};
 use std::alloc::{AllocError, Global};

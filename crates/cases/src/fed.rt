@@ -2,7 +2,7 @@
 
 use crate::given::{bytes_of, given, listed};
 use crate::told::{push_member_of, push_string, push_truth, push_value};
-use board_io::Stop;
+use board_base::Stop;
 use json_reader::{Fed, Feed, JsonFault, scan};
 use json_text::{Raw, Text, push_quoted, skip_space};
 use scene_json::{push_comma, push_whole};

@@ -2,13 +2,12 @@
 
 use crate::given::{count_of, given, number_or};
 use crate::told::push_truth;
-use board_io::{List, Stop};
+use board_base::{List, Stop};
+use drawn_words::{draw_word, generator_of};
 use elem::{Element, same};
 use elem_read::read_element;
 use json_reader::scan;
 use json_text::{Raw, Text};
-use rand_core::SeedableRng;
-use rand_core::utils::NextWord;
 use rand_pcg::Pcg32;
 use replica::Replica;
 use scene_json::{members, shaped};
@@ -36,7 +35,7 @@ pub fn push_followed(alloc: Global, line: &mut Vec<u8>, value: &Raw) -> Result<(
 
 /// Whether the view is the one made anew after each delivery, or nothing where a drawn text is no element.
 fn follow(alloc: Global, seed: u64, changes: usize, ids: u64) -> Result<Option<bool>, AllocError> {
-    let mut generator = Pcg32::seed_from_u64(seed);
+    let mut generator = generator_of(seed);
     let mut replica = Replica::new(alloc);
     for i in 0..changes {
         let version = i as u64 + 1;
@@ -175,7 +174,7 @@ fn draw_named(
 
 /// Draws a number below the limit.
 fn draw(generator: &mut Pcg32, limit: u64) -> u64 {
-    u64::from(generator.next_word()) % limit.max(1)
+    draw_word(generator) % limit.max(1)
 }
 
 /// The element that a text is read as.

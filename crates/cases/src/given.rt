@@ -1,6 +1,6 @@
 //! What a case is given: its members by their names, and what their values tell.
 
-use board_io::{Bytes, List, Stop};
+use board_base::{Bytes, List, Stop};
 use hex::FromHexError;
 use json_text::{Member, Raw, Text};
 use scene_json::{items, members, shaped, text_named, text_of, value_named, whole_of};

@@ -4,7 +4,7 @@ use crate::elements::elements_of;
 use crate::given::given;
 use crate::keys::push_end;
 use crate::told::push_member_of;
-use board_io::Stop;
+use board_base::Stop;
 use elem::Element;
 use elem_store::Store;
 use json_text::{Raw, Text, push_quote};

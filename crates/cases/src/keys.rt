@@ -6,7 +6,7 @@ ghost use Rattle.frac_keys.specs.Rising.{ends_rise};
 
 use crate::given::{count_of, given, listed};
 use crate::told::{push_member_of, push_truth};
-use board_io::{List, Stop};
+use board_base::{List, Stop};
 use frac_keys::{Key, between, n_between};
 use index_repair::{repair, rising};
 use json_text::{Member, Raw, Text, push_quoted};

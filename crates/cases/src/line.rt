@@ -4,7 +4,7 @@ use crate::calls::push_call;
 use crate::given::{given, is_given, name_of};
 use crate::run::push_run;
 use crate::sure::push_sure_run;
-use board_io::{Bytes, Stop};
+use board_base::{Bytes, Stop};
 use json_reader::scan;
 use json_text::{Raw, Text, push_quote, skip_space};
 use scene_json::{members, push_whole, shaped};

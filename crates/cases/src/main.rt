@@ -19,7 +19,7 @@ mod told;
 mod values;
 mod words;
 
-use board_io::{StdSink, StdSource, read_all, write_all};
+use board_ends::{StdSink, StdSource, read_all, write_all};
 use std::process::ExitCode;
 
 /// How many bytes the cases have at most.

@@ -3,7 +3,8 @@
 use crate::events::{events_of, open_from};
 use crate::given::{bytes_named, given, number_or, numbers_of, words_of};
 use crate::told::{push_member_of, push_number, push_told};
-use board_io::{Bytes, LinkEvent, List, MemSink, MemSource, ScriptLinks, Stop};
+use board_base::{Bytes, List, Stop};
+use board_ends::{LinkEvent, MemSink, MemSource, ScriptLinks};
 use commands::{Status, board};
 use json_text::{Member, Text};
 use scene_json::{push_comma, push_whole};

@@ -4,7 +4,8 @@ ghost use Rattle.std.specs.Prelude.{◌≤◌, length};
 
 use crate::given::{bytes_of, given, number_or};
 use crate::told::{push_member_of, push_number, push_told};
-use board_io::{List, MemSink, Stop, write_pieces};
+use board_base::{List, Stop};
+use board_ends::{MemSink, write_pieces};
 use elem::push_elements;
 use json_text::{Member, Raw, Text};
 use scene_file::{SceneFault, read_scene};

@@ -3,7 +3,8 @@
 use crate::given::{bytes_named, given, words_of};
 use crate::run::{chunk_of, links_of, notes_of};
 use crate::told::{push_member_of, push_number, push_told};
-use board_io::{List, Stop, SureSink, SureSource};
+use board_base::{List, Stop};
+use board_ends::{SureSink, SureSource};
 use commands::board_surely;
 use json_text::{Member, Text};
 use std::alloc::Global;

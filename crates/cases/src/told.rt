@@ -1,6 +1,6 @@
 //! How names, truths and bytes are told in a line.
 
-use board_io::Stop;
+use board_base::Stop;
 use json_reader::scan;
 use json_text::push_quoted;
 use scene_json::push_whole;

@@ -6,10 +6,9 @@ use crate::given::{bytes_of, given, number_or};
 use crate::told::{
     push_hex, push_member_of, push_number, push_string, push_told, push_truth, push_value,
 };
-use board_io::{List, Stop};
-use first_texts::first_occurrences;
+use board_base::{List, Stop};
 use json_reader::scan;
-use json_text::{Member, Raw, Text, push_quote};
+use json_text::{Member, Raw, Text, first_occurrences, push_quote};
 use restore_table::{default_of, restore};
 use scene_json::{
     Shape, depth_of, is_null, items, members, pretty, push_comma, push_member, shaped, text_of,

@@ -8,7 +8,7 @@ use Rattle.std.proofs.lemmas.Option.{same_Some}
 use Rattle.std.proofs.lemmas.Slice.Eq.{bytes_eq-Decides}
 use Rattle.elem.specs.ElementValue.{ElementValue}
 use Rattle.elem_store.specs.Updates.{are_tied, IsFreeOfClashes}
-use Rattle.elem_store.proofs.Lists.{find-Some, Contains-head}
+use Rattle.elem_store.proofs.CallerLemmas.{find-Some, Contains-head}
 use Rattle.clash.specs.Firsts.{first_tied, HasClash, IsLikeFirst, firsts_with, firsts_of}
 use Rattle.clash.proofs.MarkLaws.{marked-itself}
 

@@ -5,15 +5,14 @@ use Rattle.std.specs.List.Sorted.{IsPermutation}
 use Rattle.std.proofs.lemmas.Bool.{and_parts, and_from, both_ways, cond_both}
 use Rattle.std.proofs.lemmas.List.Elements.{All-from_recursion, recursion_from_All}
 use Rattle.std.proofs.lemmas.List.Sorted.{IsPermutation-refl, IsPermutation-sym, IsPermutation-cons, IsPermutation-trans, IsPermutation-middle, All-permutation}
-use Rattle.json_text.proofs.Collapsed.{bytes_eq-true, bytes_eq-same}
+use Rattle.json_text.proofs.CallerLemmas.{bytes_eq-true, bytes_eq-same}
 use Rattle.frac_keys.specs.Keys.{bytes_less}
 use Rattle.frac_keys.specs.Rising.{ends_rise, rise_between, are_rising}
 use Rattle.elem.specs.ElementValue.{ElementValue}
-use Rattle.elem.proofs.Sorting.{bytes_less-turned}
+use Rattle.elem.proofs.CallerLemmas.{bytes_less-turned}
 use Rattle.elem.specs.Order.{has_id, HaveDistinctIds}
 use Rattle.elem_store.specs.Updates.{ids_of, AreStored}
-use Rattle.elem_store.proofs.Leader.{leader, stored-leader}
-use Rattle.elem_store.proofs.StoreLaws.{AreStored-itself}
+use Rattle.elem_store.proofs.CallerLemmas.{leader, stored-leader, AreStored-itself}
 
 -- elements in the order of their ids and one more
 abbrev with_id : ElementValue → List ElementValue → List ElementValue

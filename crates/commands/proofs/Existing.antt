@@ -4,24 +4,24 @@ use Rattle.std.specs.List.{AllByRecursion, prefix_len}
 use Rattle.json_text.specs.Characters.{is_blank, is_space}
 use Rattle.json_text.specs.Compact.{Member as Pair}
 use Rattle.json_text.specs.Value.{IsCompact}
-use Rattle.json_text.proofs.CompactLaws.{Value-deeper}
+use Rattle.json_text.proofs.CallerLemmas.{Value-deeper}
 use Rattle.elem.specs.ElementValue.{ElementValue}
-use Rattle.elem_store.proofs.Stored.{stored-exist}
+use Rattle.elem_store.proofs.CallerLemmas.{stored-exist}
 use Rattle.file_table.specs.References.{referred_files}
-use Rattle.file_table.proofs.Tabled.{picture-exists}
+use Rattle.file_table.proofs.CallerLemmas.{picture-exists}
 use Rattle.scene_file.specs.Heads.{Heading}
 use Rattle.scene_file.specs.Reading.{IsSceneFaultAt}
 use Rattle.scene_file.specs.Scenes.{scene_text, state_text}
 use Rattle.scene_file.specs.declared.layout.Layout.{Layout}
 use Rattle.scene_file.specs.declared.scene.Scene.{Scene}
 use Rattle.scene_file.specs.declared.fault.SceneFault.{SceneFault}
-use Rattle.scene_file.proofs.Existing.{StandsAt, joined-exists, scene-or-fault}
-use Rattle.scene_file.proofs.Fitting.{HasText, shown-rise, shown-agree, shown-compact, shown-files, written-exists}
-use Rattle.session.proofs.PrintedLaws.{report-exists}
+use Rattle.scene_file.proofs.CallerLemmas.{StandsAt, joined-exists, scene-or-fault, HasText, written-exists}
+use Rattle.shown_scenes.proofs.CallerLemmas.{shown-rise, shown-agree, shown-compact, shown-files}
+use Rattle.session.proofs.CallerLemmas.{report-exists}
 use Rattle.session_text.specs.Sessions.{IsSessionFault}
 use Rattle.session_text.specs.declared.fault.SessionFault.{SessionFault}
 use Rattle.session_text.specs.declared.fault.SessionFault.TheVariants.{In, TooMany}
-use Rattle.session_text.proofs.SessionsOne.{session-or-fault}
+use Rattle.session_text.proofs.CallerLemmas.{session-or-fault}
 use Rattle.commands.specs.Answers.{IsAnswer, IsBoardOf, IsShownAs, IsStoredAs, HasPictures, IsRefusal, IsMadeOf, heads_of, updates_of, shown_of}
 use Rattle.commands.specs.Faults.{newline}
 use Rattle.commands.specs.Input.{ScenesLead, HasScenes, HasFaultyText}

@@ -1,7 +1,7 @@
 -- How much an input gave.
 use Rattle.std.proofs.Common.{◌≡◌, ℕ, ◌≤◌, List, [], ◌++◌, length, Option, Some, None, IsSome, IfSome, sym, ap, arith, ◌∙◌, length-append, append-nil}
 use Rattle.std.specs.Option.{option_map}
-use Rattle.board_io.specs.Ends.{SourceEnd}
+use Rattle.board_ends.specs.Ends.{SourceEnd}
 use Rattle.commands.specs.Ends.{span, GaveWithin, GaveTooMuch, WasRead, HasLeft}
 
 -- Where the content is told, what was given has one length.

@@ -6,7 +6,7 @@ use Rattle.json_text.specs.Characters.{is_blank, is_space}
 use Rattle.scene_file.specs.Reading.{IsSceneAt, IsSceneFaultAt}
 use Rattle.scene_file.specs.declared.scene.Scene.{Scene}
 use Rattle.scene_file.specs.declared.fault.SceneFault.{SceneFault}
-use Rattle.scene_file.proofs.Once.{scene-once, scene-some, fault-once, fault-none}
+use Rattle.scene_file.proofs.CallerLemmas.{scene-once, scene-some, fault-once, fault-none}
 use Rattle.commands.specs.Input.{ScenesLead, HasScenes, HasFaultyText, HasExtraText}
 use Rattle.commands.proofs.Runs.{Runs-either}
 

@@ -7,6 +7,7 @@ pub mod Existing
 pub mod ById
 pub mod Given
 pub mod Inputs
+pub mod Lawful
 pub mod Lines
 mod Never
 pub mod Numbers

@@ -1,6 +1,6 @@
 -- Statuses that no run of the top call ends with, form by form.
 use Rattle.std.proofs.Common.{◌≡◌, ◌≢◌, Option, Some, None, refl, ◌∙◌, sym, arith}
-use Rattle.board_io.specs.Counts.{Rose}
+use Rattle.board_ends.specs.Counts.{Rose}
 use Rattle.commands.specs.declared.status.Status.{Status}
 use Rattle.commands.specs.declared.status.Status.TheVariants.{Usage}
 use Rattle.commands.specs.declared.words.Command.{Command}

@@ -1,26 +1,16 @@
--- A room whose links don't listen is served by no event.
-use Rattle.std.proofs.Common.{◌≡◌, ℕ, ◌≤◌, true, false, List, [], ◌++◌, length, nat_le, Option, Some, None, IfSome, refl, sym, ap, arith, append-nil}
-use Rattle.std.specs.Option.{option_map}
+-- A room whose links are called once to listen.
+use Rattle.std.proofs.Common.{◌≡◌, ℕ, ◌≤◌, false, [], nat_le, None, refl, arith}
 use Rattle.std.proofs.lemmas.Bool.Decides.{nat_tests}
+use Rattle.board_ends.specs.Ends.{LinksEnd}
 use Rattle.room_core.specs.Rooms.{RoomState}
-use Rattle.room_core.specs.Serving.{at_start, end_of, IsServed}
-use Rattle.room_core.specs.Told.{LinksTold, Tells, texts_lost}
+use Rattle.room_core.specs.Serving.{Serving, at_start, end_of, IsServed}
+use Rattle.room_core.specs.Told.{Tells}
 use Rattle.room_core.specs.declared.limits.ServeEnd.{ServeEnd}
 use Rattle.room_core.specs.declared.limits.ServeEnd.TheVariants.{LinkFault, Memory}
 use Rattle.room_core.specs.declared.limits.RoomLimits.{RoomLimits}
+use Rattle.room_core.proofs.CallerLemmas.{tells-twice}
 use Rattle.commands.specs.Services.{IsService}
 use Rattle.commands.specs.declared.words.Service.{Service}
-
-kept : {X : Type 0} (told : Option (List X)) → told ≡ option_map (λ xs. xs ++ []) told
-kept None = refl
-kept (Some xs) = ap Some (sym (append-nil xs))
-
-none-lost : (sent : Option (List (ℕ × List ℕ))) (lost : Option (List (ℕ × ℕ))) → IfSome sent (λ texts. lost ≡ option_map (λ told. told ++ texts_lost (length texts) []) lost)
-none-lost None lost = tt
-none-lost (Some texts) lost = kept lost
-
-nothing-told : (told : LinksTold) → Tells told told [] []
-nothing-told told = record { given = kept told.given; sent = kept told.sent; lost = none-lost told.sent told.lost }
 
 above : (n : ℕ) → 1 ≤ n → nat_le n 0 ≡ false
 above n h = grind (arith, nat_tests)
@@ -28,22 +18,35 @@ above n h = grind (arith, nat_tests)
 runs : (service : Service) (room : RoomState) → IsService service → end_of service.limits (at_start room) ≡ None
 runs service room is = rw (above service.limits.events is.events, above service.limits.idle is.idle) refl
 
-pub failed-at_once : (service : Service) (room : RoomState) (told : LinksTold) → IsService service → IsServed service.limits (at_start room) room told told LinkFault
-failed-at_once service room told is = record {
+-- where they don't listen, the room is served by no event
+pub failed-at_once : (service : Service) (room : RoomState) (a b : LinksEnd) → Tells a b [] [] → IsService service → IsServed service.limits (at_start room) room a b LinkFault
+failed-at_once service room a b told is = record {
   rounds = [];
   are_rounds = tt;
   last = None;
   last_tries = [];
   ended = (runs service room is, refl, refl, refl);
-  told = nothing-told told;
+  told = told;
 }
 
-pub wanted-at_once : (service : Service) (room : RoomState) (told : LinksTold) → IsService service → IsServed service.limits (at_start room) room told told Memory
-wanted-at_once service room told is = record {
+pub wanted-at_once : (service : Service) (room : RoomState) (a b : LinksEnd) → Tells a b [] [] → IsService service → IsServed service.limits (at_start room) room a b Memory
+wanted-at_once service room a b told is = record {
   rounds = [];
   are_rounds = tt;
   last = None;
   last_tries = [];
   ended = (runs service room is, (refl, refl));
-  told = nothing-told told;
+  told = told;
+}
+
+-- where they do, it is served by what they tell after that
+pub served-since : (limits : RoomLimits) (now : Serving) (new : RoomState) (a b c : LinksEnd) (end : ServeEnd) → Tells a b [] [] → IsServed limits now new b c end
+    → IsServed limits now new a c end
+served-since limits now new a b c end first served = record {
+  rounds = served.rounds;
+  are_rounds = served.are_rounds;
+  last = served.last;
+  last_tries = served.last_tries;
+  ended = served.ended;
+  told = tells-twice a b c [] _ [] _ first served.told;
 }

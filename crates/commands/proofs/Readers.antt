@@ -12,7 +12,7 @@ use Rattle.intake.specs.declared.reading.Stopped.{Stopped}
 use Rattle.intake.specs.declared.reading.Stopped.TheVariants.{Faulty, Refused, Extra}
 use Rattle.elem.specs.ElementValue.{ElementValue}
 use Rattle.elem_store.specs.Updates.{AreStored, stored_of}
-use Rattle.file_table.proofs.Least.{AreLeastEntries-none}
+use Rattle.file_table.proofs.CallerLemmas.{AreLeastEntries-none}
 use Rattle.commands.specs.Answers.{IsBoardOf, IsOneRefusal, IsRefusal, heads_of, updates_of}
 use Rattle.commands.specs.Readers.{SayScenes, SayBoard, BoardSoFar, board_seen, one_seen, listed, refusal_of}
 use Rattle.commands.specs.Input.{ScenesLead, HasScenes}

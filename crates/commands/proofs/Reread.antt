@@ -11,16 +11,17 @@ use Rattle.elem.specs.ElementValue.{ElementValue}
 use Rattle.elem.specs.Facts.{IsElement}
 use Rattle.elem.specs.Said.{HasValidTexts as IsWrittenElement, AreElements}
 use Rattle.elem.specs.Texts.{element_text}
-use Rattle.elem_read.proofs.Whole.{IsSound-read}
+use Rattle.elem_read.proofs.CallerLemmas.{IsSound-read}
 use Rattle.elem_read.specs.Reading.{IsWholeElement}
 use Rattle.elem_store.specs.Updates.{AreStored, ids_of}
-use Rattle.elem_store.proofs.StoreLaws.{store-unique}
+use Rattle.elem_store.proofs.CallerLemmas.{store-unique}
 use Rattle.file_table.specs.Table.{AreLeastEntries}
-use Rattle.file_table.proofs.Least.{AreLeastEntries-own}
+use Rattle.file_table.proofs.CallerLemmas.{AreLeastEntries-own}
 use Rattle.elem.specs.Order.{HaveDistinctIds}
-use Rattle.view.specs.Shown.{is_live, live_elements, HaveKeysOrNone, HaveRisingKeys}
+use Rattle.index_repair.specs.Keyed.{HaveKeysOrNone, HaveRisingKeys}
+use Rattle.view.specs.Shown.{is_live, live_elements}
 use Rattle.view.specs.Settled.{AreSettled}
-use Rattle.view.proofs.ShownLaws.{HaveDistinctIds-rising, live_elements-rise, live_elements-live, shown-is, shown-again}
+use Rattle.view.proofs.CallerLemmas.{HaveDistinctIds-rising, live_elements-rise, live_elements-live, shown-is, shown-again}
 use Rattle.scene_file.specs.Heads.{Heading, IsJoinedHead}
 use Rattle.scene_file.specs.Layouts.{IsWrittenIn}
 use Rattle.scene_file.specs.Reading.{IsSceneAt}
@@ -28,12 +29,8 @@ use Rattle.scene_file.specs.Scenes.{scene_text}
 use Rattle.scene_file.specs.Whole.{IsWholeHead, IsWholeScene, HaveKeys, with_named_files}
 use Rattle.scene_file.specs.declared.layout.Layout.{Layout}
 use Rattle.scene_file.specs.declared.scene.Scene.{Scene}
-use Rattle.scene_file.proofs.Joining.{lesser_source-none}
-use Rattle.scene_file.proofs.NamedFiles.{named-rise}
-use Rattle.scene_file.proofs.Once.{head-once}
-use Rattle.scene_file.proofs.ReadBack.{scene-back, named-text}
-use Rattle.scene_file.proofs.Sound.{keys-or-none, rising-keys, stored-all}
-use Rattle.scene_file.proofs.WholeScenes.{scene-whole, joined-whole, stored-whole, shown-whole, wholes-sound}
+use Rattle.scene_file.proofs.CallerLemmas.{lesser_source-none, named-rise, head-once, scene-back, named-text, keys-or-none, rising-keys, stored-all, scene-whole, joined-whole, stored-whole, wholes-sound}
+use Rattle.shown_scenes.proofs.CallerLemmas.{shown-whole}
 use Rattle.commands.specs.Answers.{IsBoardOf, IsShownAs, heads_of, updates_of, shown_of}
 use Rattle.commands.specs.Faults.{newline}
 use Rattle.commands.specs.Input.{ScenesLead, HasScenes}

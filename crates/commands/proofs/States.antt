@@ -8,16 +8,13 @@ use Rattle.json_text.specs.Compact.{Member as Pair}
 use Rattle.json_text.specs.Members.{pairs}
 use Rattle.elem.specs.ElementValue.{ElementValue}
 use Rattle.elem_store.specs.Updates.{stored_of}
-use Rattle.elem_store.proofs.Leader.{joined_leader, stored-append}
-use Rattle.elem_store.proofs.StoreLaws.{AreStored-itself}
+use Rattle.elem_store.proofs.CallerLemmas.{joined_leader, stored-append, AreStored-itself}
 use Rattle.file_table.specs.Table.{least_entry, AreLeastEntries}
-use Rattle.file_table.proofs.Least.{least-append, least-own}
-use Rattle.file_table.proofs.Lesser.{lesser_either}
+use Rattle.file_table.proofs.CallerLemmas.{least-append, least-own, lesser_either}
 use Rattle.scene_file.specs.Heads.{Heading, lesser_source, least_source, settings_of, files_of}
 use Rattle.scene_file.specs.Reading.{IsSceneAt}
 use Rattle.scene_file.specs.declared.scene.Scene.{Scene}
-use Rattle.scene_file.proofs.Joining.{lesser_source-none, lesser_source-assoc}
-use Rattle.scene_file.proofs.ReadBack.{scene-behind, scene-before, state-back}
+use Rattle.scene_file.proofs.CallerLemmas.{lesser_source-none, lesser_source-assoc, scene-behind, scene-before, state-back}
 use Rattle.commands.specs.Again.{TakesScenes, AreStates}
 use Rattle.commands.specs.Answers.{IsAnswer, IsBoardOf, IsShownAs, IsStoredAs, HasPictures, heads_of, updates_of}
 use Rattle.commands.specs.Faults.{newline}

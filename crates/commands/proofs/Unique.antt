@@ -6,12 +6,12 @@ use Rattle.json_text.specs.Characters.{quote}
 use Rattle.json_text.specs.Compact.{Member as Pair}
 use Rattle.scene_json.specs.Named.{value_at}
 use Rattle.elem.specs.ElementValue.{ElementValue}
-use Rattle.elem.proofs.Once.{object-once, quote-once}
+use Rattle.elem.proofs.CallerLemmas.{object-once, quote-once}
 use Rattle.elem_store.specs.Updates.{AreBest}
-use Rattle.elem_store.proofs.StoreLaws.{store-unique, stores-converge, AreStored-from_best}
+use Rattle.elem_store.proofs.CallerLemmas.{store-unique, stores-converge, AreStored-from_best}
 use Rattle.file_table.specs.Picture.{HasData, HasUrl, IsDataUrl, IsPictureSize}
 use Rattle.file_table.specs.References.{referred_files}
-use Rattle.file_table.proofs.Urls.{content-unique}
+use Rattle.file_table.proofs.CallerLemmas.{content-unique}
 use Rattle.scene_file.specs.Heads.{Heading, IsJoinedHead}
 use Rattle.scene_file.specs.Reading.{IsSceneFaultAt}
 use Rattle.scene_file.specs.Scenes.{state_text}
@@ -19,16 +19,14 @@ use Rattle.scene_file.specs.Texts.{IsSceneText}
 use Rattle.scene_file.specs.declared.layout.Layout.{Layout}
 use Rattle.scene_file.specs.declared.scene.Scene.{Scene}
 use Rattle.scene_file.specs.declared.fault.SceneFault.{SceneFault}
-use Rattle.scene_file.proofs.Once.{fault-once, fault-none, head-once}
-use Rattle.scene_file.proofs.SameHeads.{joined-moved}
-use Rattle.scene_file.proofs.SceneTexts.{text-once}
+use Rattle.scene_file.proofs.CallerLemmas.{fault-once, fault-none, head-once, joined-moved, text-once}
 use Rattle.session.specs.Printed.{IsReportText}
-use Rattle.session.proofs.PrintedLaws.{report-once}
+use Rattle.session.proofs.CallerLemmas.{report-once}
 use Rattle.session_text.specs.Sessions.{IsSessionFault}
 use Rattle.session_text.specs.declared.fault.SessionFault.{SessionFault}
 use Rattle.session_text.specs.declared.fault.SessionFault.TheVariants.{In, TooMany}
 use Rattle.session_text.specs.declared.fault.TextFault.{TextFault}
-use Rattle.session_text.proofs.SessionsOne.{session-once, fault-once as session-fault-once, fault-apart-session as session-none}
+use Rattle.session_text.proofs.CallerLemmas.{session-once, fault-once as session-fault-once, fault-apart-session as session-none}
 use Rattle.commands.specs.Answers.{IsAnswer, IsReplayed, IsSessionRefusal, IsBoardOf, IsShownAs, IsStoredAs, HasPictures, IsOneRefusal, IsRefusal, IsMadeOf, heads_of, updates_of, shown_of, HaveSameUpdatesAndHeads}
 use Rattle.commands.specs.Faults.{newline}
 use Rattle.commands.specs.Input.{HasScenes, HasFaultyText, HasExtraText}

@@ -5,7 +5,8 @@ use Rattle.elem.specs.ElementValue.{ElementValue}
 use Rattle.elem_store.specs.Updates.{AreStored, HaveSameUpdates}
 use Rattle.file_table.specs.References.{referred_files}
 use Rattle.view.specs.Settled.{AreSettled}
-use Rattle.view.specs.Shown.{live_elements, shown, HaveRisingKeys}
+use Rattle.index_repair.specs.Keyed.{HaveRisingKeys}
+use Rattle.view.specs.Shown.{live_elements, shown}
 use Rattle.scene_file.specs.Heads.{Heading, IsJoinedHead, HaveSameHeads}
 use Rattle.scene_file.specs.Reading.{IsSceneFaultAt}
 use Rattle.scene_file.specs.Scenes.{state_text}

@@ -1,7 +1,7 @@
 -- What a fault of a run comes from. Only contracts of private functions cite this.
 use Rattle.std.specs.Prelude.{◌≡◌, Option, None}
-use Rattle.board_io.specs.Counts.{Rose}
-use Rattle.board_io.specs.Ends.{SourceEnd, SinkEnd}
+use Rattle.board_ends.specs.Counts.{Rose}
+use Rattle.board_ends.specs.Ends.{SourceEnd, SinkEnd}
 use Rattle.commands.specs.Ends.{Span, GaveWithin, WasRefused, WasDoneInPart}
 use Rattle.commands.specs.declared.status.Fault.{Fault}
 use Rattle.commands.specs.declared.status.Fault.TheVariants as fault

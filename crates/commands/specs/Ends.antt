@@ -1,7 +1,7 @@
 -- What a run did to its input and its output. This project's own.
 use Rattle.std.specs.Prelude.{◌≡◌, ◌⊎◌, ℕ, ◌+◌, ◌≤◌, List, Option, Some, Result, Ok, Err, length, take}
-use Rattle.board_io.specs.Counts.{Rose}
-use Rattle.board_io.specs.Ends.{SourceEnd, SinkEnd, Gave, Took, IsAtEnd}
+use Rattle.board_ends.specs.Counts.{Rose}
+use Rattle.board_ends.specs.Ends.{SourceEnd, SinkEnd, Gave, Took, IsAtEnd}
 use Rattle.commands.specs.Answers.{IsAnswer}
 use Rattle.commands.specs.Faults.{Noted}
 use Rattle.commands.specs.declared.status.Status.{Status}

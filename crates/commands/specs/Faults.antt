@@ -1,7 +1,7 @@
 -- What faults there are, how a run with one ends, and the line that tells it. This project's own.
 use Rattle.std.specs.Prelude.{◌≡◌, ℕ, ◌≤◌, List, [], ◌∷◌, ◌++◌, ◌⊎◌, length, take, codes, decimal}
-use Rattle.board_io.specs.Counts.{Rose}
-use Rattle.board_io.specs.Ends.{SinkEnd, Took}
+use Rattle.board_ends.specs.Counts.{Rose}
+use Rattle.board_ends.specs.Ends.{SinkEnd, Took}
 use Rattle.scene_file.specs.Faults.{scene_fault_words}
 use Rattle.session_text.specs.Faults as sessions
 use Rattle.commands.specs.declared.status.Status.{Status}

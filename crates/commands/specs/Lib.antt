@@ -6,6 +6,7 @@ pub mod Drills
 pub mod Ends
 pub mod Faults
 pub mod Input
+pub mod Members
 pub mod Pictures
 pub mod Readers
 pub mod Replays

@@ -1,45 +1,38 @@
 -- What serving a room does, from the scenes that it begins with to the scene that is written at its end. This project's own.
-use Rattle.std.specs.Prelude.{◌≡◌, ◌⊎◌, ℕ, ◌≤◌, List, [], ◌++◌, Option, Some, codes, take}
-use Rattle.board_io.specs.Counts.{Rose}
-use Rattle.board_io.specs.Ends.{SourceEnd, SinkEnd, Took}
-use Rattle.board_io.specs.declared.links.LinkEvent.{LinkEvent}
+use Rattle.std.specs.Prelude.{◌≡◌, ◌≢◌, ◌⊎◌, ℕ, List, [], ◌++◌, Some, codes, take}
+use Rattle.board_ends.specs.Counts.{Rose, one_more}
+use Rattle.board_ends.specs.Ends.{SourceEnd, SinkEnd, LinksEnd, Took}
 use Rattle.elem.specs.ElementValue.{ElementValue}
 use Rattle.view.specs.Settled.{AreSettled}
-use Rattle.view.specs.Shown.{HaveRisingKeys}
+use Rattle.index_repair.specs.Keyed.{HaveRisingKeys}
 use Rattle.scene_file.specs.Heads.{Heading}
 use Rattle.scene_file.specs.Texts.{IsSceneText}
 use Rattle.scene_file.specs.declared.layout.Layout.{Layout}
 use Rattle.scene_file.specs.declared.scene.Scene.{Scene}
 use Rattle.room_core.specs.Rooms.{RoomState}
 use Rattle.room_core.specs.Serving.{at_start, IsServed}
-use Rattle.room_core.specs.Told.{LinksTold, told_of}
+use Rattle.room_core.specs.Told.{Tells}
 use Rattle.room_core.specs.declared.limits.ServeEnd.{ServeEnd}
 use Rattle.room_core.specs.declared.limits.ServeEnd.TheVariants.{AllClosed, Idle as IdleEnd, LinkFault as LinkEnd, LinksFull, EventsFull, Memory as MemoryEnd}
 use Rattle.commands.specs.Answers.{IsBoardOf, IsRefusal, shown_of}
-use Rattle.commands.specs.Ends.{Span, span, GaveWithin, GaveTooMuch, WasRead}
+use Rattle.commands.specs.Ends.{Span, GaveWithin, GaveTooMuch, WasRead}
 use Rattle.commands.specs.Faults.{newline, status_of, Noted, IsNoted}
 use Rattle.commands.specs.Input.{HasScenes}
 use Rattle.commands.specs.declared.status.Fault.{Fault}
 use Rattle.commands.specs.declared.status.Fault.TheVariants as fault
+use Rattle.commands.specs.declared.status.Refusal.{Refusal}
 use Rattle.commands.specs.declared.status.Status.{Status}
 use Rattle.commands.specs.declared.status.Status.TheVariants as status
 use Rattle.commands.specs.declared.words.Service.{Service}
 
--- What is seen of the links of a room: the port that they listen on, what they tell, and how many of their calls failed.
-pub record LinksEnd : Type 0 where
-  pub port : Option ℕ
-  pub told : LinksTold
-  pub faults : ℕ
-
--- what is seen of these links
-abbrev pub links_seen : {L : Type 0} → (L → Option ℕ) → (L → Option (List LinkEvent)) → (L → Option (List (ℕ × List ℕ))) → (L → Option (List (ℕ × ℕ))) → (L → ℕ) → L → LinksEnd
-links_seen port given sent lost faults links = record { port = port links; told = told_of given sent lost links; faults = faults links }
-
--- What is seen of a run's input, output and links, before it or after it.
+-- What is seen of a run's input, output and links.
 pub record Ends : Type 0 where
-  pub input : SourceEnd
-  pub output : SinkEnd
-  pub links : LinksEnd
+  pub input : Span SourceEnd
+  pub output : Span SinkEnd
+  pub links : Span LinksEnd
+
+abbrev pub ends : Span SourceEnd → Span SinkEnd → Span LinksEnd → Ends
+ends input output links = record { input = input; output = output; links = links }
 
 -- a room that stores these elements, without links
 abbrev pub room_of : List ElementValue → RoomState
@@ -54,44 +47,68 @@ pub record IsSceneOfStored (layout : Layout) (head : Heading) (stored : List Ele
   pub rise : HaveRisingKeys (shown_of stored)
   pub settled : AreSettled (shown_of stored)
 
--- A room that began with these stored elements was served to this end; and the text is that of the scene of what it stores
--- then, under this head.
-pub record WasHeld (service : Service) (head : Heading) (stored : List ElementValue) (before after : LinksTold) (end : ServeEnd) (text : List ℕ) : Type 0 where
-  pub last : RoomState
-  pub served : IsServed service.limits (at_start (room_of stored)) last before after end
-  pub scene : IsSceneOfStored service.layout head last.elements text
-
--- The room of these scenes, which begins with what their board stores under their joined head, was held so.
-pub record IsRoomOf (service : Service) (scenes : List Scene) (before after : LinksTold) (end : ServeEnd) (text : List ℕ) : Type 0 where
+-- What a room begins with: the head of its scenes, and what is stored of their updates.
+pub record Begun : Type 0 where
   pub head : Heading
   pub stored : List ElementValue
-  pub board : IsBoardOf scenes head stored
-  pub held : WasHeld service head stored before after end text
 
--- The links listened on the port of the service, unless they failed.
-abbrev pub ListensOn : Service → ServeEnd → LinksEnd → Type 0
-ListensOn service end links = (end ≡ LinkEnd) ⊎ (links.port ≡ Some service.port)
+-- A room that began so was served to this end; and the text is that of the scene of what it stores
+-- then, under its head.
+pub record WasHeld (service : Service) (begun : Begun) (links : Span LinksEnd) (end : ServeEnd)
+    (text : List ℕ) : Type 0 where
+  pub last : RoomState
+  pub served :
+      IsServed service.limits (at_start (room_of begun.stored)) last links.before links.after end
+  pub scene : IsSceneOfStored service.layout begun.head last.elements text
 
--- The input, read to its end, is scenes; their room was served to this end; and so much was written of the scene at its end.
-pub record WasServed (service : Service) (end : ServeEnd) (before after : Ends) (part : List ℕ → List ℕ) : Type 0 where
+-- The room of these scenes, which begins with what their board stores under their joined head, was
+-- held so.
+pub record IsRoomOf (service : Service) (scenes : List Scene) (links : Span LinksEnd)
+    (end : ServeEnd) (text : List ℕ) : Type 0 where
+  pub begun : Begun
+  pub held : WasHeld service begun links end text
+  pub board : IsBoardOf scenes begun.head begun.stored
+
+-- The links were called once to listen, and since then listen on the port of the service; or that
+-- call failed, and the links told nothing. No event is given before links listen.
+pub record ListensOn (service : Service) (end : ServeEnd) (links : Span LinksEnd) : Type 0 where
+  pub once : links.after.listens ≡ one_more links.before.listens
+  pub on_port : (links.after.port ≡ Some service.port)
+      ⊎ ((end ≡ LinkEnd) × (links.after.port ≡ links.before.port)
+      × Tells links.before links.after [] [])
+
+-- The input, read to its end, is scenes; their room was served to this end, which is never want of
+-- memory, and a fault of the links only where their count of faults rose; and so much was written
+-- of the scene at its end.
+pub record WasServed (service : Service) (end : ServeEnd) (ends : Ends)
+    (part : List ℕ → List ℕ) : Type 0 where
   pub bytes : List ℕ
-  pub read : WasRead (span before.input after.input) bytes
+  pub read : WasRead ends.input bytes
   pub scenes : List Scene
   pub has_scenes : HasScenes bytes scenes
   pub text : List ℕ
-  pub room : IsRoomOf service scenes before.links.told after.links.told end text
-  pub listens : ListensOn service end after.links
-  pub took : Took before.output after.output (part text)
+  pub room : IsRoomOf service scenes ends.links end text
+  pub listens : ListensOn service end ends.links
+  pub whole : end ≢ MemoryEnd
+  pub rose : end ≡ LinkEnd → Rose ends.links.before.faults ends.links.after.faults
+  pub took : Took ends.output.before ends.output.after (part text)
 
 -- All of the scene at the end was written.
-abbrev pub WasServedTo : Service → ServeEnd → Ends → Ends → Type 0
-WasServedTo service end before after = WasServed service end before after (λ text. text)
+abbrev pub WasServedTo : Service → ServeEnd → Ends → Type 0
+WasServedTo service end ends = WasServed service end ends (λ text. text)
+
+-- A first part of it was written, and the output's count of faults rose.
+abbrev pub WasServedInPart : Service → Ends → Type 0
+WasServedInPart service ends =
+    ((end : ServeEnd) × (n : ℕ) × WasServed service end ends (take n))
+    × Rose ends.output.before.faults ends.output.after.faults
 
 -- The input was refused: it is too long, or no scenes, with this first fault.
-abbrev pub WasInputRefused : Fault → Ends → Ends → Type 0
-WasInputRefused fault.TooLong before after = GaveTooMuch (span before.input after.input)
-WasInputRefused (fault.Refused found) before after = (bytes : List ℕ) × WasRead (span before.input after.input) bytes × IsRefusal bytes found
-WasInputRefused other before after = ⊥
+abbrev pub WasInputRefused : Fault → Span SourceEnd → Type 0
+WasInputRefused fault.TooLong input = GaveTooMuch input
+WasInputRefused (fault.Refused found) input =
+    (bytes : List ℕ) × WasRead input bytes × IsRefusal bytes found
+WasInputRefused other input = ⊥
 
 -- the status that a room's end gives
 abbrev pub end_status : ServeEnd → Status
@@ -111,30 +128,44 @@ end_line LinksFull = codes "board: room: links full" ++ newline
 end_line EventsFull = codes "board: room: events full" ++ newline
 end_line MemoryEnd = codes "board: out of memory" ++ newline
 
--- What a run that serves a room and ends with a fault comes from: a failure to read or to write where that end's count of
--- faults rose, a refusal where the input is to be refused.
-abbrev pub HasServingCause : Fault → Service → Ends → Ends → Type 0
-HasServingCause fault.Memory service before after = Unit {0}
-HasServingCause fault.Usage service before after = ⊥
-HasServingCause fault.Read service before after = Rose before.input.faults after.input.faults × GaveWithin (span before.input after.input)
-HasServingCause fault.Write service before after =
-    ((end : ServeEnd) × (n : ℕ) × WasServed service end before after (take n)) × Rose before.output.faults after.output.faults
-HasServingCause found service before after = WasInputRefused found before after
+-- What a run that serves a room and ends with a fault comes from: a failure to read or to write
+-- where that end's count of faults rose, a refusal where the input is to be refused.
+abbrev pub HasServingCause : Fault → Service → Ends → Type 0
+HasServingCause fault.Memory service ends = Unit {0}
+HasServingCause fault.Usage service ends = ⊥
+HasServingCause fault.Read service ends =
+    Rose ends.input.before.faults ends.input.after.faults × GaveWithin ends.input
+HasServingCause fault.Write service ends = WasServedInPart service ends
+HasServingCause found service ends = WasInputRefused found ends.input
 
--- How a run that serves a room ends, by its status. Each end of the room is told by its line; of an input that is refused,
--- and of one that can't be read, nothing is served and nothing written.
-abbrev pub EndsServing : Service → Ends → Ends → SinkEnd → SinkEnd → Status → Type 0
-EndsServing service before after notes notes_after status.Done = WasServedTo service AllClosed before after
-EndsServing service before after notes notes_after status.Idle = WasServedTo service IdleEnd before after
-EndsServing service before after notes notes_after status.LinkFault =
-    WasServedTo service LinkEnd before after × Rose before.links.faults after.links.faults × IsNoted (end_line LinkEnd) notes notes_after
-EndsServing service before after notes notes_after status.Refused =
-    ((found : Fault) × (status_of found ≡ status.Refused) × WasInputRefused found before after × Noted found notes notes_after)
-    ⊎ ((end : ServeEnd) × (end_status end ≡ status.Refused) × WasServedTo service end before after × IsNoted (end_line end) notes notes_after)
-EndsServing service before after notes notes_after status.ReadFault =
-    Rose before.input.faults after.input.faults × GaveWithin (span before.input after.input) × Noted fault.Read notes notes_after
-EndsServing service before after notes notes_after status.WriteFault =
-    ((end : ServeEnd) × (n : ℕ) × WasServed service end before after (take n))
-    × Rose before.output.faults after.output.faults × Noted fault.Write notes notes_after
-EndsServing service before after notes notes_after status.Memory = Noted fault.Memory notes notes_after
-EndsServing service before after notes notes_after status.Usage = ⊥
+-- How a run that serves a room ends, by its status. Each end of the room is told by its line; of an
+-- input that is refused, and of one that can't be read, nothing is served and nothing written.
+abbrev pub EndsServing : Service → Ends → Span SinkEnd → Status → Type 0
+EndsServing service ends notes status.Done = WasServedTo service AllClosed ends
+EndsServing service ends notes status.Idle = WasServedTo service IdleEnd ends
+EndsServing service ends notes status.LinkFault =
+    WasServedTo service LinkEnd ends × Rose ends.links.before.faults ends.links.after.faults
+    × IsNoted (end_line LinkEnd) notes.before notes.after
+EndsServing service ends notes status.Refused =
+    ((found : Fault) × (status_of found ≡ status.Refused) × WasInputRefused found ends.input
+    × Noted found notes.before notes.after)
+    ⊎ ((end : ServeEnd) × (end_status end ≡ status.Refused) × WasServedTo service end ends
+    × IsNoted (end_line end) notes.before notes.after)
+EndsServing service ends notes status.ReadFault =
+    Rose ends.input.before.faults ends.input.after.faults × GaveWithin ends.input
+    × Noted fault.Read notes.before notes.after
+EndsServing service ends notes status.WriteFault =
+    WasServedInPart service ends × Noted fault.Write notes.before notes.after
+EndsServing service ends notes status.Memory = Noted fault.Memory notes.before notes.after
+EndsServing service ends notes status.Usage = ⊥
+
+-- What serving a room over an input with these bytes comes to: the room of its scenes was served to
+-- an end that has this status, unless the output failed; or the input is refused with its first
+-- fault.
+abbrev pub ServesInput : Service → List ℕ → Ends → Span SinkEnd → Status → Type 0
+ServesInput service bytes ends notes result =
+    ((scenes : List Scene) × HasScenes bytes scenes
+    × (((end : ServeEnd) × WasServedTo service end ends × (result ≡ end_status end))
+    ⊎ ((result ≡ status.WriteFault) × Rose ends.output.before.faults ends.output.after.faults)))
+    ⊎ ((found : Refusal) × IsRefusal bytes found × (result ≡ status.Refused)
+    × Noted (fault.Refused found) notes.before notes.after)

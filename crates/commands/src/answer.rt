@@ -1,7 +1,7 @@
 //! What an input is answered with, command by command.
 
 ghost use Rattle.std.specs.Prelude.{◌≡◌, ◌⊎◌, ◌++◌, ℕ, [], ◌∷◌, List as Items, Ok, Err, IfOk, IfErr, OnOk, IsSome};
-ghost use Rattle.board_io.specs.Counts.{Rose};
+ghost use Rattle.board_ends.specs.Counts.{Rose};
 ghost use Rattle.scene_file.specs.declared.scene.Scene.{Scene};
 ghost use Rattle.session.specs.Printed.{IsReportText};
 ghost use Rattle.session_text.specs.Facts.{IsSession};
@@ -15,7 +15,8 @@ use crate::input::{one_scene, session, some_board};
 use crate::pictures::picture_lines;
 use crate::status::{Fault, Refusal};
 use crate::words::Command;
-use board_io::{Bytes, Source};
+use board_base::Bytes;
+use board_ends::Source;
 use elem_store::Store;
 use scene_file::{Head, Layout, Scene, elements_text, join, state_text};
 use session::{replay, report_text};

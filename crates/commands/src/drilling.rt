@@ -2,21 +2,21 @@
 
 ghost use Rattle.std.specs.Prelude.{◌≡◌, ◌⊎◌, ◌++◌, ℕ, List as Items, IfOk, IfErr, OnOk, Err, bytes_eq, take};
 ghost use Rattle.std.specs.List.{list_all};
-ghost use Rattle.board_io.specs.Counts.{Rose};
-ghost use Rattle.board_io.specs.Ends.{Took};
-ghost use Rattle.board_io.specs.Pieces.{line_text, piece_text};
+ghost use Rattle.board_ends.specs.Counts.{Rose};
+ghost use Rattle.board_ends.specs.Ends.{Took};
+ghost use Rattle.board_base.specs.Pieces.{line_text, piece_text};
 ghost use Rattle.session.specs.declared.report.ReplicaReport.{ReplicaReport};
 ghost use Rattle.session_text.specs.Facts.{IsSession};
 ghost use Rattle.session_text.specs.Sessions.{IsSessionOf};
 ghost use Rattle.workload.specs.Texts.{drill_text};
-ghost use Rattle.commands.specs.Drills as drills;
-ghost use Rattle.commands.specs.Drills.{of_first, show_one_scene, IsDrilled};
+ghost use Rattle.commands.specs.Drills.{of_first, of_report, show_one_scene, summary_text, IsDrilled};
 ghost use Rattle.commands.specs.Services.{IsDrillWithinLimits};
 ghost use Rattle.commands.specs.declared.status.Fault.{Fault};
 
 use crate::status::Fault;
 use crate::words::Drill;
-use board_io::{Bytes, Failed, List, Piece, Sink, Stop, write_all};
+use board_base::{Bytes, List, Piece, Stop};
+use board_ends::{Failed, Sink, write_all};
 use session::{ReplicaReport, Report, replay};
 use session_text::{Session, read_session};
 use std::alloc::{AllocError, Global};
@@ -70,7 +70,7 @@ fn generated(alloc: Global, drill: Drill) -> Result<Session, AllocError>
 
 /// What a drill tells of the report of its session.
 fn summary(alloc: Global, drill: Drill, report: &Report) -> Result<Bytes, AllocError>
-    ensures { IfOk result (λ text. text ≡ drills.summary drill report.now) }
+    ensures { IfOk result (λ text. text ≡ summary_text drill (of_report report.now)) }
 {
     let (stored, live) = of_first(&report.replicas);
     let last = if show_one_scene(&report.replicas) {
@@ -102,8 +102,8 @@ fn summary(alloc: Global, drill: Drill, report: &Report) -> Result<Bytes, AllocE
 
 /// How many elements the first replica stores, and how many of them are live.
 fn of_first(replicas: &List<ReplicaReport>) -> (u64, u64)
-    ensures stored { result.0 ≡ of_first (λ replica. replica.stored) replicas.now }
-    ensures live { result.1 ≡ of_first (λ replica. replica.live) replicas.now }
+    ensures stored { result.0 ≡ of_first (λ (replica : ReplicaReport). replica.stored) replicas.now }
+    ensures live { result.1 ≡ of_first (λ (replica : ReplicaReport). replica.live) replicas.now }
 {
     match replicas.as_slice().first() {
         Some(first) => (first.stored, first.live),
@@ -113,7 +113,7 @@ fn of_first(replicas: &List<ReplicaReport>) -> (u64, u64)
 
 /// Whether all replicas show one scene.
 fn show_one_scene(replicas: &List<ReplicaReport>) -> bool
-    ensures { result ≡ show_one_scene replicas.now }
+    ensures { result ≡ show_one_scene (λ (replica : ReplicaReport). replica.scene) replicas.now }
 {
     match replicas.as_slice() {
         [] => true,

@@ -1,7 +1,7 @@
 //! The scenes or the session of an input.
 
 ghost use Rattle.std.specs.Prelude.{◌≡◌, ◌⊎◌, ℕ, [], ◌∷◌, List as Items, IfOk, IfErr, Err, IsSome};
-ghost use Rattle.board_io.specs.Counts.{Rose};
+ghost use Rattle.board_ends.specs.Counts.{Rose};
 ghost use Rattle.intake.specs.Texts.{AreRead};
 ghost use Rattle.session_text.specs.Facts.{IsSession};
 ghost use Rattle.session_text.specs.Sessions.{IsSessionOf};
@@ -15,7 +15,8 @@ ghost use Rattle.commands.specs.declared.status.Refusal.{Refusal};
 
 use crate::status::{Fault, Refusal};
 use crate::taking::{Gathered, OneScene, OneSession};
-use board_io::{ReadError, Source, Stop};
+use board_base::Stop;
+use board_ends::{ReadError, Source};
 use elem_store::Store;
 use intake::{Reader, Stopped, read_texts};
 use scene_file::{Head, Scene, SceneFault};

@@ -8,11 +8,14 @@ ghost use Rattle.scene_file.specs.Texts.{IsSceneText};
 ghost use Rattle.scene_file.specs.declared.layout.Layout.{Layout};
 ghost use Rattle.scene_file.specs.declared.scene.Scene.{Scene};
 ghost use Rattle.commands.specs.Answers.{IsAnswer, heads_of, updates_of, shown_of};
+ghost use Rattle.commands.specs.Drills.{IsDrilled};
 ghost use Rattle.commands.specs.Faults.{newline};
 ghost use Rattle.commands.specs.Input.{HasScenes};
+ghost use Rattle.commands.specs.Services.{IsDrillWithinLimits};
 ghost use Rattle.commands.specs.Words.{asked, words_of};
 ghost use Rattle.commands.specs.declared.status.Refusal.{Refusal};
 ghost use Rattle.commands.specs.declared.words.Command.{Command};
+ghost use Rattle.commands.specs.declared.words.Drill.{Drill};
 ghost use Rattle.commands.specs.declared.words.Request.{Request};
 
 /// A command is asked for by its words, and by no others.
@@ -38,3 +41,13 @@ pub fn merge_is_of_the_best()
         → AreBest (updates_of scenes) chosen → IsAnswer (Command.Merge layout) bytes (Ok text)
         → (written : List ℕ) × IsSceneText layout head (shown_of chosen) written × (text ≡ written ++ newline) }
 {}
+
+/// Each drill within its limits tells a text, and one text alone.
+pub fn drill_is_told()
+    ensures exists { (drill : Drill) → IsDrillWithinLimits drill
+        → (text : List ℕ) × IsDrilled drill text }
+    ensures unique { (drill : Drill) (text other : List ℕ)
+        → IsDrilled drill text → IsDrilled drill other → text ≡ other }
+{
+    workload::laws::drill_is_read();
+}

@@ -6,7 +6,7 @@ ghost use Rattle.json_text.specs.Members.{pairs};
 ghost use Rattle.commands.specs.Faults.{newline};
 ghost use Rattle.commands.specs.Pictures.{AreLines, IsToldOfPicture};
 
-use board_io::{Bytes, List, Stop};
+use board_base::{Bytes, List, Stop};
 use file_table::{PictureFault, picture_size};
 use json_text::{Member, Raw, push_quote};
 use std::alloc::{AllocError, Global};

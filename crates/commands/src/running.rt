@@ -1,7 +1,7 @@
 //! The top call: from the words and the input to the output, the notes and a status.
 
 ghost use Rattle.std.specs.Prelude.{◌≡◌, ◌≢◌, ◌↔◌, ◌⊎◌, ℕ, List, None, Some, IsSome, IfOk, IfErr, OnOk, Result, Ok, Err};
-ghost use Rattle.board_io.specs.Counts.{Rose};
+ghost use Rattle.board_ends.specs.Counts.{Rose};
 ghost use Rattle.commands.specs.Again.{RestoresOnce, RestoresMerges, StatesStandFor};
 ghost use Rattle.commands.specs.Answers.{IsAnswer, Converges};
 ghost use Rattle.commands.specs.Causes.{HasCause};
@@ -9,9 +9,10 @@ ghost use Rattle.commands.specs.Closing.{IsServedToClose};
 ghost use Rattle.commands.specs.Drills.{DrillsAgree, EndsDrilling};
 ghost use Rattle.commands.specs.Ends.{span, EndsWith, GaveWithin, GaveTooMuch, HasLeft, WasDone, WasDoneInPart, WasRefused};
 ghost use Rattle.commands.specs.Faults.{status_of, Noted};
-ghost use Rattle.commands.specs.Replays.{ChangesAreCaptured, NothingIsPending, PrintedScenesAgree, RedoRepeats, ReplicasConverge, ReplicasStoreTheBest, UndoBringsBack};
+ghost use Rattle.commands.specs.Members.{MembersAgree, MembersStoreTheRoom};
+ghost use Rattle.commands.specs.Replays.{ChangesAreCaptured, NothingIsPending, OthersChangesStay, PrintedScenesAgree, RedoIsFound, RedoRepeats, ReplicasConverge, ReplicasStoreTheBest, ToldAllStoreTheSame, UndoBringsBack, UndoIsFound, WroteLawfulReport};
 ghost use Rattle.commands.specs.Services.{IsDrillWithinLimits, IsService};
-ghost use Rattle.commands.specs.Serving.{links_seen, end_status, EndsServing, WasServedTo};
+ghost use Rattle.commands.specs.Serving.{ends, end_status, EndsServing, ServesInput, WasServedTo};
 ghost use Rattle.commands.specs.Words.{asked};
 ghost use Rattle.room_core.specs.declared.limits.ServeEnd.{ServeEnd};
 ghost use Rattle.commands.specs.declared.status.Fault.{Fault};
@@ -23,12 +24,13 @@ ghost use Rattle.commands.specs.declared.words.Service.{Service};
 
 use crate::answer::answer;
 use crate::drilling::drill;
-use crate::headline::{drills_hold, merges_hold, replicas_hold};
+use crate::headline::{drills_hold, members_hold, merges_hold, replicas_hold};
 use crate::serving::{noted_end, serve};
 use crate::status::{Fault, Status};
 use crate::words;
 use crate::words::{Command, Drill, Request, Service};
-use board_io::{Bytes, Failed, Links, Sink, Source, write_all};
+use board_base::Bytes;
+use board_ends::{Failed, Links, Sink, Source, write_all};
 use std::alloc::Global;
 
 /// Does what the words ask for, over this input, output and links. On every answer but `Done` and `Idle` one line on the
@@ -86,13 +88,29 @@ pub fn board<S: Source, K: Sink, N: Sink, L: Links>(
 
     // A room that is served: each end by its cause, and what was read, sent and written by then.
     ensures served { (service : Service) → asked words.now ≡ Some (Request.Serve service) → EndsServing service
-        (record { input = S.seen input.old; output = K.seen output.old; links = links_seen L.port L.given L.sent L.lost L.faults links.old })
-        (record { input = S.seen input.new; output = K.seen output.new; links = links_seen L.port L.given L.sent L.lost L.faults links.new })
-        (N.seen notes.old) (N.seen notes.new) result }
+        (ends (span (S.seen input.old) (S.seen input.new))
+        (span (K.seen output.old) (K.seen output.new)) (span (L.seen links.old) (L.seen links.new)))
+        (span (N.seen notes.old) (N.seen notes.new)) result }
     // Where the input has scenes, no end fails and the links lead the room to a close: Done, or memory is wanted.
     ensures serve_complete { (service : Service) → asked words.now ≡ Some (Request.Serve service) → IsServedToClose service
-        (record { input = S.seen input.old; output = K.seen output.old; links = links_seen L.port L.given L.sent L.lost L.faults links.old })
-        (record { input = S.seen input.new; output = K.seen output.new; links = links_seen L.port L.given L.sent L.lost L.faults links.new }) result }
+        (ends (span (S.seen input.old) (S.seen input.new))
+        (span (K.seen output.old) (K.seen output.new)) (span (L.seen links.old) (L.seen links.new))) result }
+
+    // Where the input tells its bytes and doesn't fail, its scenes are served, or it is refused
+    // with its first fault; and one that is too long is refused; or memory is wanted.
+    ensures serve_input { (service : Service) (bytes : List ℕ)
+        → asked words.now ≡ Some (Request.Serve service)
+        → HasLeft (S.seen input.old) bytes
+        → ¬ Rose (S.seen input.old).faults (S.seen input.new).faults
+        → (result ≡ Status.Memory) ⊎ ServesInput service bytes
+        (ends (span (S.seen input.old) (S.seen input.new))
+        (span (K.seen output.old) (K.seen output.new)) (span (L.seen links.old) (L.seen links.new)))
+        (span (N.seen notes.old) (N.seen notes.new)) result }
+    ensures serve_too_long { (service : Service) → asked words.now ≡ Some (Request.Serve service)
+        → IsSome (S.seen input.old).left → GaveTooMuch (span (S.seen input.old) (S.seen input.new))
+        → (result ≡ Status.Memory)
+        ⊎ ((result ≡ Status.Refused) × Noted Fault.TooLong (N.seen notes.old) (N.seen notes.new)) }
+
     // A drill: each end by its cause, and what was written by then. The input isn't read.
     ensures drilled { (drill : Drill) → asked words.now ≡ Some (Request.Drill drill)
         → EndsDrilling drill (span (K.seen output.old) (K.seen output.new)) (span (N.seen notes.old) (N.seen notes.new)) result }
@@ -106,8 +124,8 @@ pub fn board<S: Source, K: Sink, N: Sink, L: Links>(
     ensures refused_unserved { (service : Service) → asked words.now ≡ Some (Request.Serve service) → result ≡ Status.Refused
         → ((output.new ≡ output.old) × (links.new ≡ links.old))
         ⊎ ((end : ServeEnd) × (end_status end ≡ Status.Refused) × WasServedTo service end
-        (record { input = S.seen input.old; output = K.seen output.old; links = links_seen L.port L.given L.sent L.lost L.faults links.old })
-        (record { input = S.seen input.new; output = K.seen output.new; links = links_seen L.port L.given L.sent L.lost L.faults links.new })) }
+        (ends (span (S.seen input.old) (S.seen input.new))
+        (span (K.seen output.old) (K.seen output.new)) (span (L.seen links.old) (L.seen links.new)))) }
 
     // Inputs with the same updates are merged to one text.
     ensures converges { Converges }
@@ -118,13 +136,26 @@ pub fn board<S: Source, K: Sink, N: Sink, L: Links>(
     // repeats it.
     ensures replicas_store_the_best { ReplicasStoreTheBest }
     ensures replicas_converge { ReplicasConverge }
+    ensures told_all_store_the_same { ToldAllStoreTheSame }
     ensures printed_scenes_agree { PrintedScenesAgree }
     ensures undo_brings_back { UndoBringsBack }
+    ensures undo_is_found { UndoIsFound }
     ensures nothing_is_pending { NothingIsPending }
     ensures changes_are_captured { ChangesAreCaptured }
     ensures redo_repeats { RedoRepeats }
+    ensures redo_is_found { RedoIsFound }
+    ensures others_changes_stay { OthersChangesStay }
 
-    // In every drill no two updates clash, and all replicas show one scene.
+    // A replay that is done wrote the report of a session of which all of these laws hold, at its end and after each event.
+    ensures laws_of_a_replay { asked words.now ≡ Some (Request.Answer Command.Replay) → result ≡ Status.Done
+        → WroteLawfulReport (span (S.seen input.old) (S.seen input.new)) (span (K.seen output.old) (K.seen output.new)) }
+
+    // In every room that is served, what the updates of a member store is what the room stores,
+    // and so does any list of the same updates.
+    ensures members_store_the_room { MembersStoreTheRoom }
+    ensures members_agree { MembersAgree }
+
+    // In every drill no two updates clash, and its four replicas show one scene.
     ensures drills_agree { DrillsAgree }
 
     // What was restored or merged is restored as the input itself, and the states of inputs stand for these.
@@ -134,6 +165,7 @@ pub fn board<S: Source, K: Sink, N: Sink, L: Links>(
 {
     merges_hold();
     replicas_hold();
+    members_hold();
     drills_hold();
     match words::asked(words) {
         None => Fault::Usage.noted(notes),
@@ -210,19 +242,19 @@ fn serve_run<S: Source, K: Sink, N: Sink, L: Links>(
 ) -> Status
     requires { IsService service }
     ensures served { EndsServing service
-        (record { input = S.seen input.old; output = K.seen output.old; links = links_seen L.port L.given L.sent L.lost L.faults links.old })
-        (record { input = S.seen input.new; output = K.seen output.new; links = links_seen L.port L.given L.sent L.lost L.faults links.new })
-        (N.seen notes.old) (N.seen notes.new) result }
+        (ends (span (S.seen input.old) (S.seen input.new))
+        (span (K.seen output.old) (K.seen output.new)) (span (L.seen links.old) (L.seen links.new)))
+        (span (N.seen notes.old) (N.seen notes.new)) result }
     ensures complete { IsServedToClose service
-        (record { input = S.seen input.old; output = K.seen output.old; links = links_seen L.port L.given L.sent L.lost L.faults links.old })
-        (record { input = S.seen input.new; output = K.seen output.new; links = links_seen L.port L.given L.sent L.lost L.faults links.new }) result }
+        (ends (span (S.seen input.old) (S.seen input.new))
+        (span (K.seen output.old) (K.seen output.new)) (span (L.seen links.old) (L.seen links.new))) result }
     ensures notes_kept { (result ≡ Status.Done) ⊎ (result ≡ Status.Idle) → notes.new ≡ notes.old }
     ensures unwritten { (result ≡ Status.Memory) ⊎ (result ≡ Status.ReadFault) → output.new ≡ output.old }
     ensures unserved { result ≡ Status.ReadFault → links.new ≡ links.old }
     ensures refused_unserved { result ≡ Status.Refused → ((output.new ≡ output.old) × (links.new ≡ links.old))
         ⊎ ((end : ServeEnd) × (end_status end ≡ Status.Refused) × WasServedTo service end
-        (record { input = S.seen input.old; output = K.seen output.old; links = links_seen L.port L.given L.sent L.lost L.faults links.old })
-        (record { input = S.seen input.new; output = K.seen output.new; links = links_seen L.port L.given L.sent L.lost L.faults links.new })) }
+        (ends (span (S.seen input.old) (S.seen input.new))
+        (span (K.seen output.old) (K.seen output.new)) (span (L.seen links.old) (L.seen links.new)))) }
 {
     room_core::laws::closing_ends_a_room();
     match serve(alloc, service, input, output, links) {

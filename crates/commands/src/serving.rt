@@ -1,15 +1,14 @@
 //! A room that is served: from the scenes that it begins with to the scene that is written at its end.
 
 ghost use Rattle.std.specs.Prelude.{◌≡◌, ◌≢◌, ◌⊎◌, ℕ, Some, [], List as Items, IfOk, IfErr, Err};
-ghost use Rattle.board_io.specs.Counts.{Rose};
+ghost use Rattle.board_ends.specs.Counts.{Rose};
 ghost use Rattle.room_core.specs.Serving.{at_start, IsServed};
-ghost use Rattle.room_core.specs.Told.{told_of};
 ghost use Rattle.scene_file.specs.declared.scene.Scene.{Scene};
 ghost use Rattle.commands.specs.Answers.{IsBoardOf, IsRefusal};
 ghost use Rattle.commands.specs.Ends.{span, GaveWithin, GaveTooMuch, WasRead};
 ghost use Rattle.commands.specs.Input.{HasScenes};
 ghost use Rattle.commands.specs.Services.{IsService};
-ghost use Rattle.commands.specs.Serving.{links_seen, end_line, end_status, HasServingCause, IsSceneOfStored, WasHeld, WasServedTo};
+ghost use Rattle.commands.specs.Serving.{ends, end_line, end_status, HasServingCause, IsSceneOfStored, ListensOn, WasHeld, WasServedTo};
 ghost use Rattle.commands.specs.Faults.{IsNoted};
 ghost use Rattle.commands.specs.declared.status.Fault.{Fault};
 ghost use Rattle.commands.specs.declared.status.Refusal.{Refusal};
@@ -18,7 +17,8 @@ use crate::answer::ended;
 use crate::input::some_board;
 use crate::status::{Fault, Refusal, Status};
 use crate::words::Service;
-use board_io::{Bytes, Failed, LinkError, Links, Piece, Sink, Source, write_all, write_pieces};
+use board_base::{Bytes, Piece};
+use board_ends::{Failed, LinkError, Links, Sink, Source, write_all, write_pieces};
 use elem_store::Store;
 use room_core::{Room, ServeEnd, serve_room};
 use scene_file::{Head, Layout, elements_text};
@@ -34,13 +34,12 @@ pub(crate) fn serve<S: Source, K: Sink, L: Links>(
     links: &mut L,
 ) -> Result<ServeEnd, Fault>
     requires { IsService service }
-    ensures served { IfOk result (λ end. (end ≢ ServeEnd.Memory) × WasServedTo service end
-        (record { input = S.seen input.old; output = K.seen output.old; links = links_seen L.port L.given L.sent L.lost L.faults links.old })
-        (record { input = S.seen input.new; output = K.seen output.new; links = links_seen L.port L.given L.sent L.lost L.faults links.new })) }
-    ensures rose { IfOk result (λ end. end ≡ ServeEnd.LinkFault → Rose (L.faults links.old) (L.faults links.new)) }
+    ensures served { IfOk result (λ end. WasServedTo service end
+        (ends (span (S.seen input.old) (S.seen input.new))
+        (span (K.seen output.old) (K.seen output.new)) (span (L.seen links.old) (L.seen links.new)))) }
     ensures fault { IfErr result (λ fault. HasServingCause fault service
-        (record { input = S.seen input.old; output = K.seen output.old; links = links_seen L.port L.given L.sent L.lost L.faults links.old })
-        (record { input = S.seen input.new; output = K.seen output.new; links = links_seen L.port L.given L.sent L.lost L.faults links.new })) }
+        (ends (span (S.seen input.old) (S.seen input.new))
+        (span (K.seen output.old) (K.seen output.new)) (span (L.seen links.old) (L.seen links.new)))) }
     ensures output_kept { IfErr result (λ fault. fault ≢ Fault.Write → output.new ≡ output.old) }
     ensures links_kept { IfErr result (λ fault. fault ≢ Fault.Write → fault ≢ Fault.Memory → links.new ≡ links.old) }
 {
@@ -61,11 +60,14 @@ fn hold<L: Links>(
     links: &mut L,
 ) -> Result<(ServeEnd, Bytes), Fault>
     requires { IsService service }
-    ensures held { IfOk result (λ held. WasHeld service head.now store.elements
-        (told_of L.given L.sent L.lost links.old) (told_of L.given L.sent L.lost links.new) held.0 held.1) }
+    ensures held { IfOk result (λ held. WasHeld service
+        (record { head = head.now; stored = store.elements })
+        (span (L.seen links.old) (L.seen links.new)) held.0 held.1) }
     ensures end { IfOk result (λ held. held.0 ≢ ServeEnd.Memory) }
-    ensures rose { IfOk result (λ held. held.0 ≡ ServeEnd.LinkFault → Rose (L.faults links.old) (L.faults links.new)) }
-    ensures port { IfOk result (λ held. (held.0 ≡ ServeEnd.LinkFault) ⊎ (L.port links.new ≡ Some service.port)) }
+    ensures rose { IfOk result (λ held. held.0 ≡ ServeEnd.LinkFault
+        → Rose (L.seen links.old).faults (L.seen links.new).faults) }
+    ensures listens { IfOk result (λ held. ListensOn service held.0
+        (span (L.seen links.old) (L.seen links.new))) }
     ensures memory { IfErr result (λ fault. fault ≡ Fault.Memory) }
 {
     let mut room = Room::new(alloc, store);
@@ -84,9 +86,11 @@ fn serve_on<L: Links>(alloc: Global, service: Service, room: &mut Room, links: &
     requires service { IsService service }
     requires fresh { room.old.joined ≡ [] }
     ensures served { IsServed service.limits (at_start room.old) room.new
-        (told_of L.given L.sent L.lost links.old) (told_of L.given L.sent L.lost links.new) result }
-    ensures fault { result ≡ ServeEnd.LinkFault → Rose (L.faults links.old) (L.faults links.new) }
-    ensures port { (result ≡ ServeEnd.LinkFault) ⊎ ((result ≡ ServeEnd.Memory) ⊎ (L.port links.new ≡ Some service.port)) }
+        (L.seen links.old) (L.seen links.new) result }
+    ensures fault { result ≡ ServeEnd.LinkFault
+        → Rose (L.seen links.old).faults (L.seen links.new).faults }
+    ensures listens { result ≢ ServeEnd.Memory
+        → ListensOn service result (span (L.seen links.old) (L.seen links.new)) }
 {
     match links.listen(service.port) {
         Ok(()) => serve_room(alloc, room, links, &service.limits),

@@ -1,12 +1,13 @@
 //! How a run ends, and the line that says why it didn't do what it was asked for.
 
 ghost use Rattle.std.specs.Prelude.{◌≡◌, ◌++◌, codes, decimal};
-ghost use Rattle.board_io.specs.Pieces.{line_text, piece_text};
+ghost use Rattle.board_base.specs.Pieces.{line_text, piece_text};
 ghost use Rattle.commands.specs.Faults.{code_of, newline, status_of, line_of, Noted};
 ghost use Rattle.commands.specs.declared.status.Fault.{Fault};
 ghost use Rattle.commands.specs.declared.status.Refusal.{Refusal};
 
-use board_io::{Piece, Sink, write_pieces};
+use board_base::Piece;
+use board_ends::{Sink, write_pieces};
 use scene_file::SceneFault;
 use session_text::TextFault;
 use std::alloc::AllocError;

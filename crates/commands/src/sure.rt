@@ -5,7 +5,8 @@ ghost use Rattle.commands.specs.declared.status.Status.{Status};
 
 use crate::running::board;
 use crate::status::Status;
-use board_io::{Bytes, Links, Sink, SureSink, SureSource};
+use board_base::Bytes;
+use board_ends::{Links, Sink, SureSink, SureSource};
 use std::alloc::Global;
 
 /// `board` over an input and an output that never fail: a fault of reading or of writing never comes.

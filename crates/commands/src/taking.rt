@@ -4,7 +4,7 @@ ghost use Rattle.std.specs.Prelude.{◌≡◌, ◌+◌, [], Option, List as Item
 ghost use Rattle.commands.specs.Readers.{SayBoard, board_seen, one_seen};
 ghost use Rattle.commands.specs.SessionTexts.{session_seen};
 
-use board_io::Stop;
+use board_base::Stop;
 use elem_store::Store;
 use intake::Reader;
 use json_text::Raw;

@@ -4,7 +4,7 @@ ghost use Rattle.std.specs.Prelude.{◌≡◌, ◌≤◌, ◌<◌, ◌^◌, IfSo
 ghost use Rattle.commands.specs.Services.{drill_of, number_within, service_of};
 ghost use Rattle.commands.specs.Words.{asked, asked_alone, asked_command, asked_drill, asked_layout, asked_service};
 
-use board_io::Bytes;
+use board_base::Bytes;
 use room_core::RoomLimits;
 use scene_file::Layout;
 use scene_json::whole_in;

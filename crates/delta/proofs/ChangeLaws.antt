@@ -7,11 +7,11 @@ use Rattle.std.proofs.lemmas.List.Folds.{find-append}
 use Rattle.json_text.specs.Members.{pairs}
 use Rattle.json_text.specs.Value.{IsCompact}
 use Rattle.json_text.specs.declared.text.Member.{Member}
-use Rattle.json_text.proofs.Collapsed.{bytes_eq-true, bytes_eq-same, bytes_eq-apart}
+use Rattle.json_text.proofs.CallerLemmas.{bytes_eq-true, bytes_eq-same, bytes_eq-apart}
 use Rattle.frac_keys.specs.Rising.{are_rising}
 use Rattle.elem.specs.ElementValue.{ElementValue}
 use Rattle.elem.specs.Facts.{IsElement, is_header, names}
-use Rattle.elem.proofs.Sorting.{IsRising}
+use Rattle.elem.proofs.CallerLemmas.{IsRising}
 use Rattle.delta.specs.declared.change.Change.{Change}
 use Rattle.delta.specs.declared.change.Change.TheVariants.{Scalar, Groups, Bound}
 use Rattle.delta.specs.declared.header.Header.{Header}
@@ -19,7 +19,7 @@ use Rattle.delta.specs.Applied.{Changes, scalar_after, groups_after, bound_after
 use Rattle.delta.specs.Delta.{Delta}
 use Rattle.delta.specs.Facts.{IsPart, IsChange, AreParts, name_of, change_names, part_ids}
 use Rattle.delta.specs.Headers.{header_named, value_named, scalar_at, scalar_of}
-use Rattle.delta.specs.Kept.{IsScalarSet}
+use Rattle.delta.specs.inner.Kept.{IsScalarSet}
 use Rattle.delta.specs.Parts.{change_of, inverted, inverse}
 use Rattle.delta.specs.Rest.{made, with_value}
 use Rattle.delta.proofs.HeaderLaws.{header_kept}

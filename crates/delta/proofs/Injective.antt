@@ -9,17 +9,13 @@ use Rattle.json_text.specs.Members.{pairs}
 use Rattle.json_text.specs.Tree.{letter_meaning, null_word, object}
 use Rattle.json_text.specs.Value.{IsCompact, Stands, Follows}
 use Rattle.json_text.specs.declared.text.Member.{Member}
-use Rattle.json_text.proofs.Collapsed.{bytes_eq-true}
-use Rattle.json_text.proofs.CompactLaws.{Value-Form, Value-deeper}
-use Rattle.json_text.proofs.Forms.{form-quoted}
-use Rattle.json_text.proofs.Reading.{tree-Head, first-same, tail-same, Stands-once}
-use Rattle.json_text.proofs.Strings.{heads-differ}
+use Rattle.json_text.proofs.CallerLemmas.{bytes_eq-true, Value-Form, Value-deeper, form-quoted, tree-Head, first-same, tail-same, Stands-once, heads-differ}
 use Rattle.scene_json.specs.Passes.{behind_item}
-use Rattle.scene_json.proofs.ItemsLeft.{behind-split}
+use Rattle.scene_json.proofs.CallerLemmas.{behind-split}
 use Rattle.elem.specs.declared.parts.Binding.{Binding}
 use Rattle.elem.specs.Facts.{IsBinding, names}
 use Rattle.elem.specs.Texts.{truth_text, text_or_null, binding_text}
-use Rattle.elem.proofs.Sorting.{AllByRecursion-weaker}
+use Rattle.elem.proofs.CallerLemmas.{AllByRecursion-weaker}
 use Rattle.delta.specs.Headers.{value_named}
 use Rattle.delta.specs.Rest.{with_value}
 use Rattle.delta.proofs.RestLaws.{risen, each-with_value, named-with_value, sorted-with_value, with_value-back, rises, rising-with_value}

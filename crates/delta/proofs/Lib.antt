@@ -8,3 +8,4 @@ pub mod Placing
 pub mod RestLaws
 pub mod RisingIds
 pub mod ToldLaws
+pub mod CallerLemmas

@@ -87,7 +87,7 @@ scalar-unstamped e name = elim (header_named e.kind name) as (λ o. scalar_at (u
     text headers.EndBinding = refl
     text headers.File = refl
 
-scalars-same-but-stamp : (a b : ElementValue) → unstamped a ≡ unstamped b → (name : List ℕ) → scalar_of a name ≡ scalar_of b name
+pub scalars-same-but-stamp : (a b : ElementValue) → unstamped a ≡ unstamped b → (name : List ℕ) → scalar_of a name ≡ scalar_of b name
 scalars-same-but-stamp a b same name = sym (scalar-unstamped a name) ∙ ap (λ (e : ElementValue). scalar_of e name) same ∙ scalar-unstamped b name
 
 module _ (pair other : Pair) (same : IsSamePair pair other) where

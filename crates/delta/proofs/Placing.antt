@@ -4,10 +4,10 @@ use Rattle.std.specs.Option.{option_map_or}
 use Rattle.std.specs.List.{AllByRecursion}
 use Rattle.std.specs.List.Sorted.{IsPartitionedBy}
 use Rattle.std.proofs.lemmas.Bool.{cases_Bool, false≢true, and_parts, and_from}
-use Rattle.json_text.proofs.Collapsed.{bytes_eq-true, bytes_eq-same, bytes_eq-apart}
+use Rattle.json_text.proofs.CallerLemmas.{bytes_eq-true, bytes_eq-same, bytes_eq-apart}
 use Rattle.frac_keys.specs.Keys.{bytes_less}
 use Rattle.frac_keys.specs.Rising.{ends_rise, rise_between, are_rising}
-use Rattle.elem.proofs.Sorting.{bytes_less-trans, bytes_less-same, bytes_less-asym, bytes_less-turned}
+use Rattle.elem.proofs.CallerLemmas.{bytes_less-trans, bytes_less-same, bytes_less-asym, bytes_less-turned}
 use Rattle.delta.specs.Placed.{item_of, with_item}
 
 none-some : {X : Type 0} (x : X) → None ≡ Some x → ⊥

@@ -8,12 +8,12 @@ use Rattle.std.proofs.lemmas.List.{get_or-take, get_or-drop}
 use Rattle.json_text.specs.Members.{pairs}
 use Rattle.json_text.specs.Compact.{Member as Pair}
 use Rattle.json_text.specs.declared.text.Member.{Member}
-use Rattle.json_text.proofs.Collapsed.{bytes_eq-true, bytes_eq-same, bytes_eq-apart}
-use Rattle.scene_json.proofs.Pairs.{names-pairs}
+use Rattle.json_text.proofs.CallerLemmas.{bytes_eq-true, bytes_eq-same, bytes_eq-apart}
+use Rattle.scene_json.proofs.CallerLemmas.{names-pairs}
 use Rattle.frac_keys.specs.Keys.{bytes_less}
 use Rattle.frac_keys.specs.Rising.{are_rising}
 use Rattle.elem.specs.Facts.{names}
-use Rattle.elem.proofs.Sorting.{IsRising, IsRising-from, are_rising-from, AllByRecursion-weaker, bytes_less-trans, bytes_less-same, bytes_less-asym, bytes_less-turned}
+use Rattle.elem.proofs.CallerLemmas.{IsRising, IsRising-from, are_rising-from, AllByRecursion-weaker, bytes_less-trans, bytes_less-same, bytes_less-asym, bytes_less-turned}
 use Rattle.elem.specs.Texts.{with_member, sorted_members}
 use Rattle.delta.specs.Headers.{value_named}
 use Rattle.delta.specs.Rest.{value_if, made, without_first, with_value}

@@ -8,7 +8,7 @@ use Rattle.std.proofs.lemmas.List.Folds.{find-append, list_any-append}
 use Rattle.std.proofs.lemmas.Map.Keys.{IsDistinct-push}
 use Rattle.json_text.specs.Value.{IsCompact}
 use Rattle.json_text.specs.declared.text.Member.{Member}
-use Rattle.json_text.proofs.Collapsed.{bytes_eq-true, bytes_eq-same}
+use Rattle.json_text.proofs.CallerLemmas.{bytes_eq-true, bytes_eq-same}
 use Rattle.elem.specs.declared.parts.BoundRef.{BoundRef}
 use Rattle.elem.specs.ElementValue.{ElementValue}
 use Rattle.elem.specs.declared.kind.Kind.{Kind}
@@ -22,7 +22,7 @@ use Rattle.delta.specs.Headers.{header_named, value_named, scalar_at, scalar_of}
 use Rattle.elem.specs.Listings.{same_listing_entry}
 use Rattle.delta.specs.Joined.{are_same}
 use Rattle.delta.specs.Parts.{change_of, scalar_change, groups_change, bound_change, scalars_same}
-use Rattle.delta.specs.Told.{change_between, with_change, AreChangesOf, AreAllChanges}
+use Rattle.delta.specs.inner.Told.{change_between, with_change, AreChangesOf, AreAllChanges}
 use Rattle.delta.proofs.HeaderLaws.{header_name, named}
 use Rattle.delta.proofs.Placing.{item-put, rising-put, each-put}
 

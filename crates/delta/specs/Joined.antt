@@ -1,7 +1,7 @@
 -- Lists that change item by item. This project's own, after Excalidraw's deltas.
 use Rattle.std.specs.Prelude.{List, ◌++◌, Bool, not, ◌==◌, length, ◌&&◌, ◌||◌, filter, if◌then◌else◌}
 use Rattle.std.specs.List.{list_any, list_all, zip}
-use Rattle.first_texts.specs.FirstOccurrences.{first_occurrences}
+use Rattle.json_text.specs.FirstOccurrences.{first_occurrences}
 
 -- whether two lists are the same: as long, and the same item by item
 abbrev pub are_same : {T : Type 0} → (T → T → Bool) → List T → List T → Bool

@@ -3,10 +3,9 @@ pub mod Delta
 pub mod Facts
 pub mod Headers
 pub mod Joined
-pub mod Kept
 pub mod Pairs
 pub mod Parts
 pub mod Placed
 pub mod Rest
-pub mod Told
 pub mod Undone
+pub mod inner

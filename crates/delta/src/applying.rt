@@ -8,7 +8,7 @@ ghost use Rattle.elem.specs.Facts.{IsElement};
 ghost use Rattle.delta.specs.Applied.{Changes, IsApplied, KeepsStamp};
 ghost use Rattle.delta.specs.Facts.{IsChange, IsScalar, change_names, other_names};
 ghost use Rattle.delta.specs.Headers as headers;
-ghost use Rattle.delta.specs.Kept.{IsScalarSet};
+ghost use Rattle.delta.specs.inner.Kept.{IsScalarSet};
 
 use crate::change::Change;
 use crate::header::{header_named, set_header};
@@ -16,7 +16,7 @@ use crate::join::join;
 use crate::kinds::are_one_kind;
 use crate::part::Part;
 use crate::rest::put_value;
-use board_io::List;
+use board_base::List;
 use elem::{BoundRef, Element};
 use json_text::{Raw, Text};
 use std::alloc::{AllocError, Global};

@@ -13,7 +13,7 @@ ghost use Rattle.elem.specs.Texts.{binding_text};
 ghost use Rattle.delta.specs.Headers.{value_named};
 
 use crate::rest::{find_value, put_value};
-use board_io::{List, Stop};
+use board_base::{List, Stop};
 use elem::Binding;
 use json_text::{Member, Raw, Text};
 use scene_json::{is_null, members, raw_null, raw_object, raw_text, text_of};

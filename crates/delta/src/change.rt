@@ -2,7 +2,7 @@
 
 ghost use Rattle.std.specs.Prelude.{◌≡◌, IfOk};
 
-use board_io::List;
+use board_base::List;
 use elem::BoundRef;
 use json_text::{Raw, Text};
 use std::alloc::AllocError;

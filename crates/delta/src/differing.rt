@@ -11,14 +11,14 @@ ghost use Rattle.std.specs.Option.{option_map_or};
 ghost use Rattle.delta.specs.Headers.{header_named, scalar_of, value_named};
 ghost use Rattle.delta.specs.Parts as parts;
 ghost use Rattle.delta.specs.Parts.{PartStandsFor, counted, groups_change, bound_change};
-ghost use Rattle.delta.specs.Told.{AreChangesOf, AreAllChanges, with_change};
+ghost use Rattle.delta.specs.inner.Told.{AreChangesOf, AreAllChanges, with_change};
 
 use crate::change::Change;
 use crate::header::{header_named, header_raw};
 use crate::join::are_same;
 use crate::part::Part;
 use crate::rest::find_value;
-use board_io::List;
+use board_base::List;
 use elem::{BoundRef, Element};
 use json_text::{Member, Raw, Text};
 use std::alloc::{AllocError, Global};

@@ -7,7 +7,7 @@ ghost use Rattle.elem.specs.Texts.{text_or_null, truth_text};
 ghost use Rattle.delta.specs.Facts.{IsAccepted};
 ghost use Rattle.delta.specs.Headers as headers;
 ghost use Rattle.delta.specs.Headers.{scalar_text};
-ghost use Rattle.delta.specs.Kept.{IsHeaderSet, BelongsTo};
+ghost use Rattle.delta.specs.inner.Kept.{IsHeaderSet, BelongsTo};
 
 use crate::binding::{binding_of, binding_raw, text_in};
 use elem::{Element, Kind};

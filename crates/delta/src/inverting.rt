@@ -5,7 +5,7 @@ ghost use Rattle.delta.specs.Parts.{inverted, inverse, inverses};
 
 use crate::change::Change;
 use crate::part::{Entry, Part};
-use board_io::List;
+use board_base::List;
 use elem::Kind;
 use json_text::Text;
 use std::alloc::Global;

@@ -1,12 +1,12 @@
 //! Lists that change item by item.
 
 ghost use Rattle.std.specs.Prelude.{◌≡◌, [], ◌∷◌, ◌++◌, not, ◌&&◌, filter, true, bytes_eq, IfOk, OnOk, if◌then◌else◌};
-ghost use Rattle.json_text.proofs.Collapsed.{bytes_eq-true};
-ghost use Rattle.first_texts.specs.FirstOccurrences.{first_occurrences};
+ghost use Rattle.json_text.proofs.CallerLemmas.{bytes_eq-true};
+ghost use Rattle.json_text.specs.FirstOccurrences.{first_occurrences};
 ghost use Rattle.delta.specs.Joined.{are_same, is_in, stays, is_gained, joined};
 ghost use Rattle.elem.specs.Listings.{same_listing_entry-exact, same_listing_entry, same_role};
 
-use board_io::List;
+use board_base::List;
 use elem::{BoundRef, Role};
 use json_text::Text;
 use std::alloc::{AllocError, Global};

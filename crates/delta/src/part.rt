@@ -3,7 +3,7 @@
 ghost use Rattle.std.specs.Prelude.{◌≡◌, IfOk};
 
 use crate::change::Change;
-use board_io::List;
+use board_base::List;
 use elem::Kind;
 use json_text::Text;
 use std::alloc::AllocError;

@@ -6,8 +6,8 @@ use Rattle.std.proofs.lemmas.Bool.{cases_Bool}
 use Rattle.std.proofs.lemmas.Option.{same_Some}
 use Rattle.frac_keys.specs.Keys.{bytes_less}
 use Rattle.elem.specs.ElementValue.{ElementValue}
-use Rattle.effects.specs.declared.command.Command.{Command}
-use Rattle.effects.specs.declared.command.Refusal.{Refusal}
+use Rattle.board_commands.specs.declared.command.Command.{Command}
+use Rattle.effects.specs.declared.refusal.Refusal.{Refusal}
 use Rattle.effects.specs.declared.effect.Effect.{Effect}
 use Rattle.effects.specs.Changed.{is_full, changes_of, created, with_created, outcome, outcome_from, outcome_unless, refusal_at}
 use Rattle.effects.specs.Prepared.{made_by, Prepares}

@@ -5,30 +5,30 @@ use Rattle.std.specs.Option.{option_map, option_map_or}
 use Rattle.std.proofs.lemmas.Bool.{cases_Bool, false≢true, both_ways, and_parts, and_from, or_from, or_left, or_right, not-false, cond-true, cond-false}
 use Rattle.std.proofs.lemmas.List.Folds.{list_any-append}
 use Rattle.std.proofs.lemmas.Option.{none-some, same_Some}
-use Rattle.json_text.proofs.Collapsed.{bytes_eq-same, bytes_eq-apart}
+use Rattle.json_text.proofs.CallerLemmas.{bytes_eq-same, bytes_eq-apart}
 use Rattle.json_text.specs.declared.text.Member.{Member}
 use Rattle.frac_keys.specs.Between.{key_between}
 use Rattle.frac_keys.specs.Rising.{ends_rise, are_rising, is_key_or_none}
-use Rattle.frac_keys.proofs.BetweenLaws.{key_between-law}
+use Rattle.frac_keys.proofs.CallerLemmas.{key_between-law}
 use Rattle.elem.specs.declared.parts.Binding.{Binding}
 use Rattle.elem.specs.declared.parts.BoundRef.{BoundRef}
 use Rattle.elem.specs.ElementValue.{ElementValue}
 use Rattle.elem.specs.Order.{unstamped, has_id}
 use Rattle.elem_store.specs.Updates.{element_of, ids_of}
-use Rattle.elem_store.proofs.Ids.{same_id}
-use Rattle.elem_store.proofs.Lists.{Contains-head, Contains-cons, find-Some, is_some-find, list_any-false}
+use Rattle.elem_store.proofs.CallerLemmas.{same_id, Contains-head, Contains-cons, find-Some, is_some-find, list_any-false}
 use Rattle.links.specs.Arrows.{names_target}
 use Rattle.elem.specs.Listings.{same_listing_entry}
 use Rattle.links.specs.Entries.{arrow_entry, lists}
 use Rattle.links.specs.Names.{is_id, is_arrow, target_of}
-use Rattle.view.specs.Shown.{index_of, is_live, HaveRisingKeys, HaveKeysOrNone}
-use Rattle.effects.specs.declared.command.Command.{Command}
-use Rattle.effects.specs.declared.command.Command.TheVariants as commands
-use Rattle.effects.specs.declared.command.Refusal.TheVariants.{NoElement, WrongKind}
-use Rattle.effects.specs.declared.command.Side.{Side}
-use Rattle.effects.specs.declared.command.Side.TheVariants.{Start, End}
-use Rattle.effects.specs.declared.command.Spot.{Spot}
-use Rattle.effects.specs.declared.command.Spot.TheVariants.{Bottom, Top, After}
+use Rattle.index_repair.specs.Keyed.{index_of, HaveRisingKeys, HaveKeysOrNone}
+use Rattle.view.specs.Shown.{is_live}
+use Rattle.board_commands.specs.declared.command.Command.{Command}
+use Rattle.board_commands.specs.declared.command.Command.TheVariants as commands
+use Rattle.effects.specs.declared.refusal.Refusal.TheVariants.{NoElement, WrongKind}
+use Rattle.board_commands.specs.declared.command.Side.{Side}
+use Rattle.board_commands.specs.declared.command.Side.TheVariants.{Start, End}
+use Rattle.board_commands.specs.declared.command.Spot.{Spot}
+use Rattle.board_commands.specs.declared.command.Spot.TheVariants.{Bottom, Top, After}
 use Rattle.effects.specs.Changed.{outcome, created_at}
 use Rattle.effects.specs.Deleting.{kept_name, kept_end, kept_entries, without_names, deleted_from, has_gone_names}
 use Rattle.effects.specs.Effects.{effect}

@@ -4,11 +4,11 @@ use Rattle.std.specs.Option.{option_or, option_map}
 use Rattle.std.proofs.lemmas.Bool.{cases_Bool}
 use Rattle.std.proofs.lemmas.List.{take_more, take-append-drop}
 use Rattle.std.proofs.Math.Seq.{drop-cons}
-use Rattle.board_io.specs.declared.stop.Stop.{Stop}
-use Rattle.board_io.specs.declared.stop.Stop.TheVariants.{Fault, Memory}
-use Rattle.effects.specs.declared.command.Refusal.{Refusal}
+use Rattle.board_base.specs.declared.stop.Stop.{Stop}
+use Rattle.board_base.specs.declared.stop.Stop.TheVariants.{Fault, Memory}
+use Rattle.effects.specs.declared.refusal.Refusal.{Refusal}
 use Rattle.effects.specs.Changed.{OnFault}
-use Rattle.effects.specs.declared.command.Refusal.TheVariants.{WrongKind}
+use Rattle.effects.specs.declared.refusal.Refusal.TheVariants.{WrongKind}
 use Rattle.effects.specs.Refusals.{unless_right}
 
 -- what holds of a fault makes another fact hold of it

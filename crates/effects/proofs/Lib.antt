@@ -9,3 +9,4 @@ pub mod WalkingLaws
 pub mod PreparingLaws
 pub mod OutcomeLaws
 pub mod CommandLaws
+pub mod CallerLemmas

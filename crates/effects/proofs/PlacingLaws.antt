@@ -4,13 +4,13 @@ use Rattle.std.specs.BTreeMap.{BTreeMap, get, Updates}
 use Rattle.std.specs.Cmp.Lexicographic.{slice_cmp, nat_list_eq_equiv, texts_ties}
 use Rattle.std.specs.Option.{option_or, option_map, option_copied}
 use Rattle.std.proofs.lemmas.Bool.{cases_Bool, false≢true}
-use Rattle.json_text.proofs.Collapsed.{bytes_eq-true}
+use Rattle.json_text.proofs.CallerLemmas.{bytes_eq-true}
 use Rattle.frac_keys.specs.Rising.{ends_rise, rise_between}
 use Rattle.elem.specs.ElementValue.{ElementValue}
-use Rattle.elem.proofs.Sorting.{bytes_less-trans}
+use Rattle.elem.proofs.CallerLemmas.{bytes_less-trans}
 use Rattle.elem.specs.Order.{has_id}
 use Rattle.elem_store.specs.Updates.{element_of}
-use Rattle.view.specs.Shown.{index_of, HaveRisingKeys}
+use Rattle.index_repair.specs.Keyed.{index_of, HaveRisingKeys}
 use Rattle.effects.specs.Placing.{others, first_key, gap_above}
 use Rattle.effects.specs.Prepared.{HasKeys}
 use Rattle.effects.proofs.FirstLaws.{first-append}

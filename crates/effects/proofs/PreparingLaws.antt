@@ -7,12 +7,12 @@ use Rattle.std.specs.Option.{option_map, option_map_or, option_and_then, option_
 use Rattle.std.proofs.lemmas.List.Folds.{list_any-append}
 use Rattle.elem.specs.ElementValue.{ElementValue}
 use Rattle.elem_store.specs.Updates.{element_of}
-use Rattle.view.specs.Shown.{index_of}
+use Rattle.index_repair.specs.Keyed.{index_of}
 use Rattle.effects.specs.Deleting.{deleted_from}
 use Rattle.effects.specs.Naming.{is_among}
 use Rattle.effects.specs.Placing.{with_view_key, key_in}
 use Rattle.effects.specs.Prepared.{HasKeys, HasIds, settled_in, Prepares}
-use Rattle.effects.specs.declared.command.Command.{Command}
+use Rattle.board_commands.specs.declared.command.Command.{Command}
 use Rattle.effects.specs.declared.effect.Effect.{Effect}
 
 pub HasIds-more : (old new : BTreeSet (List ℕ)) (ids : List (List ℕ)) (id copy : List ℕ) → HasIds old ids → copy ≡ id → Updates (slice_cmp nat_cmp) old new copy true → HasIds new (ids ++ id ∷ [])

@@ -10,7 +10,7 @@ use Rattle.elem.specs.ElementValue.{ElementValue}
 use Rattle.elem.specs.Facts.{greatest_whole}
 use Rattle.elem.specs.Order.{unstamped}
 use Rattle.view.specs.Shown.{is_live}
-use Rattle.effects.specs.declared.command.Refusal.{Refusal}
+use Rattle.effects.specs.declared.refusal.Refusal.{Refusal}
 use Rattle.effects.specs.declared.effect.Effect.{Effect}
 use Rattle.effects.specs.Changed.{stamped, is_full, change_of, changes_of, refusal_at}
 use Rattle.effects.specs.Differing.{differs}

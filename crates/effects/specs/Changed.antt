@@ -1,16 +1,16 @@
 -- The changed elements of a command, or its refusal. This project's own.
 use Rattle.std.specs.Prelude.{ℕ, ◌+◌, ◌==◌, List, Bool, false, ◌&&◌, Option, Some, None, Result, Ok, Err, find, filter_map, if◌then◌else◌}
-use Rattle.board_io.specs.declared.stop.Stop.{Stop}
-use Rattle.board_io.specs.declared.stop.Stop.TheVariants.{Fault, Memory}
+use Rattle.board_base.specs.declared.stop.Stop.{Stop}
+use Rattle.board_base.specs.declared.stop.Stop.TheVariants.{Fault, Memory}
 use Rattle.frac_keys.specs.Keys.{bytes_less}
 use Rattle.elem.specs.ElementValue.{ElementValue}
 use Rattle.elem.specs.Facts.{greatest_whole}
 use Rattle.view.specs.Shown.{is_live, with_element}
-use Rattle.effects.specs.declared.command.Command.{Command}
-use Rattle.effects.specs.declared.command.Command.TheVariants as commands
-use Rattle.effects.specs.declared.command.Refusal.{Refusal}
-use Rattle.effects.specs.declared.command.Refusal.TheVariants.{VersionFull}
-use Rattle.effects.specs.declared.command.Spot.{Spot}
+use Rattle.board_commands.specs.declared.command.Command.{Command}
+use Rattle.board_commands.specs.declared.command.Command.TheVariants as commands
+use Rattle.effects.specs.declared.refusal.Refusal.{Refusal}
+use Rattle.effects.specs.declared.refusal.Refusal.TheVariants.{VersionFull}
+use Rattle.board_commands.specs.declared.command.Spot.{Spot}
 use Rattle.effects.specs.Differing.{differs}
 use Rattle.effects.specs.Effects.{effect}
 use Rattle.effects.specs.Placing.{key_at}

@@ -1,8 +1,8 @@
 -- What each command makes of a live stored element. This project's own.
 use Rattle.std.specs.Prelude.{ℕ, List, [], ◌∷◌, ◌++◌, not, Option, Some, None, filter, bytes_eq, if◌then◌else◌}
 use Rattle.elem.specs.ElementValue.{ElementValue}
-use Rattle.effects.specs.declared.command.Command.{Command}
-use Rattle.effects.specs.declared.command.Command.TheVariants as commands
+use Rattle.board_commands.specs.declared.command.Command.{Command}
+use Rattle.board_commands.specs.declared.command.Command.TheVariants as commands
 use Rattle.effects.specs.Deleting.{deleted_from}
 use Rattle.effects.specs.Linking.{bound_to, old_target, labelled, unlabelled, old_container}
 use Rattle.effects.specs.Naming.{is_among}

@@ -3,7 +3,6 @@ pub mod Deleting
 pub mod Differing
 pub mod Effects
 pub mod Given
-pub mod Limits
 pub mod Linking
 pub mod Naming
 pub mod Placing

@@ -10,8 +10,8 @@ use Rattle.elem.specs.Listings.{same_listing_entry}
 use Rattle.links.specs.Entries.{arrow_entry, text_entry, lists}
 use Rattle.links.specs.Names.{is_id, is_arrow, is_text, target_of}
 use Rattle.links.specs.Texts.{is_for_text}
-use Rattle.effects.specs.declared.command.Side.{Side}
-use Rattle.effects.specs.declared.command.Side.TheVariants.{Start, End}
+use Rattle.board_commands.specs.declared.command.Side.{Side}
+use Rattle.board_commands.specs.declared.command.Side.TheVariants.{Start, End}
 use Rattle.effects.specs.Naming.{apart_from}
 
 -- a listing with an entry, which is added where it is missing, and one without it

@@ -5,8 +5,8 @@ use Rattle.frac_keys.specs.Between.{key_between}
 use Rattle.frac_keys.specs.Rising.{lies_between}
 use Rattle.elem.specs.ElementValue.{ElementValue}
 use Rattle.elem_store.specs.Updates.{element_of}
-use Rattle.effects.specs.declared.command.Spot.{Spot}
-use Rattle.effects.specs.declared.command.Spot.TheVariants.{Bottom, Top, After}
+use Rattle.board_commands.specs.declared.command.Spot.{Spot}
+use Rattle.board_commands.specs.declared.command.Spot.TheVariants.{Bottom, Top, After}
 
 -- the key that an element has in the view, or its own where it isn't shown
 abbrev pub settled_key : List ElementValue → ElementValue → Option (List ℕ)

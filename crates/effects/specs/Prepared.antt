@@ -12,13 +12,13 @@ use Rattle.json_text.specs.Value.{IsCompact}
 use Rattle.links.specs.Entries.{text_entry}
 use Rattle.elem_store.specs.Updates.{element_of}
 use Rattle.links.specs.Names.{target_of}
-use Rattle.view.specs.Shown.{index_of}
+use Rattle.index_repair.specs.Keyed.{index_of}
 use Rattle.effects.specs.declared.effect.Effect.{Effect}
 use Rattle.effects.specs.declared.effect.Effect.TheVariants as effects
 use Rattle.effects.specs.declared.linking.Link.{Link}
 use Rattle.effects.specs.declared.linking.Label.{Label}
 use Rattle.effects.specs.Deleting.{deleted_from}
-use Rattle.effects.specs.declared.command.Command.{Command}
+use Rattle.board_commands.specs.declared.command.Command.{Command}
 use Rattle.effects.specs.Effects.{effect, with_group, without_group}
 use Rattle.effects.specs.Linking.{listed, unlisted, with_end_of, with_container_of, with_text_of, without_container_of}
 use Rattle.effects.specs.Naming.{is_among}

@@ -8,12 +8,12 @@ use Rattle.frames_groups.specs.Frames.{is_frame_kind}
 use Rattle.links.specs.Arrows.{names_target}
 use Rattle.links.specs.Names.{is_text, is_arrow, can_hold_text}
 use Rattle.view.specs.Shown.{is_live}
-use Rattle.effects.specs.declared.command.Command.{Command}
-use Rattle.effects.specs.declared.command.Command.TheVariants as commands
-use Rattle.effects.specs.declared.command.Refusal.{Refusal}
-use Rattle.effects.specs.declared.command.Refusal.TheVariants.{Exists, NoElement, WrongKind, Protected}
-use Rattle.effects.specs.declared.command.Spot.{Spot}
-use Rattle.effects.specs.declared.command.Spot.TheVariants.{Bottom, Top, After}
+use Rattle.board_commands.specs.declared.command.Command.{Command}
+use Rattle.board_commands.specs.declared.command.Command.TheVariants as commands
+use Rattle.effects.specs.declared.refusal.Refusal.{Refusal}
+use Rattle.effects.specs.declared.refusal.Refusal.TheVariants.{Exists, NoElement, WrongKind, Protected}
+use Rattle.board_commands.specs.declared.command.Spot.{Spot}
+use Rattle.board_commands.specs.declared.command.Spot.TheVariants.{Bottom, Top, After}
 use Rattle.effects.specs.Settings.{is_protected}
 
 -- this refusal, if it holds

@@ -4,18 +4,19 @@ ghost use Rattle.std.specs.Prelude.{◌≡◌, ◌≤◌, None, false, IfErr, If
 ghost use Rattle.std.specs.List.{prefix_len};
 ghost use Rattle.frac_keys.specs.Keys.{bytes_less};
 ghost use Rattle.elem.specs.Facts.{greatest_whole};
-ghost use Rattle.view.specs.Shown.{HaveRisingKeys};
+ghost use Rattle.index_repair.specs.Keyed.{HaveRisingKeys};
 ghost use Rattle.effects.specs.Changed as changes;
 ghost use Rattle.effects.specs.Changed.{OnFault, outcome};
-ghost use Rattle.effects.specs.Limits.{IsWithinLimits};
+ghost use Rattle.board_commands.specs.Limits.{IsWithinLimits};
 ghost use Rattle.effects.specs.Placing as placing;
 
-use crate::command::{Command, Refusal, Spot};
 use crate::placing::key_at;
 use crate::preparing::prepared;
+use crate::refusal::Refusal;
 use crate::refusing::check;
 use crate::walking::changes_of;
-use board_io::{List, Stop};
+use board_base::{List, Stop};
+use board_commands::{Command, Spot};
 use elem::Element;
 use elem_store::Store;
 use frac_keys::Key;

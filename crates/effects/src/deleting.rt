@@ -10,7 +10,7 @@ ghost use Rattle.links.specs.Names.{target_of};
 ghost use Rattle.effects.specs.Deleting as deleting;
 ghost use Rattle.effects.specs.Naming.{is_some_that};
 
-use board_io::List;
+use board_base::List;
 use elem::{Binding, BoundRef, Element};
 use json_text::Text;
 use std::alloc::AllocError;

@@ -4,7 +4,7 @@ ghost use Rattle.std.specs.Prelude.{◌≡◌, IfOk};
 ghost use Rattle.effects.specs.Effects as effects;
 ghost use Rattle.effects.specs.Naming.{is_among};
 
-use board_io::List;
+use board_base::List;
 use elem::Element;
 use json_text::Text;
 use std::alloc::AllocError;

@@ -7,7 +7,8 @@ ghost use Rattle.elem.specs.ElementValue.{ElementValue};
 ghost use Rattle.elem.specs.Order.{unstamped};
 ghost use Rattle.elem_store.specs.Updates.{element_of, ids_of, is_taken};
 ghost use Rattle.links.specs.Entries.{arrow_entry, lists};
-ghost use Rattle.view.specs.Shown.{is_live, HaveRisingKeys, HaveKeysOrNone};
+ghost use Rattle.index_repair.specs.Keyed.{HaveRisingKeys, HaveKeysOrNone};
+ghost use Rattle.view.specs.Shown.{is_live};
 ghost use Rattle.effects.specs.Changed.{outcome};
 ghost use Rattle.effects.specs.Deleting.{has_gone_names};
 ghost use Rattle.effects.specs.Effects.{effect};
@@ -15,10 +16,10 @@ ghost use Rattle.effects.specs.Given.{stored_after, ChangesStored, IsNew};
 ghost use Rattle.effects.specs.Linking.{end_at};
 ghost use Rattle.effects.specs.Naming.{is_among};
 ghost use Rattle.effects.specs.Placing.{gap_of, key_at, lies_within};
-ghost use Rattle.effects.specs.declared.command.Command.{Command};
-ghost use Rattle.effects.specs.declared.command.Command.TheVariants as commands;
-ghost use Rattle.effects.specs.declared.command.Side.{Side};
-ghost use Rattle.effects.specs.declared.command.Spot.{Spot};
+ghost use Rattle.board_commands.specs.declared.command.Command.{Command};
+ghost use Rattle.board_commands.specs.declared.command.Command.TheVariants as commands;
+ghost use Rattle.board_commands.specs.declared.command.Side.{Side};
+ghost use Rattle.board_commands.specs.declared.command.Spot.{Spot};
 
 /// What a command gives, in the order of the ids: a store of the board's elements takes each; each is of the kind of the
 /// stored element of its id, and one version on; and each differs from that outside the stamp, or is new.

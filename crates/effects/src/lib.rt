@@ -2,7 +2,6 @@
 #![tactic(auto)]
 
 mod changing;
-mod command;
 mod deleting;
 mod effect;
 mod framing;
@@ -11,9 +10,10 @@ pub mod laws;
 mod linking;
 mod placing;
 mod preparing;
+mod refusal;
 mod refusing;
 mod setting;
 mod walking;
 
 pub use changing::changed;
-pub use command::{Capture, Command, Refusal, Side, Spot};
+pub use refusal::Refusal;

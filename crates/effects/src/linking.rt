@@ -12,9 +12,9 @@ ghost use Rattle.effects.specs.Linking as linking;
 ghost use Rattle.effects.specs.Linking.{with_end, with_listing_entry, without_listing_entry};
 ghost use Rattle.effects.specs.Prepared.{linked, put_in, taken_out};
 
-use crate::command::Side;
 use crate::kinds::{is_arrow, is_text};
-use board_io::List;
+use board_base::List;
+use board_commands::Side;
 use elem::{Binding, BoundRef, Element, Role};
 use json_text::Text;
 use std::alloc::AllocError;

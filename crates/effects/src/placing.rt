@@ -6,12 +6,12 @@ ghost use Rattle.std.specs.Option.{unwrap_or};
 ghost use Rattle.std.specs.Ordering.{nat_cmp};
 ghost use Rattle.frac_keys.specs.Rising.{ends_rise, lies_between};
 ghost use Rattle.elem.specs.ElementValue.{ElementValue};
-ghost use Rattle.view.specs.Shown.{HaveRisingKeys};
+ghost use Rattle.index_repair.specs.Keyed.{HaveRisingKeys};
 ghost use Rattle.effects.specs.Placing as placing;
 ghost use Rattle.effects.specs.Placing.{others, key_within, key_at, gap_of, with_key_of};
 ghost use Rattle.effects.specs.Prepared.{HasKeys, settled_in};
 
-use crate::command::Spot;
+use board_commands::Spot;
 use elem::Element;
 use frac_keys::{Key, between};
 use json_text::Text;

@@ -7,13 +7,14 @@ ghost use Rattle.links.specs.Arrows.{names_target};
 ghost use Rattle.links.specs.Names as names;
 ghost use Rattle.effects.specs.Changed.{OnFault};
 ghost use Rattle.effects.specs.Refusals.{refusal_of, existing, missing, misfit, guarded, first_missing, first_frame, spot_ids, unless_right, is_kind_of, is_live_id};
-ghost use Rattle.effects.specs.declared.command.Command.TheVariants as commands;
-ghost use Rattle.effects.specs.declared.command.Refusal.TheVariants as told;
+ghost use Rattle.board_commands.specs.declared.command.Command.TheVariants as commands;
+ghost use Rattle.effects.specs.declared.refusal.Refusal.TheVariants as told;
 
-use crate::command::{Command, Refusal, Spot};
 use crate::kinds::{is_arrow, is_container, is_frame, is_live, is_target, is_text};
+use crate::refusal::Refusal;
 use crate::setting::is_protected;
-use board_io::{List, Stop};
+use board_base::{List, Stop};
+use board_commands::{Command, Spot};
 use elem::Element;
 use elem_store::Store;
 use json_text::Text;

@@ -8,7 +8,7 @@ ghost use Rattle.frac_keys.specs.Keys.{bytes_less};
 ghost use Rattle.delta.specs.Rest.{with_value};
 ghost use Rattle.effects.specs.Settings.{given_value, with_set_member, is_protected};
 
-use board_io::List;
+use board_base::List;
 use elem::Element;
 use json_text::{Member, Raw, Text};
 use restore_table::default_of;

@@ -9,10 +9,10 @@ ghost use Rattle.effects.specs.Changed.{OnFault, is_full, refusal_at};
 ghost use Rattle.effects.specs.Differing.{differs};
 ghost use Rattle.effects.specs.Prepared.{made_by, IsSoundEffect};
 
-use crate::command::Refusal;
 use crate::effect::Effect;
 use crate::kinds::is_live;
-use board_io::Stop;
+use crate::refusal::Refusal;
+use board_base::Stop;
 use delta::{AtLimit, stamp};
 use elem::{Element, same_but_stamp};
 use elem_store::Store;

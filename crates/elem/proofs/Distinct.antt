@@ -10,8 +10,8 @@ use Rattle.std.proofs.lemmas.Map.Made.{IsDistinct-from_count}
 use Rattle.json_text.specs.Compact.{Member as Pair}
 use Rattle.json_text.specs.Members.{pairs}
 use Rattle.json_text.specs.declared.text.Member.{Member}
-use Rattle.json_text.proofs.Collapsed.{name_of, names_of, none_passes}
-use Rattle.scene_json.proofs.Pairs.{names-pairs}
+use Rattle.json_text.proofs.CallerLemmas.{name_of, names_of, none_passes}
+use Rattle.scene_json.proofs.CallerLemmas.{names-pairs}
 use Rattle.frac_keys.specs.Keys.{bytes_less}
 use Rattle.frac_keys.specs.Rising.{are_rising}
 use Rattle.elem.specs.declared.kind.Kind.{Kind}

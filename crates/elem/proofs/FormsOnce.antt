@@ -11,13 +11,8 @@ use Rattle.json_text.specs.Members.{pairs}
 use Rattle.json_text.specs.Value.{IsCompact}
 use Rattle.json_text.specs.declared.text.Member.{Member}
 use Rattle.scene_json.specs.Named.{value_at, HaveRisingNames}
-use Rattle.json_text.proofs.Collapsed.{bytes_eq-apart}
-use Rattle.json_text.proofs.CompactLaws.{quote-compact}
-use Rattle.json_text.proofs.Forms.{StartsWith, quote-starts, object-starts}
-use Rattle.json_text.proofs.Strings.{heads-differ}
-use Rattle.scene_json.proofs.Decimals.{value_of_decimal}
-use Rattle.scene_json.proofs.Lookups.{IsBelow, rising_from, rising_none, rising_same}
-use Rattle.scene_json.proofs.Pairs.{names-pairs}
+use Rattle.json_text.proofs.CallerLemmas.{bytes_eq-apart, quote-compact, StartsWith, quote-starts, object-starts, heads-differ}
+use Rattle.scene_json.proofs.CallerLemmas.{value_of_decimal, IsBelow, rising_from, rising_none, rising_same, names-pairs}
 use Rattle.frac_keys.specs.Keys.{is_key, bytes_less}
 use Rattle.frac_keys.specs.Rising.{are_rising}
 use Rattle.elem.specs.declared.kind.Kind.{Kind}

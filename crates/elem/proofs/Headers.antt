@@ -8,8 +8,8 @@ use Rattle.json_text.specs.Compact.{Member as Pair, array_text, object_text}
 use Rattle.json_text.specs.Members.{pairs}
 use Rattle.json_text.specs.declared.text.Member.{Member}
 use Rattle.json_text.specs.Value.{IsCompact}
-use Rattle.json_text.proofs.Collapsed.{names_of}
-use Rattle.scene_json.proofs.Pairs.{names-pairs}
+use Rattle.json_text.proofs.CallerLemmas.{names_of}
+use Rattle.scene_json.proofs.CallerLemmas.{names-pairs}
 use Rattle.frac_keys.specs.Rising.{are_rising}
 use Rattle.elem.specs.declared.kind.Kind.{Kind}
 use Rattle.elem.specs.declared.kind.Kind.TheVariants.{Rectangle, Diamond, Ellipse, Arrow, Line, Freedraw, Text, Image, Frame, Magicframe, Iframe, Embeddable, Other}

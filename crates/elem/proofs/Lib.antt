@@ -4,9 +4,11 @@ pub mod FormsOnce
 pub mod Once
 pub mod KeyTexts
 mod Headers
+pub mod Kept
 mod Leaving
 mod Merging
 pub mod OrderLaws
 mod Rows
 pub mod Saying
 pub mod Sorting
+pub mod CallerLemmas

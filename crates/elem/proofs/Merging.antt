@@ -15,8 +15,7 @@ use Rattle.json_text.specs.Compact.{Member as Pair, member_text, object_text}
 use Rattle.json_text.specs.Members.{pairs, pair_of}
 use Rattle.json_text.specs.Value.{IsCompact}
 use Rattle.json_text.specs.declared.text.Member.{Member}
-use Rattle.json_text.proofs.Collapsed.{names_of}
-use Rattle.json_text.proofs.CompactLaws.{object-compact, join-push}
+use Rattle.json_text.proofs.CallerLemmas.{names_of, object-compact, join-push}
 use Rattle.frac_keys.specs.Keys.{bytes_less}
 use Rattle.elem.specs.Printing.{opened, IsBegun, mark, members_below, members_not_below, merged, AreSound}
 use Rattle.elem.specs.Texts.{sorted_members}

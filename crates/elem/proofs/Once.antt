@@ -8,12 +8,9 @@ use Rattle.json_text.specs.Compact.{Member as Pair, content, member_text, array_
 use Rattle.json_text.specs.Parts.{AreMembers}
 use Rattle.json_text.specs.Value.{IsCompact, Stands, extends_number, Follows}
 use Rattle.scene_json.specs.Passes.{IsEnd}
-use Rattle.json_text.proofs.CompactLaws.{Value-deeper}
-use Rattle.json_text.proofs.Reading.{Stands-once, tail-same}
-use Rattle.json_text.proofs.Strings.{utf8-Quotes, pieces-once, heads-differ}
+use Rattle.json_text.proofs.CallerLemmas.{Value-deeper, Stands-once, tail-same, utf8-Quotes, pieces-once, heads-differ}
 use Rattle.scene_json.specs.Passes.{behind_item}
-use Rattle.scene_json.proofs.ItemsLeft.{behind-split, behind-ends, item-opens}
-use Rattle.scene_json.proofs.MembersLeft.{behind_member}
+use Rattle.scene_json.proofs.CallerLemmas.{behind-split, behind-ends, item-opens, behind_member}
 
 -- ---- strings
 quote-front : (a b r t : List ℕ) → IsUtf8 a → IsUtf8 b → quote a ++ r ≡ quote b ++ t → (a ≡ b) × (r ≡ t)

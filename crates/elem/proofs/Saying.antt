@@ -20,11 +20,8 @@ use Rattle.json_text.specs.Tree.{null_word, true_word, false_word}
 use Rattle.json_text.specs.Value.{IsCompact}
 use Rattle.json_text.specs.declared.text.Member.{Member}
 use Rattle.scene_json.specs.Named.{value_at}
-use Rattle.json_text.proofs.Collapsed.{bytes_eq-true}
-use Rattle.json_text.proofs.CompactLaws.{Value-deeper, quote-compact, literal-compact, array-compact, object-compact}
-use Rattle.json_text.proofs.Reading.{decimal-number}
-use Rattle.scene_json.proofs.Lookups.{distinct_moved, same_moved}
-use Rattle.scene_json.proofs.Pairs.{names-pairs}
+use Rattle.json_text.proofs.CallerLemmas.{bytes_eq-true, Value-deeper, quote-compact, literal-compact, array-compact, object-compact, decimal-number}
+use Rattle.scene_json.proofs.CallerLemmas.{distinct_moved, same_moved, names-pairs}
 use Rattle.frac_keys.specs.Keys.{is_key}
 use Rattle.frac_keys.specs.Rising.{are_rising}
 use Rattle.elem.specs.declared.kind.Kind.{Kind}

@@ -9,7 +9,7 @@ use Rattle.std.proofs.lemmas.Bool.{and_parts, and_from, false≢true}
 use Rattle.std.proofs.lemmas.List.Elements.{All-from_recursion, recursion_from_All}
 use Rattle.std.proofs.lemmas.List.Sorted.{All-permutation, IsPermutation-refl, IsPermutation-sym, IsPermutation-cons, IsPermutation-trans, IsPermutation-middle}
 use Rattle.json_text.specs.Compact.{Member as Pair}
-use Rattle.json_text.proofs.Collapsed.{names_of}
+use Rattle.json_text.proofs.CallerLemmas.{names_of}
 use Rattle.frac_keys.specs.Keys.{bytes_less}
 use Rattle.frac_keys.specs.Rising.{are_rising, rise_between}
 use Rattle.elem.specs.Texts.{with_member, sorted_members}

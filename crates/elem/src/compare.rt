@@ -4,7 +4,7 @@ ghost use Rattle.std.specs.Prelude.{◌≡◌, ◌↔◌, IsTrue};
 
 use crate::kind::{Kind, Role};
 use crate::parts::{Binding, BoundRef};
-use board_io::List;
+use board_base::List;
 use frac_keys::Key;
 use json_text::{Member, Raw, Text};
 

@@ -4,7 +4,7 @@ ghost use Rattle.std.specs.Prelude.{◌≡◌, IfOk};
 
 use crate::kind::Kind;
 use crate::parts::{Binding, BoundRef};
-use board_io::List;
+use board_base::List;
 use frac_keys::Key;
 use json_text::{Member, Text};
 use std::alloc::AllocError;

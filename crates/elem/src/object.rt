@@ -8,7 +8,7 @@ ghost use Rattle.json_text.specs.Members.{pairs};
 ghost use Rattle.frac_keys.specs.Keys.{bytes_less};
 ghost use Rattle.elem.specs.Printing.{IsBegun, mark, members_below, members_not_below};
 
-use board_io::bytes_order;
+use board_base::bytes_order;
 use json_text::Member;
 use scene_json::push_member;
 use std::alloc::AllocError;

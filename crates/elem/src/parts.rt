@@ -3,7 +3,7 @@
 ghost use Rattle.std.specs.Prelude.{◌≡◌, IfOk};
 
 use crate::kind::Role;
-use board_io::List;
+use board_base::List;
 use json_text::{Member, Text};
 use std::alloc::AllocError;
 

@@ -11,7 +11,7 @@ ghost use Rattle.elem.specs.Texts.{truth_text, text_or_null, kind_name, role_nam
 use crate::kind::{Kind, Role};
 use crate::object::begin_quoted;
 use crate::parts::BoundRef;
-use board_io::List;
+use board_base::List;
 use frac_keys::Key;
 use json_text::{Text, push_quote};
 use std::alloc::AllocError;
@@ -38,7 +38,7 @@ pub(crate) fn push_truth(out: &mut Vec<u8>, truth: bool) -> Result<(), AllocErro
 }
 
 /// Appends the quote of a kind's name.
-#[tactic(auto, using(json_text::proofs::CompactLaws::compact_texts), unfolding(json_text::specs::Characters::quote))]
+#[tactic(auto, using(json_text::proofs::CallerLemmas::compact_texts), unfolding(json_text::specs::Characters::quote))]
 pub(crate) fn push_kind(out: &mut Vec<u8>, kind: &Kind) -> Result<(), AllocError>
     ensures text { OnOk result (out.new.items ≡ out.old.items ++ quote (kind_name kind.now)) }
     ensures err { OnErr result (out.new.items ≡ out.old.items) }
@@ -152,7 +152,7 @@ fn push_entry(out: &mut Vec<u8>, entry: &BoundRef) -> Result<(), AllocError>
 }
 
 /// Appends the quote of a role's name.
-#[tactic(auto, using(json_text::proofs::CompactLaws::compact_texts), unfolding(json_text::specs::Characters::quote))]
+#[tactic(auto, using(json_text::proofs::CallerLemmas::compact_texts), unfolding(json_text::specs::Characters::quote))]
 fn push_role(out: &mut Vec<u8>, role: Role) -> Result<(), AllocError>
     ensures text { OnOk result (out.new.items ≡ out.old.items ++ quote (role_name role)) }
     ensures err { OnErr result (out.new.items ≡ out.old.items) }

@@ -11,10 +11,8 @@ use Rattle.json_text.specs.Tree.{null_word, true_word, false_word}
 use Rattle.json_text.specs.Value.{IsCompact}
 use Rattle.json_text.specs.declared.text.Member.{Member}
 use Rattle.scene_json.specs.Named.{value_at, HaveRisingNames}
-use Rattle.json_text.proofs.Collapsed.{bytes_eq-true, bytes_eq-same}
-use Rattle.json_text.proofs.CompactLaws.{Value-deeper}
-use Rattle.json_text.proofs.Forms.{string-or-not, array-or-not, object-or-not}
-use Rattle.scene_json.proofs.Rising.{tabled}
+use Rattle.json_text.proofs.CallerLemmas.{bytes_eq-true, bytes_eq-same, Value-deeper, string-or-not, array-or-not, object-or-not}
+use Rattle.scene_json.proofs.CallerLemmas.{tabled}
 use Rattle.frac_keys.specs.Keys.{is_key}
 use Rattle.elem.specs.declared.kind.Kind.{Kind}
 use Rattle.elem.specs.declared.kind.Kind.TheVariants.{Rectangle, Diamond, Ellipse, Arrow, Line, Freedraw, Text, Image, Frame, Magicframe, Iframe, Embeddable, Other}
@@ -25,8 +23,7 @@ use Rattle.elem.specs.Facts.{greatest_whole, IsKind}
 use Rattle.elem.specs.Forms.{find_in, IsText, IsId, IsWholeNumber, IsTruth, IsNull, IsTextOrNull, IsKeyOrNull, AreTexts, IsObject, IsListingEntry, AreListingEntries, IsListing, AreOthers, IsBindingOrNull}
 use Rattle.elem.specs.Said.{IsOwn}
 use Rattle.elem.specs.Texts.{kind_name, role_name}
-use Rattle.elem.proofs.FormsOnce.{text-once, quotes-compact, members-once}
-use Rattle.elem.proofs.Once.{array-once}
+use Rattle.elem.proofs.CallerLemmas.{text-once, quotes-compact, members-once, array-once}
 use Rattle.elem_read.proofs.Keeping.{found-has}
 use Rattle.elem_read.proofs.Others.{kept-others}
 use Rattle.elem_read.proofs.Parts.{no-binding}

@@ -1,9 +1,9 @@
 -- The first fault of members is the first part that can't be read.
 use Rattle.std.proofs.Common.{◌≡◌, ◌⊎◌, inl, inr, ℕ, suc, ◌<◌, eqb, List, Option, None, Bool, true, false, if◌then◌else◌, Err, codes, refl, sym, ap, subst, ◌∙◌, arith, bytes_eq, lit<}
 use Rattle.std.proofs.lemmas.Bool.{cases_lt}
-use Rattle.json_text.proofs.Collapsed.{bytes_eq-true, bytes_eq-same}
-use Rattle.board_io.specs.declared.stop.Stop.{Stop}
-use Rattle.board_io.specs.declared.stop.Stop.TheVariants.{Fault, Memory}
+use Rattle.json_text.proofs.CallerLemmas.{bytes_eq-true, bytes_eq-same}
+use Rattle.board_base.specs.declared.stop.Stop.{Stop}
+use Rattle.board_base.specs.declared.stop.Stop.TheVariants.{Fault, Memory}
 use Rattle.elem.specs.declared.kind.Kind as kinds
 use Rattle.elem.specs.declared.parts.BoundRef.{BoundRef}
 use Rattle.elem.specs.declared.parts.Binding.{Binding as Bind}
@@ -11,9 +11,9 @@ use Rattle.elem.specs.ElementValue.{ElementValue}
 use Rattle.elem.specs.Forms.{Find, IsText, IsId, IsKindName, IsWholeNumber, IsTruth, IsTextOrNull, IsKeyOrNull, AreTexts, IsListing, IsBindingOrNull}
 use Rattle.elem.specs.Said.{is_named, IsOwn, Says}
 use Rattle.elem.specs.Texts.{kind_name}
-use Rattle.elem.proofs.FormsOnce.{text-once}
+use Rattle.elem.proofs.CallerLemmas.{text-once}
 use Rattle.elem_read.specs.Faults.{Lacks, LacksOwn, Fails, place_of, Passes, IsFirst}
-use Rattle.elem_read.specs.Parts.{ReadsOr}
+use Rattle.elem_read.specs.inner.Parts.{ReadsOr}
 use Rattle.elem_read.specs.declared.fault.ElemFault.{ElemFault}
 use Rattle.elem_read.specs.declared.fault.ElemFault.TheVariants.{NotObject, Depth, Id, Kind, Version, Nonce, Updated, Index, Deleted, Groups, Frame, Bound, Container, Binding, File}
 

@@ -2,9 +2,9 @@
 use Rattle.std.proofs.Common.{◌≡◌, ℕ, zero, suc, List, [], ◌∷◌, drop, Some, None, true, false, cond, bytes_eq, refl}
 use Rattle.json_text.specs.Members.{pairs}
 use Rattle.json_text.specs.declared.text.Member.{Member}
-use Rattle.json_text.proofs.Collapsed.{bytes_eq-true}
+use Rattle.json_text.proofs.CallerLemmas.{bytes_eq-true}
 use Rattle.scene_json.specs.Named.{value_at, HaveRisingNames}
-use Rattle.scene_json.proofs.Lookups.{rising_parts, value_at-below}
+use Rattle.scene_json.proofs.CallerLemmas.{rising_parts, value_at-below}
 
 pub found-later : (name value : List ℕ) (ms : List Member) (i : ℕ) → HaveRisingNames (pairs ms) → value_at name (pairs (drop i ms)) ≡ Some value → value_at name (pairs ms) ≡ Some value
 found-later name value ms zero rise found = found

@@ -10,10 +10,8 @@ use Rattle.json_text.specs.Parts.{names_of, AreMembers}
 use Rattle.json_text.specs.Value.{IsCompact}
 use Rattle.json_text.specs.declared.text.Member.{Member}
 use Rattle.scene_json.specs.Named.{value_at}
-use Rattle.json_text.proofs.Collapsed.{bytes_eq-true, bytes_eq-same}
-use Rattle.json_text.proofs.CompactLaws.{Value-Form}
-use Rattle.json_text.proofs.Forms.{object-starts, form-membered}
-use Rattle.scene_json.proofs.Lookups.{rising_distinct}
+use Rattle.json_text.proofs.CallerLemmas.{bytes_eq-true, bytes_eq-same, Value-Form, object-starts, form-membered}
+use Rattle.scene_json.proofs.CallerLemmas.{rising_distinct}
 use Rattle.frac_keys.specs.Keys.{is_key}
 use Rattle.elem.specs.declared.kind.Kind.TheVariants.{Arrow, Text, Image}
 use Rattle.elem.specs.declared.parts.BoundRef.{BoundRef}
@@ -22,8 +20,7 @@ use Rattle.elem.specs.ElementValue.{ElementValue}
 use Rattle.elem.specs.Facts.{IsBinding, IsElement, names, is_header}
 use Rattle.elem.specs.Forms.{Find, find_in, IsTextOrNull, IsKeyOrNull, IsObject, AreListingEntries, AreOthers, IsBindingObject, IsBindingOrNull}
 use Rattle.elem.specs.Said.{IsOwn, Says, IsBindingText, HasValidTexts}
-use Rattle.elem.proofs.FormsOnce.{names-rise, members-once}
-use Rattle.elem.proofs.Saying.{AreMembers-deeper, named-is}
+use Rattle.elem.proofs.CallerLemmas.{names-rise, members-once, AreMembers-deeper, named-is}
 
 -- ---- what holds of all that is found
 abbrev pub AllFound : (List ℕ → List ℕ → Type 0) → Find → Type 0

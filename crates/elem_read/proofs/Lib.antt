@@ -10,3 +10,4 @@ pub mod ReadElements
 pub mod ShortValues
 pub mod Unique
 pub mod Whole
+pub mod CallerLemmas

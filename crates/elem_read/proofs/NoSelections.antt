@@ -10,11 +10,10 @@ use Rattle.json_text.specs.Value.{IsCompact}
 use Rattle.json_text.specs.declared.text.Member.{Member}
 use Rattle.scene_json.specs.Named.{value_at}
 use Rattle.scene_json.specs.Walks.{IsTakenApart}
-use Rattle.json_text.proofs.Collapsed.{bytes_eq-same}
-use Rattle.json_text.proofs.CompactLaws.{object-compact}
-use Rattle.scene_json.proofs.Pairs.{AreMembers-values}
+use Rattle.json_text.proofs.CallerLemmas.{bytes_eq-same, object-compact}
+use Rattle.scene_json.proofs.CallerLemmas.{AreMembers-values}
 use Rattle.restore_table.specs.Restored.{AreRestored, old_name}
-use Rattle.restore_table.proofs.RestoredLaws.{unknown-stays}
+use Rattle.restore_table.proofs.CallerLemmas.{unknown-stays}
 use Rattle.elem.specs.ElementValue.{ElementValue}
 use Rattle.elem.specs.Forms.{find_in, IsObject}
 use Rattle.elem.specs.Said.{Says}

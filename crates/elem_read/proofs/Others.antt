@@ -13,14 +13,13 @@ use Rattle.json_text.specs.Members.{pairs, pair_of}
 use Rattle.json_text.specs.Parts.{names_of}
 use Rattle.json_text.specs.declared.text.Member.{Member}
 use Rattle.scene_json.specs.Named.{value_at, HaveRisingNames}
-use Rattle.json_text.proofs.Collapsed.{bytes_eq-apart}
-use Rattle.scene_json.proofs.Lookups.{IsBelow, rising_parts, distinct_moved, same_moved, rising_from_sort}
-use Rattle.scene_json.proofs.Pairs.{names-pairs}
+use Rattle.json_text.proofs.CallerLemmas.{bytes_eq-apart}
+use Rattle.scene_json.proofs.CallerLemmas.{IsBelow, rising_parts, distinct_moved, same_moved, rising_from_sort, names-pairs}
 use Rattle.frac_keys.specs.Keys.{bytes_less}
 use Rattle.frac_keys.specs.Rising.{are_rising}
 use Rattle.elem.specs.Facts.{names}
 use Rattle.elem.specs.Forms.{find_in, AreOthers}
-use Rattle.elem.proofs.Sorting.{IsRising, are_rising-from}
+use Rattle.elem.proofs.CallerLemmas.{IsRising, are_rising-from}
 
 abbrev pub kept : (List ℕ → Bool) → List Member → List Member
 kept test ms = filter (λ (m : Member). not (test m.name)) ms

@@ -2,12 +2,12 @@
 use Rattle.std.proofs.Common.{◌≡◌, ◌≢◌, ◌<◌, ℕ, zero, suc, List, [], ◌∷◌, ◌++◌, length, take, get_or, Bool, false, Option, Some, None, Result, Err, refl, sym, ap, subst, ◌∙◌, inl, inr, codes, bytes_eq, arith}
 use Rattle.std.specs.List.{AllByRecursion, list_any}
 use Rattle.std.proofs.lemmas.Bool.{or_from}
-use Rattle.json_text.proofs.Collapsed.{bytes_eq-apart}
+use Rattle.json_text.proofs.CallerLemmas.{bytes_eq-apart}
 use Rattle.json_text.specs.Characters.{quote}
 use Rattle.json_text.specs.Compact.{Member as Pair, object_text}
 use Rattle.json_text.specs.Tree.{null_word}
-use Rattle.board_io.specs.declared.stop.Stop.{Stop}
-use Rattle.board_io.specs.declared.stop.Stop.TheVariants.{Fault, Memory}
+use Rattle.board_base.specs.declared.stop.Stop.{Stop}
+use Rattle.board_base.specs.declared.stop.Stop.TheVariants.{Fault, Memory}
 use Rattle.elem.specs.declared.kind.Kind.{Kind}
 use Rattle.elem.specs.declared.kind.Role.{Role}
 use Rattle.elem.specs.declared.kind.Role.TheVariants as roles
@@ -17,7 +17,7 @@ use Rattle.elem.specs.Forms.{Find, IsKindName, IsText, IsTextOrNull, IsKeyOrNull
 use Rattle.elem.specs.Said.{is_named, IsOwn}
 use Rattle.elem.specs.Texts.{role_name}
 use Rattle.elem_read.specs.Faults.{Lacks, LacksOwn, Fails, place_of, Passes, IsFirst}
-use Rattle.elem_read.specs.Parts.{Reads, TakesEntry}
+use Rattle.elem_read.specs.inner.Parts.{Reads, TakesEntry}
 use Rattle.elem_read.specs.declared.fault.ElemFault.{ElemFault}
 use Rattle.elem_read.specs.declared.fault.ElemFault.TheVariants.{Index}
 use Rattle.elem_read.proofs.Firsts.{first-at, own-fails}

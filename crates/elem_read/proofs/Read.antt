@@ -9,18 +9,16 @@ use Rattle.json_text.specs.Parts.{AreMembers, names_of}
 use Rattle.json_text.specs.Value.{IsCompact}
 use Rattle.scene_json.specs.Named.{value_at}
 use Rattle.scene_json.specs.TheOne.{IsTheOne}
-use Rattle.json_text.proofs.Collapsed.{bytes_eq-true, bytes_eq-same, bytes_eq-apart}
+use Rattle.json_text.proofs.CallerLemmas.{bytes_eq-true, bytes_eq-same, bytes_eq-apart, Value-deeper, object-or-not, nests-or-not}
 use Rattle.json_text.specs.declared.text.Member.{Member}
-use Rattle.json_text.proofs.CompactLaws.{Value-deeper}
-use Rattle.json_text.proofs.Forms.{object-or-not, nests-or-not}
-use Rattle.scene_json.proofs.Rising.{tabled}
+use Rattle.scene_json.proofs.CallerLemmas.{tabled}
 use Rattle.restore_table.specs.Restored.{AreRestored, HasOldListing, filled, filled_at, listing_at, listing_name, old_name}
 use Rattle.restore_table.specs.Table.{defaults}
 use Rattle.elem.specs.ElementValue.{ElementValue}
 use Rattle.elem.specs.Facts.{is_header}
 use Rattle.elem.specs.Forms.{Find, find_in, IsText, IsId, IsKindName, IsWholeNumber, IsTruth, IsTextOrNull, IsKeyOrNull, AreTexts, IsObject, IsListing, AreOthers, IsBindingOrNull}
 use Rattle.elem.specs.Said.{is_named, IsOwn, Says}
-use Rattle.elem.proofs.FormsOnce.{texts-once}
+use Rattle.elem.proofs.CallerLemmas.{texts-once}
 use Rattle.elem_read.specs.Faults.{Lacks, Fails, place_of, Passes, IsFirst}
 use Rattle.elem_read.specs.Reading.{IsSelection, IsNoSelection, IsElementIn, IsFaultIn, selection_text}
 use Rattle.elem_read.specs.declared.fault.ElemFault.{ElemFault}

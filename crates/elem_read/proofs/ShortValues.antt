@@ -2,7 +2,7 @@
 use Rattle.std.proofs.Common.{ℕ, ◌+◌, ◌≤◌, max, List, [], ◌∷◌, length, false, not, ◌&&◌, ◌==◌, if◌then◌else◌, refl, arith}
 use Rattle.json_text.specs.Value.{IsCompact}
 use Rattle.json_text.specs.Walk.{Place, outside, inside}
-use Rattle.scene_json.proofs.Depths.{deepest, level_after, depth-seen}
+use Rattle.scene_json.proofs.CallerLemmas.{deepest, level_after, depth-seen}
 
 one-more : (b level : ℕ) → level_after b level ≤ level + 1
 one-more b level = grind arith

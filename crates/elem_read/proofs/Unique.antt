@@ -5,14 +5,13 @@ use Rattle.json_text.specs.Compact.{Member as Pair}
 use Rattle.json_text.specs.Parts.{AreMembers}
 use Rattle.json_text.specs.Value.{IsCompact}
 use Rattle.scene_json.specs.Named.{value_at, AreSameMembers}
-use Rattle.json_text.proofs.CompactLaws.{object-compact}
+use Rattle.json_text.proofs.CallerLemmas.{object-compact}
 use Rattle.restore_table.specs.Restored.{AreRestored}
-use Rattle.restore_table.proofs.RestoredLaws.{restored-unique, restored-order}
+use Rattle.restore_table.proofs.CallerLemmas.{restored-unique, restored-order}
 use Rattle.elem.specs.ElementValue.{ElementValue}
 use Rattle.elem.specs.Forms.{find_in, IsObject}
 use Rattle.elem.specs.Said.{Says}
-use Rattle.elem.proofs.FormsOnce.{members-once}
-use Rattle.elem.proofs.Saying.{Says-once}
+use Rattle.elem.proofs.CallerLemmas.{members-once, Says-once}
 use Rattle.elem_read.specs.Faults.{IsFirst}
 use Rattle.elem_read.specs.Reading.{IsSelection, IsNoSelection, IsElementIn, IsTooDeepElement, HasFault, IsFaultIn}
 use Rattle.elem_read.specs.declared.fault.ElemFault.{ElemFault}

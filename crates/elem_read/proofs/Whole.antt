@@ -14,15 +14,11 @@ use Rattle.json_text.specs.Tree.{null_word}
 use Rattle.json_text.specs.Value.{IsCompact}
 use Rattle.scene_json.specs.Named.{value_at, HaveRisingNames}
 use Rattle.scene_json.specs.TheOne.{IsTheOne}
-use Rattle.json_text.proofs.Collapsed.{bytes_eq-true, bytes_eq-same}
-use Rattle.json_text.proofs.CompactLaws.{Value-deeper, quote-compact, array-compact, object-compact}
-use Rattle.json_text.proofs.Forms.{array-starts}
-use Rattle.json_text.proofs.Strings.{heads-differ}
-use Rattle.scene_json.proofs.Decimals.{digit_of_decimal}
+use Rattle.json_text.proofs.CallerLemmas.{bytes_eq-true, bytes_eq-same, Value-deeper, quote-compact, array-compact, object-compact, array-starts, heads-differ}
+use Rattle.scene_json.proofs.CallerLemmas.{digit_of_decimal}
 use Rattle.restore_table.specs.Restored.{filled, arrow_text, listing_text, listing_at, listing_name, old_name, HasOldListing, AreRestored, LackNothing}
 use Rattle.restore_table.specs.Table.{defaults}
-use Rattle.restore_table.proofs.RestoredLaws.{restored-lack}
-use Rattle.restore_table.proofs.Rows.{defaults-compact}
+use Rattle.restore_table.proofs.CallerLemmas.{restored-lack, defaults-compact}
 use Rattle.elem.specs.declared.kind.Kind.{Kind}
 use Rattle.elem.specs.declared.kind.Kind.TheVariants.{Rectangle, Diamond, Ellipse, Arrow, Line, Freedraw, Text, Image, Frame, Magicframe, Iframe, Embeddable, Other}
 use Rattle.elem.specs.ElementValue.{ElementValue}
@@ -30,10 +26,7 @@ use Rattle.elem.specs.Facts.{greatest_whole, header_names, own_names, known_name
 use Rattle.elem.specs.Forms.{find_in, AreOthers}
 use Rattle.elem.specs.Said.{Says, HasValidTexts}
 use Rattle.elem.specs.Texts.{kind_name, truth_text, text_or_null, header_members, element_members}
-use Rattle.elem.proofs.Distinct.{IsDistinct-element}
-use Rattle.elem.proofs.FormsOnce.{text-once, rising-names}
-use Rattle.elem.proofs.Saying.{literal, AreMembers-deeper, element-are, element-says, element-found}
-use Rattle.elem.proofs.Sorting.{IsRising-sorted}
+use Rattle.elem.proofs.CallerLemmas.{IsDistinct-element, text-once, rising-names, literal, AreMembers-deeper, element-are, element-says, element-found, IsRising-sorted}
 use Rattle.elem_read.specs.Reading.{IsElementIn, IsWholeElement}
 use Rattle.elem_read.proofs.Keeping.{AllFound, found-has, object-nests, says-element, says-written}
 

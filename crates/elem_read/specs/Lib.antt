@@ -1,4 +1,4 @@
 pub mod Elements
 pub mod Faults
-pub mod Parts
 pub mod Reading
+pub mod inner

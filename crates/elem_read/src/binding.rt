@@ -9,11 +9,11 @@ ghost use Rattle.scene_json.specs.Named.{value_at};
 ghost use Rattle.elem.specs.Facts.{IsBinding, AllNest};
 ghost use Rattle.elem.specs.Forms.{find_in, AreOthers, IsBindingOrNull};
 ghost use Rattle.elem.specs.Said.{IsOwn};
-ghost use Rattle.elem_read.specs.Parts.{Reads};
+ghost use Rattle.elem_read.specs.inner.Parts.{Reads};
 ghost use Rattle.elem_read.specs.declared.fault.ElemFault.TheVariants as faults;
 
 use crate::fault::ElemFault;
-use board_io::{List, Stop};
+use board_base::{List, Stop};
 use elem::Binding;
 use json_text::Member;
 use scene_json::{is_null, members, shaped, text_named, value_named};

@@ -15,7 +15,7 @@ use crate::fault::ElemFault;
 use crate::forms::{id, index, own_text, text_or_null, texts, truth, whole};
 use crate::kinds::{is_arrow, is_image, is_text, kind, others};
 use crate::listing::listing;
-use board_io::{List, Stop};
+use board_base::{List, Stop};
 use elem::Element;
 use json_text::Member;
 use std::alloc::Global;

@@ -5,12 +5,12 @@ ghost use Rattle.json_text.specs.Members.{pairs};
 ghost use Rattle.scene_json.specs.Named.{value_at, HaveRisingNames};
 ghost use Rattle.elem.specs.Forms.{IsText, IsId, IsWholeNumber, IsTruth, IsTextOrNull, IsKeyOrNull, AreTexts};
 ghost use Rattle.elem.specs.Said.{IsOwn};
-ghost use Rattle.elem_read.specs.Parts.{Reads};
+ghost use Rattle.elem_read.specs.inner.Parts.{Reads};
 ghost use Rattle.elem_read.specs.declared.fault.ElemFault.TheVariants as faults;
 
 use crate::fault::ElemFault;
 use crate::near::{text_near, truth_near, value_near, whole_near};
-use board_io::{List, Stop};
+use board_base::{List, Stop};
 use frac_keys::Key;
 use json_text::{Member, Text};
 use scene_json::{is_null, shaped, text_of, texts_of};

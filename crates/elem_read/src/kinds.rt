@@ -9,13 +9,13 @@ ghost use Rattle.elem.specs.Facts.{IsKind, header_names, own_names};
 ghost use Rattle.elem.specs.Forms.{IsText, IsKindName};
 ghost use Rattle.elem.specs.Said.{is_named};
 ghost use Rattle.elem.specs.Texts.{kind_name};
-ghost use Rattle.elem_read.specs.Parts.{ReadsOr};
+ghost use Rattle.elem_read.specs.inner.Parts.{ReadsOr};
 ghost use Rattle.elem_read.specs.Reading.{selection_text};
 ghost use Rattle.elem_read.specs.declared.fault.ElemFault.TheVariants as faults;
 
 use crate::fault::ElemFault;
 use crate::forms::text;
-use board_io::{List, Stop};
+use board_base::{List, Stop};
 use elem::Kind;
 use json_text::{Member, Text};
 use std::alloc::Global;

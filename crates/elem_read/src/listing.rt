@@ -7,12 +7,12 @@ ghost use Rattle.scene_json.specs.TheOne.{IsTheOne};
 ghost use Rattle.elem.specs.Forms.{IsText, IsListingEntry, AreListingEntries, IsListing};
 ghost use Rattle.elem.specs.Texts.{role_name};
 ghost use Rattle.elem_read.specs.Faults.{Lacks};
-ghost use Rattle.elem_read.specs.Parts.{Reads, TakesEntry};
+ghost use Rattle.elem_read.specs.inner.Parts.{Reads, TakesEntry};
 ghost use Rattle.elem_read.specs.declared.fault.ElemFault.TheVariants as faults;
 
 use crate::fault::ElemFault;
 use crate::near::value_near;
-use board_io::{List, Stop};
+use board_base::{List, Stop};
 use elem::{BoundRef, Role};
 use json_text::{Member, Raw};
 use scene_json::{has_value, items, members, shaped, text_named};

@@ -8,7 +8,7 @@ ghost use Rattle.json_text.specs.Tree.{true_word, false_word};
 ghost use Rattle.scene_json.specs.Named.{value_at, HaveRisingNames};
 ghost use Rattle.scene_json.specs.TheOne.{IsTheOne};
 
-use board_io::List;
+use board_base::List;
 use json_text::{Member, Raw, Text};
 use scene_json::{GREATEST_WHOLE, shaped, text_of, truth_of, value_named, whole_of};
 use std::alloc::{AllocError, Global};

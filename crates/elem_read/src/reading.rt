@@ -13,7 +13,7 @@ ghost use Rattle.elem_read.specs.declared.fault.FaultyElement.{FaultyElement};
 
 use crate::element::element_of;
 use crate::fault::{ElemFault, FaultyElement};
-use board_io::{List, Stop};
+use board_base::{List, Stop};
 use elem::Element;
 use json_text::{Member, Raw};
 use restore_table::into_restored;

@@ -8,8 +8,7 @@ use Rattle.elem.specs.ElementValue.{ElementValue}
 use Rattle.elem.specs.Order.{beats, has_id}
 use Rattle.elem.specs.Facts.{IsElement}
 use Rattle.elem.specs.Said.{HasValidTexts, AreElements}
-use Rattle.elem.proofs.OrderLaws.{beats-neither}
-use Rattle.elem.proofs.Saying.{text-of-one}
+use Rattle.elem.proofs.CallerLemmas.{beats-neither, text-of-one}
 use Rattle.elem_store.specs.Updates.{is_unbeaten, is_best, best_updates, stored_of}
 use Rattle.elem_store.proofs.Ids.{same_id}
 use Rattle.elem_store.proofs.Lists.{find-Some, list_any-false, filter-Contains, Contains-filter, list_any-filter}

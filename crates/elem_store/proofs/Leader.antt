@@ -11,7 +11,7 @@ use Rattle.std.proofs.lemmas.List.Recursion.{found_at}
 use Rattle.std.proofs.lemmas.List.Sums.{fold-append}
 use Rattle.elem.specs.ElementValue.{ElementValue}
 use Rattle.elem.specs.Order.{beats, has_id}
-use Rattle.elem.proofs.OrderLaws.{beats-asym, beats-below}
+use Rattle.elem.proofs.CallerLemmas.{beats-asym, beats-below}
 use Rattle.elem_store.specs.Updates.{is_unbeaten, is_best, stored_of}
 use Rattle.elem_store.proofs.Ids.{same_id}
 use Rattle.elem_store.proofs.Lists.{find-filter, list_any-filter}

@@ -12,3 +12,4 @@ pub mod Stored
 pub mod Woven
 pub mod Fronts
 mod TellingLaws
+pub mod CallerLemmas

@@ -4,8 +4,8 @@ use Rattle.std.specs.Cmp.Lexicographic.{slice_cmp}
 use Rattle.std.specs.Ordering.{match_ordering}
 use Rattle.std.specs.declared.cmp.Ordering.TheVariants.{Less, Equal, Greater}
 use Rattle.std.proofs.lemmas.Bool.{cases_Bool, and_parts, and_from}
-use Rattle.json_text.proofs.Collapsed.{bytes_eq-true}
-use Rattle.scene_json.proofs.Lookups.{bytes_eq-less, bytes_eq-tied, less_turned}
+use Rattle.json_text.proofs.CallerLemmas.{bytes_eq-true}
+use Rattle.scene_json.proofs.CallerLemmas.{bytes_eq-less, bytes_eq-tied, less_turned}
 use Rattle.frac_keys.specs.Rising.{ends_rise, rise_between, are_rising}
 use Rattle.elem.specs.ElementValue.{ElementValue}
 use Rattle.elem.specs.Order.{has_id}

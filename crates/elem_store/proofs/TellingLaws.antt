@@ -2,14 +2,13 @@
 use Rattle.std.proofs.Common.{◌≡◌, ℕ, ◌+◌, ◌<◌, List, [], ◌∷◌, ◌++◌, length, take, get_or, refl, sym, ap, ◌∙◌, subst, codes}
 use Rattle.std.specs.List.{AllByRecursion}
 use Rattle.std.proofs.lemmas.List.{take_more}
-use Rattle.elem.proofs.Distinct.{AllByRecursion-append}
+use Rattle.elem.proofs.CallerLemmas.{AllByRecursion-append, literal}
 use Rattle.std.specs.Str.{IsUtf8}
 use Rattle.json_text.specs.declared.text.Member.{Member}
 use Rattle.elem.specs.Facts.{names}
 use Rattle.elem.specs.declared.kind.Kind.{Kind}
 use Rattle.elem.specs.declared.kind.Kind.TheVariants as kinds
 use Rattle.elem.specs.Texts.{kind_name}
-use Rattle.elem.proofs.Saying.{literal}
 
 -- one more item
 pub each-more : {X : Type 0} (P : X → Type 0) (xs : List X) (i : ℕ) (x : X) → x ≡ get_or xs i x → i < length xs → AllByRecursion P (take i xs) → P x → AllByRecursion P (take (i + 1) xs)

@@ -4,7 +4,7 @@ ghost use Rattle.std.specs.Prelude.{◌≡◌, ◌+◌, ◌-◌, ◌<◌, ◌≤
 ghost use Rattle.elem_store.specs.Fronts.{front_of};
 ghost use Rattle.elem_store.specs.Places as places;
 
-use board_io::bytes_order;
+use board_base::bytes_order;
 use elem::Element;
 use json_text::Text;
 use std::alloc::{AllocError, Global};

@@ -10,7 +10,7 @@ use crate::indexed::Places;
 use crate::places::{add, find_place, moved_out, replace_beaten};
 use crate::shelf::Shelf;
 use crate::telling::tell;
-use board_io::List;
+use board_base::List;
 use elem::Element;
 use json_text::Text;
 use std::alloc::{AllocError, Global};
@@ -62,7 +62,7 @@ impl Store {
         }
     }
 
-    /// What is stored of these updates, of which among equal bests of an id the first counts.
+    /// What is stored of these updates: of each id the one that no other one of the id beats.
     pub fn from_updates(alloc: Global, updates: List<Element>) -> Result<Store, AllocError>
         ensures { IfOk result (λ store. AreStored updates store.elements) }
     {

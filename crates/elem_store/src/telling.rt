@@ -9,7 +9,7 @@ ghost use Rattle.elem.specs.Said.{IsBindingText, HasValidTexts};
 ghost use Rattle.elem.specs.Texts.{kind_name};
 ghost use Rattle.elem.specs.declared.parts.BoundRef.{BoundRef};
 
-use board_io::List;
+use board_base::List;
 use elem::{Binding, BoundRef, Element, Kind};
 use frac_keys::Key;
 use json_text::{Member, Text};

@@ -10,11 +10,11 @@ use Rattle.json_text.specs.Compact.{Member as Pair}
 use Rattle.json_text.specs.Parts.{names_of}
 use Rattle.json_text.specs.Value.{IsCompact}
 use Rattle.scene_json.specs.Named.{value_at, HaveRisingNames}
-use Rattle.json_text.proofs.Collapsed.{bytes_eq-true}
-use Rattle.scene_json.proofs.Lookups.{IsBelow, rising_parts, rising_from, rising_none}
+use Rattle.json_text.proofs.CallerLemmas.{bytes_eq-true}
+use Rattle.scene_json.proofs.CallerLemmas.{IsBelow, rising_parts, rising_from, rising_none}
 use Rattle.frac_keys.specs.Keys.{bytes_less}
 use Rattle.elem.specs.Texts.{with_member, sorted_members}
-use Rattle.elem.proofs.Sorting.{IsRising, IsRising-sorted, IsPermutation-sorted, same_rising, less_is, bytes_less-same, AllByRecursion-map, AllByRecursion-sorted, AllByRecursion-weaker}
+use Rattle.elem.proofs.CallerLemmas.{IsRising, IsRising-sorted, IsPermutation-sorted, same_rising, less_is, bytes_less-same, AllByRecursion-map, AllByRecursion-sorted, AllByRecursion-weaker}
 use Rattle.file_table.specs.Table.{EntriesNest}
 
 -- ---- look-ups

@@ -7,7 +7,7 @@ use Rattle.std.proofs.lemmas.Slice.Eq.{bytes_eq-Decides}
 use Rattle.json_text.specs.Compact.{Member as Pair}
 use Rattle.json_text.specs.Parts.{names_of}
 use Rattle.scene_json.specs.Named.{value_at, HaveRisingNames}
-use Rattle.scene_json.proofs.Lookups.{rising_distinct, rising_same, rising_none}
+use Rattle.scene_json.proofs.CallerLemmas.{rising_distinct, rising_same, rising_none}
 use Rattle.frac_keys.specs.Keys.{bytes_less}
 use Rattle.file_table.specs.Table.{lesser, lesser_of, least_entry, IsLeast, AreLeastEntries}
 use Rattle.file_table.proofs.Lesser.{less_order, less_itself, same_bytes, lesser_either, lesser_of-either}

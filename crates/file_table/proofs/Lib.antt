@@ -6,3 +6,4 @@ pub mod Tables
 pub mod Referred
 pub mod Pictures
 pub mod Tabled
+pub mod CallerLemmas

@@ -5,14 +5,13 @@ use Rattle.std.specs.Option.{option_map}
 use Rattle.std.proofs.lemmas.Bool.{cases_Bool}
 use Rattle.std.proofs.lemmas.List.{append-nil}
 use Rattle.std.proofs.lemmas.Map.Entries.{lookup_head, lookup_tail}
-use Rattle.json_text.proofs.Collapsed.{bytes_eq-true}
+use Rattle.json_text.proofs.CallerLemmas.{bytes_eq-true, IsDistinct-filter, any-first_texts}
 use Rattle.std.proofs.lemmas.List.Elements.{filter_map-append}
 use Rattle.json_text.specs.Compact.{Member as Pair}
 use Rattle.json_text.specs.Parts.{names_of}
 use Rattle.json_text.specs.Value.{IsCompact}
 use Rattle.scene_json.specs.Named.{value_at}
-use Rattle.first_texts.specs.FirstOccurrences.{first_texts}
-use Rattle.first_texts.proofs.FirstLaws.{IsDistinct-filter, any-first_texts}
+use Rattle.json_text.specs.FirstOccurrences.{first_texts}
 use Rattle.elem.specs.ElementValue.{ElementValue}
 use Rattle.file_table.specs.References.{references, file_of, referred_files}
 use Rattle.elem.specs.Texts.{sorted_members}

@@ -14,10 +14,9 @@ use Rattle.json_text.specs.Compact.{Member as Pair, object_text}
 use Rattle.json_text.specs.Parts.{AreMembers, names_of}
 use Rattle.json_text.specs.Value.{IsCompact}
 use Rattle.scene_json.specs.Named.{value_at}
-use Rattle.json_text.proofs.CompactLaws.{Value-deeper}
-use Rattle.json_text.proofs.Forms.{string-or-not, object-or-not}
-use Rattle.scene_json.proofs.Rising.{tabled}
-use Rattle.elem.proofs.Once.{object-once, quote-once}
+use Rattle.json_text.proofs.CallerLemmas.{Value-deeper, string-or-not, object-or-not}
+use Rattle.scene_json.proofs.CallerLemmas.{tabled}
+use Rattle.elem.proofs.CallerLemmas.{object-once, quote-once}
 use Rattle.file_table.specs.Picture.{IsDataUrl, HasUrl, HasData, IsPictureSize}
 use Rattle.file_table.specs.Table.{least_entry, AreLeastEntries}
 use Rattle.file_table.proofs.Pictures.{size-none}

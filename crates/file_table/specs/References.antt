@@ -3,7 +3,7 @@ use Rattle.std.specs.Prelude.{ℕ, List, Option, filter_map}
 use Rattle.std.specs.Option.{option_map}
 use Rattle.json_text.specs.Compact.{Member as Pair}
 use Rattle.scene_json.specs.Named.{value_at}
-use Rattle.first_texts.specs.FirstOccurrences.{first_texts}
+use Rattle.json_text.specs.FirstOccurrences.{first_texts}
 use Rattle.elem.specs.ElementValue.{ElementValue}
 
 -- the ids of files that elements name, as images alone do, in the order of the elements

@@ -12,10 +12,9 @@ ghost use Rattle.file_table.specs.References.{referred_files};
 
 use crate::references::{found, references};
 use crate::table::{Entries, keep_lesser, members_by_id};
-use board_io::List;
+use board_base::List;
 use elem::Element;
-use first_texts::first_occurrences;
-use json_text::{Member, Raw, Text};
+use json_text::{Member, Raw, Text, first_occurrences};
 use std::alloc::{AllocError, Global};
 use std::hash::BuildHasherDefault;
 use std::marker::Model;

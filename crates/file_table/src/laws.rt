@@ -6,7 +6,7 @@ ghost use Rattle.json_text.specs.Compact.{Member as Pair};
 ghost use Rattle.json_text.specs.Parts.{names_of};
 ghost use Rattle.json_text.specs.Value.{IsCompact};
 ghost use Rattle.scene_json.specs.Named.{HaveRisingNames, value_at};
-ghost use Rattle.first_texts.specs.FirstOccurrences.{first_texts};
+ghost use Rattle.json_text.specs.FirstOccurrences.{first_texts};
 ghost use Rattle.elem.specs.ElementValue.{ElementValue};
 ghost use Rattle.file_table.specs.References.{references, referred_files};
 ghost use Rattle.file_table.specs.Picture.{HasData, IsPictureSize};

@@ -9,7 +9,7 @@ ghost use Rattle.file_table.specs.Picture.{IsDataUrl, HasUrl, HasData, IsPicture
 
 use base64::DecodeAllocError;
 use base64::engine::general_purpose::STANDARD;
-use board_io::Stop;
+use board_base::Stop;
 use json_text::{Raw, Text};
 use scene_json::{members, shaped, text_named};
 use std::alloc::{AllocError, Global};

@@ -10,3 +10,4 @@ pub mod PartLemmas
 pub mod MidpointLemmas
 pub mod IntegerLemmas
 pub mod KeysLemmas
+pub mod CallerLemmas

@@ -4,7 +4,7 @@ ghost use Rattle.std.specs.Prelude.{◌≡◌, IfOk, IsFalse, IsTrue, if◌then�
 ghost use Rattle.frac_keys.specs.Keys as keys;
 
 use crate::parts::is_key;
-use board_io::bytes_order;
+use board_base::bytes_order;
 use std::alloc::{AllocError, Global};
 use std::cmp::Ordering;
 use std::marker::Model;

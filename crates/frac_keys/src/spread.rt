@@ -8,7 +8,7 @@ ghost use Rattle.frac_keys.specs.Rising.{ends_rise, is_key_or_none, last_or, lie
 
 use crate::generate::{end_bytes, key_between};
 use crate::key::Key;
-use board_io::List;
+use board_base::List;
 use std::alloc::{AllocError, Global};
 
 /// `n` keys between two ends, the first of which is less; an absent end is beyond all keys. Fails only for want of

@@ -2,7 +2,7 @@
 use Rattle.std.proofs.Common.{◌≡◌, ℕ, Bool, true, false, cond, List, map, bytes_eq, refl, sym, ap, ◌∙◌, subst}
 use Rattle.std.specs.List.{IsDistinct}
 use Rattle.std.proofs.lemmas.List.Elements.{All-map, All-weaker}
-use Rattle.first_texts.proofs.FirstLaws.{IsDistinct-first_texts, first_texts-distinct}
+use Rattle.json_text.proofs.CallerLemmas.{IsDistinct-first_texts, first_texts-distinct}
 use Rattle.elem.specs.ElementValue.{ElementValue}
 use Rattle.frames_groups.specs.Frames.{is_frame_of, has_frame, keeps_frame, without_frame, framed, frames_settled, NameFrames}
 use Rattle.frames_groups.specs.Groups.{with_groups, grouped, groups_settled, without_groups, HaveDistinctGroups}

@@ -1,7 +1,7 @@
 -- The groups that an element is in. That repeated ones go is this project's own.
 use Rattle.std.specs.Prelude.{ℕ, List, [], All, map, bytes_eq}
 use Rattle.std.specs.List.{IsDistinct}
-use Rattle.first_texts.specs.FirstOccurrences.{first_texts}
+use Rattle.json_text.specs.FirstOccurrences.{first_texts}
 use Rattle.elem.specs.ElementValue.{ElementValue}
 
 -- the element in these groups

@@ -6,7 +6,7 @@ ghost use Rattle.std.specs.Cmp.Lexicographic.{slice_cmp};
 ghost use Rattle.std.specs.BTreeSet.{contains};
 ghost use Rattle.frames_groups.specs.Frames.{is_frame, has_frame, keeps_frame, without_frame, framed, frames_settled, NameFrames};
 
-use board_io::List;
+use board_base::List;
 use elem::{Element, Kind};
 use json_text::Text;
 use std::alloc::{AllocError, Global};

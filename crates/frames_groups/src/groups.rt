@@ -1,13 +1,12 @@
 //! Groups.
 
 ghost use Rattle.std.specs.Prelude.{◌≡◌, map, IfOk, OnOk};
-ghost use Rattle.first_texts.specs.FirstOccurrences as first;
+ghost use Rattle.json_text.specs.FirstOccurrences as first;
 ghost use Rattle.frames_groups.specs.Groups.{grouped, groups_settled, without_groups, HaveDistinctGroups};
 
-use board_io::List;
+use board_base::List;
 use elem::Element;
-use first_texts::first_occurrences;
-use json_text::Text;
+use json_text::{Text, first_occurrences};
 use std::alloc::{AllocError, Global};
 
 /// The elements, each in its groups once, in the order in which these first stand. Fails only for want of memory.

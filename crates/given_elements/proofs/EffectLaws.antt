@@ -9,7 +9,7 @@ use Rattle.json_text.specs.Value.{IsCompact}
 use Rattle.json_text.specs.declared.text.Member.{Member}
 use Rattle.scene_json.specs.Named.{value_at}
 use Rattle.restore_table.specs.Table.{defaults}
-use Rattle.restore_table.proofs.Rows.{defaults-compact}
+use Rattle.restore_table.proofs.CallerLemmas.{defaults-compact}
 use Rattle.elem.specs.declared.kind.Kind.{Kind}
 use Rattle.elem.specs.declared.kind.Kind.TheVariants as kinds
 use Rattle.elem.specs.declared.parts.BoundRef.{BoundRef}
@@ -18,29 +18,29 @@ use Rattle.elem.specs.ElementValue.{ElementValue}
 use Rattle.elem.specs.Facts.{IsBinding, AllNest, names}
 use Rattle.elem.specs.Said.{IsBindingText}
 use Rattle.delta.specs.Rest.{with_value}
-use Rattle.delta.proofs.RestLaws.{each-with_value}
+use Rattle.delta.proofs.CallerLemmas.{each-with_value}
 use Rattle.elem.specs.Listings.{same_listing_entry}
 use Rattle.links.specs.Entries.{arrow_entry, text_entry, lists}
 use Rattle.links.specs.Names.{is_id, is_arrow, is_text, target_of}
 use Rattle.links.specs.Texts.{is_for_text}
-use Rattle.view.specs.Shown.{HaveRisingKeys}
-use Rattle.view.proofs.Kept.{IsKept, AreKept}
-use Rattle.effects.specs.declared.command.Command.{Command}
-use Rattle.effects.specs.declared.command.Command.TheVariants as commands
-use Rattle.effects.specs.declared.command.Refusal.{Refusal}
-use Rattle.effects.specs.declared.command.Side.{Side}
-use Rattle.effects.specs.declared.command.Side.TheVariants.{Start, End}
+use Rattle.index_repair.specs.Keyed.{HaveRisingKeys}
+use Rattle.elem.proofs.CallerLemmas.{IsKept, AreKept, HasText, IsEnd, with_parts, with_deleted, with_index, with_groups, with_frame, with_bound, with_container, with_start, with_end'}
+use Rattle.board_commands.specs.declared.command.Command.{Command}
+use Rattle.board_commands.specs.declared.command.Command.TheVariants as commands
+use Rattle.effects.specs.declared.refusal.Refusal.{Refusal}
+use Rattle.board_commands.specs.declared.command.Side.{Side}
+use Rattle.board_commands.specs.declared.command.Side.TheVariants.{Start, End}
 use Rattle.effects.specs.Deleting.{kept_name, kept_entries, kept_end, without_names, deleted_from}
 use Rattle.effects.specs.Effects.{effect, with_group, without_group}
-use Rattle.effects.specs.Limits.{IsRest, IsWithinLimits}
+use Rattle.board_commands.specs.Limits.{IsRest, IsWithinLimits}
 use Rattle.effects.specs.Linking.{with_listing_entry, without_listing_entry, listed, unlisted, with_end, with_end_of, old_target, old_container, with_container_of, without_other_texts, with_text_alone, with_text_of, without_container_of}
 use Rattle.effects.specs.Naming.{is_among, is_some_that, apart_from}
 use Rattle.effects.specs.Placing.{with_view_key, settled_key, key_at, key_in}
 use Rattle.effects.specs.Refusals.{refusal_if, guarded}
 use Rattle.effects.specs.Settings.{is_protected, given_value, with_set_member}
-use Rattle.effects.proofs.SettingLaws.{nests-more, free-header}
-use Rattle.given_elements.specs.Written.{IsWrittenCommand}
-use Rattle.given_elements.proofs.PartLaws.{HasText, IsEnd, with_parts, with_deleted, with_index, with_groups, with_frame, with_bound, with_container, with_start, with_end', with_rest}
+use Rattle.effects.proofs.CallerLemmas.{nests-more, free-header}
+use Rattle.board_commands.specs.Written.{IsWrittenCommand}
+use Rattle.given_elements.proofs.PartLaws.{with_rest}
 use Rattle.given_elements.proofs.SpotLaws.{settled_key-is, key_at-is, key_in-is}
 
 chosen : (b : Bool) (x y : ElementValue) → (b ≡ true → IsKept x) → IsKept y → IsKept (if b then x else y)

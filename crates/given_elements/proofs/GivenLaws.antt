@@ -8,22 +8,22 @@ use Rattle.frac_keys.specs.Keys.{bytes_less}
 use Rattle.elem.specs.ElementValue.{ElementValue}
 use Rattle.elem.specs.Facts.{IsElement, greatest_whole}
 use Rattle.elem.specs.Said.{HasValidTexts, AreElements}
-use Rattle.view.specs.Shown.{live_elements, with_element, shown, HaveRisingKeys}
-use Rattle.view.proofs.Kept.{IsKept, AreKept, kept-keys, live-kept, shown-kept}
-use Rattle.view.proofs.ShownLaws.{shown-keys}
-use Rattle.effects.specs.declared.command.Command.{Command}
-use Rattle.effects.specs.declared.command.Command.TheVariants as commands
-use Rattle.effects.specs.declared.command.Refusal.{Refusal}
+use Rattle.index_repair.specs.Keyed.{HaveRisingKeys}
+use Rattle.view.specs.Shown.{live_elements, with_element, shown}
+use Rattle.elem.proofs.CallerLemmas.{IsKept, AreKept, with_deleted, with_index, with_stamp}
+use Rattle.index_repair.proofs.CallerLemmas.{kept-keys}
+use Rattle.view.proofs.CallerLemmas.{live-kept, shown-kept, shown-keys}
+use Rattle.board_commands.specs.declared.command.Command.{Command}
+use Rattle.board_commands.specs.declared.command.Command.TheVariants as commands
+use Rattle.effects.specs.declared.refusal.Refusal.{Refusal}
 use Rattle.effects.specs.Changed.{stamped, is_changed, is_full, change_of, changes_of, created, with_created, outcome, outcome_from, outcome_unless}
 use Rattle.effects.specs.Effects.{effect}
-use Rattle.effects.specs.Limits.{IsWithinLimits}
+use Rattle.board_commands.specs.Limits.{IsWithinLimits}
 use Rattle.effects.specs.Placing.{key_at}
 use Rattle.effects.specs.Refusals.{existing, missing, misfit, guarded, refusal_of}
-use Rattle.effects.proofs.ChangedLaws.{guarded-none}
-use Rattle.effects.proofs.KeepingLaws.{Self, effect-keeps}
-use Rattle.given_elements.specs.Written.{IsWrittenCommand}
+use Rattle.effects.proofs.CallerLemmas.{guarded-none, Self, effect-keeps}
+use Rattle.board_commands.specs.Written.{IsWrittenCommand}
 use Rattle.given_elements.proofs.EffectLaws.{effect-kept}
-use Rattle.given_elements.proofs.PartLaws.{with_deleted, with_index, with_stamp}
 use Rattle.given_elements.proofs.SpotLaws.{key_at-is}
 
 -- ---- elements that change

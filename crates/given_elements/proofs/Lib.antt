@@ -2,3 +2,4 @@ pub mod EffectLaws
 pub mod GivenLaws
 pub mod PartLaws
 pub mod SpotLaws
+pub mod CallerLemmas

@@ -3,18 +3,17 @@ use Rattle.std.proofs.Common.{◌≡◌, ℕ, Bool, true, false, cond, not, List
 use Rattle.std.specs.Option.{option_map_or, option_and_then}
 use Rattle.frac_keys.specs.Between.{key_between}
 use Rattle.frac_keys.specs.Rising.{ends_rise, is_key_or_none}
-use Rattle.frac_keys.proofs.BetweenLaws.{key_between-law}
+use Rattle.frac_keys.proofs.CallerLemmas.{key_between-law}
 use Rattle.elem.specs.ElementValue.{ElementValue}
 use Rattle.elem.specs.Order.{has_id}
 use Rattle.elem_store.specs.Updates.{element_of}
-use Rattle.view.specs.Shown.{HaveRisingKeys}
+use Rattle.index_repair.specs.Keyed.{HaveRisingKeys}
 use Rattle.std.proofs.ByRecursion.{all_kept_by}
-use Rattle.view.proofs.Kept.{IsKept, AreKept}
-use Rattle.effects.specs.declared.command.Spot.{Spot}
-use Rattle.effects.specs.declared.command.Spot.TheVariants.{Bottom, Top, After}
+use Rattle.elem.proofs.CallerLemmas.{IsKept, AreKept, IsIndex}
+use Rattle.board_commands.specs.declared.command.Spot.{Spot}
+use Rattle.board_commands.specs.declared.command.Spot.TheVariants.{Bottom, Top, After}
 use Rattle.effects.specs.Placing.{settled_key, others, first_key, last_key, last_key_or, Gap, gap_above, gap_at, gap_of, lies_within, key_within, key_at, key_in}
-use Rattle.effects.proofs.PlacingLaws.{Rises, Rises-shown, Rises-lower, ends_rise-none}
-use Rattle.given_elements.proofs.PartLaws.{IsIndex}
+use Rattle.effects.proofs.CallerLemmas.{Rises, Rises-shown, Rises-lower, ends_rise-none}
 
 find-some : (p : ElementValue → Bool) (es : List ElementValue) → AreKept es → IfSome (find p es) IsKept
 find-some p [] all = tt

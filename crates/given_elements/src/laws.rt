@@ -5,10 +5,10 @@ ghost use Rattle.elem.specs.ElementValue.{ElementValue};
 ghost use Rattle.elem.specs.Facts.{greatest_whole};
 ghost use Rattle.elem.specs.Said.{AreElements};
 ghost use Rattle.view.specs.Shown.{live_elements, shown};
-ghost use Rattle.effects.specs.declared.command.Command.{Command};
+ghost use Rattle.board_commands.specs.declared.command.Command.{Command};
 ghost use Rattle.effects.specs.Changed.{outcome};
-ghost use Rattle.effects.specs.Limits.{IsWithinLimits};
-ghost use Rattle.given_elements.specs.Written.{IsWrittenCommand};
+ghost use Rattle.board_commands.specs.Limits.{IsWithinLimits};
+ghost use Rattle.board_commands.specs.Written.{IsWrittenCommand};
 
 /// What a command gives on a board of elements are elements.
 pub fn given_are_elements()

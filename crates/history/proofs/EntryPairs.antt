@@ -13,18 +13,16 @@ use Rattle.elem.specs.Facts.{IsElement, greatest_whole}
 use Rattle.elem.specs.Order.{unstamped, has_id}
 use Rattle.elem.specs.Said.{HasValidTexts, AreElements}
 use Rattle.elem_store.specs.Updates.{element_of}
-use Rattle.elem_store.proofs.Lists.{Contains-head, Contains-cons, Contains-cases, find-Some, find-None}
+use Rattle.elem_store.proofs.CallerLemmas.{Contains-head, Contains-cons, Contains-cases, find-Some, find-None}
 use Rattle.delta.specs.Delta.{Delta}
 use Rattle.delta.specs.Pairs.{Pair, exchanged}
 use Rattle.delta.specs.Parts.{inverses}
-use Rattle.delta.proofs.PairLaws.{entry-exchanged}
-use Rattle.delta.proofs.Placing.{same_members}
-use Rattle.delta.proofs.RisingIds.{later_greater}
+use Rattle.delta.proofs.CallerLemmas.{entry-exchanged, same_members, later_greater}
 use Rattle.undoing.specs.Differing.{differ}
 use Rattle.undoing.specs.Steps.{Reverted, is_visible, is_full, is_seen, reverted, stamped, given, full_id}
 use Rattle.undoing.specs.Undoing.{undone}
-use Rattle.undoing.proofs.DifferingLaws.{rise-lower}
-use Rattle.undoing.proofs.StepLaws as turns
+use Rattle.undoing.proofs.CallerLemmas.{rise-lower}
+use Rattle.undoing.proofs.CallerLemmas as turns
 use Rattle.history.specs.Pairs.{IsEntryOf}
 use Rattle.history.specs.Steps.{Reverts, Differ, IsNow, IsSeen, AreGiven, IsFullId, IsLeastFull}
 use Rattle.history.proofs.Reverting.{undone-reverts, reverts-once, differ-from, differ-to}

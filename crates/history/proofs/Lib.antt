@@ -4,3 +4,4 @@ pub mod Reverting
 pub mod StackPairs
 pub mod StepLaws
 pub mod UndoneLaws
+pub mod CallerLemmas

@@ -4,7 +4,7 @@ use Rattle.std.proofs.Math.Seq.{take-append_seam}
 use Rattle.std.proofs.lemmas.List.{map-append}
 use Rattle.std.proofs.lemmas.List.Elements.{Contains-append_right, Contains-push_cases}
 use mathlib.Core.List.{reverse_aux-eq}
-use Rattle.elem_store.proofs.Lists.{Contains-cases}
+use Rattle.elem_store.proofs.CallerLemmas.{Contains-cases}
 use Rattle.elem.specs.ElementValue.{ElementValue}
 use Rattle.delta.specs.Delta.{Delta}
 use Rattle.delta.specs.Parts.{inverses}
@@ -12,7 +12,7 @@ use Rattle.history.specs.declared.planned.HistoryStep.{HistoryStep}
 use Rattle.history.specs.declared.planned.Plan.{Plan}
 use Rattle.history.specs.declared.step.Step.{Step}
 use Rattle.history.specs.declared.step.Step.TheVariants as steps
-use Rattle.history.specs.Places.{IsSeenAt}
+use Rattle.history.specs.inner.Places.{IsSeenAt}
 use Rattle.history.specs.Stacks.{Stacks, AreUnseen, IsTopmostSeen, HasStepped, HasUndone, HasRedone, StopsAt, IsPlanned, FitsIn, noted, put_step, with_entry, redo_left, below_last, grown_by, side}
 use Rattle.history.specs.Steps.{IsSeen, IsStep, IsLeastFull}
 

@@ -3,7 +3,7 @@ use Rattle.std.proofs.Common.{◌≡◌, ◌⊎◌, Bool, true, false, ◌||◌,
 use Rattle.std.specs.List.{AllByRecursion, list_any}
 use Rattle.std.proofs.lemmas.Bool.{cases_Bool, false≢true, false_from_ne_true, true_from_ne_false}
 use Rattle.json_text.specs.declared.text.Member.{Member}
-use Rattle.json_text.proofs.Collapsed.{bytes_eq-true, bytes_eq-same, bytes_eq-apart}
+use Rattle.json_text.proofs.CallerLemmas.{bytes_eq-true, bytes_eq-same, bytes_eq-apart}
 use Rattle.elem.specs.declared.kind.Kind.{Kind}
 use Rattle.elem.specs.declared.kind.Kind.TheVariants.{Rectangle, Diamond, Ellipse, Arrow, Line, Freedraw, Text, Image, Frame, Magicframe, Iframe, Embeddable, Other}
 use Rattle.elem.specs.declared.parts.BoundRef.{BoundRef}
@@ -19,15 +19,11 @@ use Rattle.delta.specs.Joined.{are_same, joined}
 use Rattle.delta.specs.Pairs.{Pair, IsPartOf}
 use Rattle.delta.specs.Parts.{change_of, scalar_change, groups_change, bound_change, scalars_same, is_list, PartStandsFor, inverted, inverse}
 use Rattle.delta.specs.Undone.{undone_scalar, undone_list, IsUndone}
-use Rattle.delta.proofs.JoinLaws.{are_same-exact, are_same-same}
-use Rattle.delta.proofs.PartLaws.{turned, change-inverted, scalar-turned, groups-turned, bound-turned}
-use Rattle.delta.proofs.RestLaws.{each-list_any, list_any-each}
-use Rattle.delta.proofs.ToldLaws.{not-named}
+use Rattle.delta.proofs.CallerLemmas.{are_same-exact, are_same-same, turned, change-inverted, scalar-turned, groups-turned, bound-turned, each-list_any, list_any-each, not-named}
 use Rattle.undoing.specs.Differing.{differ}
 use Rattle.undoing.specs.Entries.{IsOfElements}
 use Rattle.undoing.specs.Undoing.{undone}
-use Rattle.undoing.proofs.DifferingLaws.{differ-true, differ-false}
-use Rattle.undoing.proofs.UndoneLaws.{undone-stamp, undone-undoes, undone-element, reverts-undone}
+use Rattle.undoing.proofs.CallerLemmas.{differ-true, differ-false, undone-stamp, undone-undoes, undone-element, reverts-undone}
 use Rattle.history.specs.Steps.{Reverts, Differ}
 
 -- ---- a list is no scalar

@@ -9,11 +9,11 @@ use Rattle.elem.specs.Facts.{greatest_whole}
 use Rattle.elem.specs.Order.{text_less}
 use Rattle.elem.specs.Said.{AreElements}
 use Rattle.elem_store.specs.Updates.{element_of, is_taken, is_newer}
-use Rattle.elem_store.proofs.Lists.{Contains-head, Contains-cons}
+use Rattle.elem_store.proofs.CallerLemmas.{Contains-head, Contains-cons}
 use Rattle.delta.specs.Delta.{Delta}
 use Rattle.delta.specs.Pairs.{Pair, EntryStandsFor, exchanged}
 use Rattle.delta.specs.Parts.{inverses}
-use Rattle.undoing.proofs.StepLaws.{given-elements, made-entry}
+use Rattle.undoing.proofs.CallerLemmas.{given-elements, made-entry}
 use Rattle.undoing.specs.Steps.{Sought, Turn, sought, is_seen, given, full_id, made, turn_of, turn_unless, step}
 use Rattle.history.specs.Pairs.{IsEntryOf, AreEntriesOf, StackStandsFor, with_pairs, pairs_left}
 use Rattle.history.specs.Stacks.{AreUnseen, IsTopmostSeen, HasStepped, StopsAt, with_entry, redo_left}

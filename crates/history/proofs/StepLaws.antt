@@ -4,25 +4,21 @@ use Rattle.std.proofs.lemmas.Bool.{cases_Bool}
 use Rattle.std.proofs.lemmas.List.{map-append, take_more}
 use Rattle.std.proofs.lemmas.List.Elements.{Contains-append_left, Contains-append_right, Contains-append_cases, Contains-push, Contains-push_cases}
 use Rattle.std.proofs.lemmas.Option.{same_Some}
-use Rattle.board_io.specs.declared.stop.Stop.{Stop}
-use Rattle.board_io.specs.declared.stop.Stop.TheVariants.{Fault, Memory}
+use Rattle.board_base.specs.declared.stop.Stop.{Stop}
+use Rattle.board_base.specs.declared.stop.Stop.TheVariants.{Fault, Memory}
 use Rattle.frac_keys.specs.Keys.{bytes_less}
 use Rattle.frac_keys.specs.Rising.{are_rising}
 use Rattle.elem.specs.ElementValue.{ElementValue}
 use Rattle.elem.specs.Order.{unstamped, has_id}
 use Rattle.elem_store.specs.Updates.{HasTaken, element_of, is_taken}
-use Rattle.elem_store.proofs.Ids.{same_id}
-use Rattle.elem_store.proofs.Lists.{find-Some, Contains-cons}
-use Rattle.elem_store.proofs.Rising.{less-other, less-less}
+use Rattle.elem_store.proofs.CallerLemmas.{same_id, find-Some, Contains-cons, less-other, less-less}
 use Rattle.delta.specs.Applied.{KeepsStamp}
 use Rattle.delta.specs.Delta.{Delta}
 use Rattle.delta.specs.Facts.{part_ids}
 use Rattle.delta.specs.Pairs.{Pair, EntryStandsFor, pair_with, pairs_from}
 use Rattle.delta.specs.Parts.{PartStandsFor, inverse, inverses}
 use Rattle.delta.specs.declared.stamping.VersionFull.{VersionFull}
-use Rattle.delta.proofs.PairLaws.{entry-more, entry-none}
-use Rattle.delta.proofs.PartLaws.{applied-apart}
-use Rattle.delta.proofs.RisingIds.{Contains-map, rising-push, rising-front, earlier_less, later_greater}
+use Rattle.delta.proofs.CallerLemmas.{entry-more, entry-none, applied-apart, Contains-map, rising-push, rising-front, earlier_less, later_greater}
 use Rattle.history.proofs.PlanLaws.{reverse-cons}
 use Rattle.history.specs.Stacks.{OnFull, HasStepped, HasStoredIds, HaveStoredIds}
 use Rattle.history.specs.Steps.{stamped, Reverts, IsNow, IsFull, IsFullId, IsLeastFull, PartHasGiven, IsGivenByPart, IsStep, ComesOf}

@@ -4,15 +4,14 @@ use Rattle.std.proofs.lemmas.Option.{same_Some}
 use Rattle.elem.specs.ElementValue.{ElementValue}
 use Rattle.elem.specs.Facts.{IsElement}
 use Rattle.elem.specs.Order.{unstamped, has_id}
+use Rattle.elem.proofs.CallerLemmas.{element_with_deleted}
 use Rattle.elem_store.specs.Updates.{element_of}
-use Rattle.elem_store.proofs.Ids.{same_id}
-use Rattle.elem_store.proofs.Lists.{find-Some}
+use Rattle.elem_store.proofs.CallerLemmas.{same_id, find-Some}
 use Rattle.delta.specs.Applied.{IsApplied}
 use Rattle.delta.specs.Delta.{Delta}
 use Rattle.delta.specs.Pairs.{Pair, EntryStandsFor, pair_with, pairs_from}
 use Rattle.delta.specs.Parts.{counted, inverse}
-use Rattle.delta.proofs.RisingIds.{Contains-to_map}
-use Rattle.delta.proofs.PartLaws.{undone-from, applied-back}
+use Rattle.delta.proofs.CallerLemmas.{Contains-to_map, undone-from, applied-back}
 use Rattle.history.specs.Steps.{stamped, AreGiven}
 use Rattle.history.specs.Undone.{EachIsElement, ArePairsOfElements, AreUndone, ComesBack}
 
@@ -59,24 +58,8 @@ module _ (parts : List Delta) (store given : List ElementValue) (time nonce : �
   }
 
   -- an element that isn't deleted any more is one too, and so is a deleted one
-  deleted-is : (e : ElementValue) → IsElement e → IsElement (record e { deleted = true })
-  deleted-is e is = record {
-    named = is.named;
-    version = is.version;
-    nonce = is.nonce;
-    updated = is.updated;
-    kind = is.kind;
-    container = is.container;
-    start_binding = is.start_binding;
-    end_binding = is.end_binding;
-    file = is.file;
-    rise = is.rise;
-    free = is.free;
-    nest = is.nest;
-  }
-
   counted-is : (o : Option ElementValue) (now : ElementValue) → IsElement now → ((e : ElementValue) → o ≡ Some e → IsElement e) → IsElement (counted o now)
-  counted-is None now is each = deleted-is now is
+  counted-is None now is each = element_with_deleted now true is
   counted-is (Some e) now is each = each e refl
 
   counted-id : (old : List ElementValue) (now : ElementValue) (o : Option ElementValue) → element_of old now.id ≡ o → (counted o now).id ≡ now.id

@@ -1,5 +1,5 @@
 pub mod Pairs
-pub mod Places
 pub mod Stacks
 pub mod Steps
 pub mod Undone
+pub mod inner

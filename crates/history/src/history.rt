@@ -7,7 +7,7 @@ ghost use Rattle.history.specs.Stacks.{HasStoredIds, HaveStoredIds, AreUnseen, H
 
 use crate::planned::{HistoryStep, note_within, shift, step_of};
 use crate::step::{Step, is_nothing, plan_back, plan_noted};
-use board_io::{List, Stop};
+use board_base::{List, Stop};
 use delta::{Entry, VersionFull};
 use elem_store::Store;
 use std::alloc::{AllocError, Global};

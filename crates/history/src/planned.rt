@@ -6,7 +6,7 @@ ghost use Rattle.delta.specs.Parts.{inverses};
 ghost use Rattle.history.specs.Stacks.{below_last, grown_by, with_entry, redo_left};
 
 use crate::step::Step;
-use board_io::List;
+use board_base::List;
 use delta::{Entry, invert_entry};
 use elem::Element;
 

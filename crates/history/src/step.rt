@@ -8,12 +8,12 @@ ghost use Rattle.delta.specs.Delta.{Delta};
 ghost use Rattle.delta.specs.Facts.{part_ids};
 ghost use Rattle.delta.specs.Parts.{PartStandsFor};
 ghost use Rattle.elem_store.specs.Updates.{element_of};
-ghost use Rattle.history.specs.Places.{IsSeenAt};
+ghost use Rattle.history.specs.inner.Places.{IsSeenAt};
 ghost use Rattle.history.specs.Stacks.{HasStoredIds, HaveStoredIds, AreUnseen, IsPlanned, StopsAt, OnFull, with_entry};
 ghost use Rattle.history.specs.Steps.{IsStep, IsFull, IsLeastFull, IsSeen, IsSeenPart, ComesOf, Differ, Reverts};
 
 use crate::planned::Plan;
-use board_io::{List, Stop};
+use board_base::{List, Stop};
 use delta::{AtLimit, Entry, Part, VersionFull, apply, difference, invert, stamp};
 use elem::{Element, same_but_stamp};
 use elem_store::Store;

@@ -7,7 +7,7 @@ use Rattle.std.proofs.lemmas.List.Folds.{list_all-append}
 use Rattle.frac_keys.specs.Keys.{is_key, bytes_less}
 use Rattle.frac_keys.specs.Rising.{ends_rise, is_key_or_none, rise_between, are_rising}
 use Rattle.frac_keys.specs.Between.{keys_above, keys_below, keys_inside, keys_between}
-use Rattle.frac_keys.proofs.KeysLaws.{AreBetween, keys_between-law, rise_between-join, rise_between-ends}
+use Rattle.frac_keys.proofs.CallerLemmas.{AreBetween, keys_between-law, rise_between-join, rise_between-ends}
 use Rattle.index_repair.specs.Repair.{kept_after, kept, IsAboveKept, AreKept, filled_after, repaired_below, repaired, is_below, are_below, KeepsAll}
 
 open_above : (a : Option (List ℕ)) → ends_rise a None ≡ true

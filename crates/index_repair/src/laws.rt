@@ -1,10 +1,14 @@
-//! Laws on repaired keys, for all lists of optional keys. They do nothing when they run.
+//! Laws on repaired keys, for all lists of optional keys and of elements. They do nothing when they run.
 
-ghost use Rattle.std.specs.Prelude.{◌≡◌, ℕ, List, [], ◌∷◌, ◌++◌, length, map, replicate, Option, Some, None, IsTrue};
+ghost use Rattle.std.specs.Prelude.{◌≡◌, ℕ, List, [], ◌∷◌, ◌++◌, All, length, map, replicate, Option, Some, None, IsTrue};
 ghost use Rattle.std.specs.List.{list_all};
 ghost use Rattle.frac_keys.specs.Between.{keys_between};
 ghost use Rattle.frac_keys.specs.Keys.{is_key, bytes_less};
 ghost use Rattle.frac_keys.specs.Rising.{are_rising, is_key_or_none};
+ghost use Rattle.elem.specs.ElementValue.{ElementValue};
+ghost use Rattle.elem.specs.Facts.{IsElement};
+ghost use Rattle.elem.specs.Said.{HasValidTexts};
+ghost use Rattle.index_repair.specs.Keyed.{index_of, keyed};
 ghost use Rattle.index_repair.specs.Repair.{kept, AreKept, filled, repaired_below, repaired, are_below, NeverFall, KeepsAll};
 
 /// Exactly the positions are kept that have a key greater than all keys kept before it.
@@ -63,4 +67,11 @@ pub fn parts_are_repaired_apart()
     ensures never_fall { (before : List (Option (List ℕ))) (last key : List ℕ)
         → NeverFall (before ++ Some last ∷ []) → IsTrue (bytes_less last key)
         → IsTrue (are_below (Some key) (before ++ Some last ∷ [])) }
+{}
+
+/// What holds of every element holds of elements with repaired keys.
+pub fn keyed_elements_are_elements()
+    ensures { (elements : List ElementValue)
+        → All (λ e. IsElement e × HasValidTexts e) elements
+        → All (λ e. IsElement e × HasValidTexts e) (keyed elements (repaired (map index_of elements))) }
 {}

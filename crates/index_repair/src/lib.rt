@@ -1,6 +1,7 @@
-//! Index repair: strictly rising keys in place of keys that may be absent or in disorder.
+//! Index repair: strictly rising keys in place of keys that may be absent or in disorder, and elements with such keys.
 #![tactic(auto)]
 
+mod keyed;
 pub mod laws;
 
 ghost use Rattle.std.specs.Prelude.{◌≡◌, ℕ, List, ◌++◌, length, map, None, Some, option_copied, IfOk, OnOk, IsTrue};
@@ -10,8 +11,9 @@ ghost use Rattle.frac_keys.specs.Between.{keys_between};
 ghost use Rattle.frac_keys.specs.Rising.{ends_rise, rise_between, are_rising, is_key_or_none};
 ghost use Rattle.index_repair.specs.Repair.{kept, repaired_below, repaired, are_below, KeepsAll, kept_key};
 
-use board_io::List;
+use board_base::List;
 use frac_keys::{Key, n_between};
+pub use keyed::with_repaired_keys;
 use std::alloc::{AllocError, Global};
 
 /// Strictly rising keys for all positions. A position keeps its key if it has one that is greater than all keys kept

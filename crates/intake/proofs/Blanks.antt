@@ -5,7 +5,7 @@ use Rattle.std.proofs.lemmas.Bool.{both_ways, false_from_ne_true, and_parts, cas
 use Rattle.std.proofs.lemmas.List.Folds.{list_all-append}
 use Rattle.json_text.specs.Characters.{is_blank, is_space}
 use Rattle.json_text.specs.Value.{Stands}
-use Rattle.json_text.proofs.Reading.{tree-Head, begins-no-space}
+use Rattle.json_text.proofs.CallerLemmas.{tree-Head, begins-no-space}
 
 -- white space before the rest is white space
 blank-front : (xs ys : List ℕ) → is_blank (xs ++ ys) ≡ true → (is_blank xs ≡ true) × (is_blank ys ≡ true)

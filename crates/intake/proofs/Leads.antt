@@ -10,8 +10,8 @@ use Rattle.json_reader.specs.Faults.{IsFirstFault}
 use Rattle.json_reader.specs.Feeding.{Feeding, IsAt, behind_space}
 use Rattle.json_reader.specs.declared.fault.JsonFault.{JsonFault}
 use Rattle.json_reader.specs.declared.fault.JsonFault.TheVariants.{Syntax}
-use Rattle.json_text.proofs.Contents.{prefix-run}
-use Rattle.json_reader.proofs.Feeds.{behind-blank, blank-behind}
+use Rattle.json_text.proofs.CallerLemmas.{prefix-run}
+use Rattle.json_reader.proofs.CallerLemmas.{behind-blank, blank-behind}
 use Rattle.intake.specs.declared.reading.Stopped.{Stopped}
 use Rattle.intake.specs.Texts.{Reading, TextsLead, HasReadTo, HasTexts, HasFaultBehind, HasRefusedBehind, HasExtraBehind, IsStopped, AreRead, IsLed, StandsIn}
 use Rattle.intake.proofs.Blanks.{blank-more, blank-both, stands-begun, blank-not, first-more}

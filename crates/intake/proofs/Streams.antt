@@ -1,8 +1,8 @@
 -- A stream that a source gives, piece by piece.
 use Rattle.std.proofs.Common.{◌≡◌, ℕ, ◌+◌, ◌≤◌, List, [], ◌++◌, Option, None, Some, refl, length, take, arith, length-append, length-take}
 use Rattle.std.specs.Option.{option_map}
-use Rattle.board_io.specs.Ends.{SourceEnd, Gave}
-use Rattle.board_io.proofs.Moved.{Gave-more}
+use Rattle.board_ends.specs.Ends.{SourceEnd, Gave}
+use Rattle.board_ends.proofs.CallerLemmas.{Gave-more}
 use Rattle.json_reader.specs.Feeding.{Feeding}
 use Rattle.intake.specs.declared.reading.Stopped.{Stopped}
 use Rattle.intake.specs.Texts.{Reading, StandsIn}

@@ -1,12 +1,13 @@
 //! The texts of a whole input.
 
 ghost use Rattle.std.specs.Prelude.{◌≡◌, ◌≢◌, ℕ, ◌+◌, ◌^◌, ◌<◌, ◌≤◌, List, [], ◌++◌, length, take, IfOk, OnOk, OnErr, vec_len};
-ghost use Rattle.board_io.specs.Counts.{Rose};
-ghost use Rattle.board_io.specs.Ends.{Gave, IsAtEnd};
+ghost use Rattle.board_ends.specs.Counts.{Rose};
+ghost use Rattle.board_ends.specs.Ends.{Gave, IsAtEnd};
 ghost use Rattle.intake.specs.Texts.{StandsIn, AreRead};
 
 use crate::reading::{Reader, Stopped, finish, take_piece};
-use board_io::{Failed, ReadError, Source, Stop};
+use board_base::Stop;
+use board_ends::{Failed, ReadError, Source};
 use json_reader::Feed;
 use std::alloc::{AllocError, Global};
 

@@ -4,7 +4,7 @@ ghost use Rattle.std.specs.Prelude.{◌≡◌, ℕ, OnOk, IfOk, ◌+◌, ◌-◌
 ghost use Rattle.intake.specs.Texts.{Reading, IsLed, IsStopped, StandsIn, AreRead};
 ghost use Rattle.intake.specs.declared.reading.Stopped.{Stopped};
 
-use board_io::Stop;
+use board_base::Stop;
 use json_reader::{Fed, Feed, JsonFault};
 use json_text::{Raw, skip_space};
 use std::alloc::{AllocError, Global};

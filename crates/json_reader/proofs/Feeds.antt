@@ -10,7 +10,7 @@ use Rattle.std.proofs.Math.Seq.{drop-append-add}
 use Rattle.json_text.specs.Characters.{is_space, is_blank}
 use Rattle.json_text.specs.Tree.{IsNumber}
 use Rattle.json_text.specs.Value.{Begins, Stands}
-use Rattle.json_text.proofs.Reading.{Stands-once, tree-Head}
+use Rattle.json_text.proofs.CallerLemmas.{Stands-once, tree-Head}
 use Rattle.json_reader.specs.Faults.{IsFirstFault}
 use Rattle.json_reader.specs.Feeding.{behind_space, Feeding, IsAt, IsUnderWay}
 use Rattle.json_reader.specs.Machine.{Machine, JsonFault, Bracket, Mode, Syntax, state, top, step, fault_of}

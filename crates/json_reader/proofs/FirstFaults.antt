@@ -9,7 +9,7 @@ use lib.Utf8.{low_scalar}
 use Rattle.json_text.specs.Value.{Begins, IsLongest, IsInString, IsUnfinished, IsTooDeepBracket, IsStray, IsBrokenOff, IsBadUtf8}
 use Rattle.json_reader.specs.Faults.{IsJsonFault}
 use Rattle.json_reader.specs.Machine.{Syntax, Depth, Utf8, Tail, Bracket, Role, Place, Plain, Sequence, Mode, Quoted, Outcome, state, refused, top, step, moved, opens, tail_led, tail_length, is_stray, stray_fault, bracket_fault, fault_of, JsonFault, One}
-use Rattle.json_text.proofs.Reading.{append-none}
+use Rattle.json_text.proofs.CallerLemmas.{append-none}
 use Rattle.json_reader.proofs.Sequences.{Completes, IsChar, char_led, led_char}
 use Rattle.json_reader.proofs.Steps.{run, start, run-append, lead_char, led_high}
 use Rattle.json_reader.proofs.ValueRuns.{tail_closed, begins_runs, runs_begins, begins_less, refused_stays, was_state}

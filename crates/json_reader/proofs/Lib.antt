@@ -15,3 +15,4 @@ mod Drafting
 mod Ready
 mod Written
 mod Copying
+pub mod CallerLemmas

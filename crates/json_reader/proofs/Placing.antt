@@ -7,7 +7,7 @@ use Rattle.std.proofs.Math.ListN.{set}
 use Rattle.std.specs.List.{list_any}
 use Rattle.json_text.specs.Compact.{Member, collapsed}
 use Rattle.json_reader.specs.Places.{cut, entry, entries, mark_of, IsPlaced, AreWithin, Place}
-use Rattle.json_text.proofs.Collapsed.{bytes_eq-true, bytes_eq-same, bytes_eq-flip, bytes_eq-apart, names_of, insert_entry, collapsed-push}
+use Rattle.json_text.proofs.CallerLemmas.{bytes_eq-true, bytes_eq-same, bytes_eq-flip, bytes_eq-apart, names_of, insert_entry, collapsed-push}
 
 -- the place of the first member of this name, counted from a number on
 abbrev pub place_from : ℕ → List ℕ → List Member → Option ℕ

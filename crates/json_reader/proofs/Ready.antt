@@ -13,12 +13,7 @@ use Rattle.json_text.specs.Tree.{Piece, bare, letter, unit, IsPiece, piece_spell
 use Rattle.json_reader.specs.Drafts.{Drafted, fresh, grown, pair_text, pairs_text}
 use Rattle.json_reader.specs.Places.{quoted}
 use Rattle.json_reader.specs.Writing.{Writing, between, deed_at, Can, Done, AreAlike, Ready, Deed, Skip, Keep, Slash, Push}
-use Rattle.json_text.proofs.CompactLaws.{members-utf8}
-use Rattle.json_text.proofs.Contents.{content-first}
-use Rattle.json_text.proofs.Reading.{is_part_of_literal, list_all-each, literal-plain, regroup-last, regroup-next}
-use Rattle.json_text.proofs.Strings.{plain-bare, quoted-bare, plain-quote, plain-slash, hex-plain, pieces-once}
-use Rattle.json_text.proofs.Collapsed.{bytes_eq-true, bytes_eq-same, collapsed-names}
-use Rattle.json_text.proofs.Forms.{quote-Quoted}
+use Rattle.json_text.proofs.CallerLemmas.{members-utf8, content-first, is_part_of_literal, list_all-each, literal-plain, regroup-last, regroup-next, plain-bare, quoted-bare, plain-quote, plain-slash, hex-plain, pieces-once, bytes_eq-true, bytes_eq-same, collapsed-names, quote-Quoted}
 use Rattle.json_reader.proofs.Drafting.{IsRow, row_none, row_more, labelled, whole, closed_so}
 use Rattle.json_reader.specs.declared.staying.Ground.TheVariants as ground
 

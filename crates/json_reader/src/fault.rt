@@ -1,6 +1,6 @@
 //! What is wrong with a text.
 
-use board_io::Piece;
+use board_base::Piece;
 use std::alloc::{AllocError, Global};
 
 /// The first fault of a JSON text, with the offset of its byte.
@@ -16,7 +16,7 @@ pub enum JsonFault {
 
 impl JsonFault {
     ghost use Rattle.std.specs.Prelude.{◌≡◌, IfOk, string_bytes};
-    ghost use Rattle.board_io.specs.Pieces.{line_text};
+    ghost use Rattle.board_base.specs.Pieces.{line_text};
     ghost use Rattle.json_reader.specs.Faults.{json_words};
 
     /// What is told of this fault.

@@ -11,7 +11,7 @@ ghost use Rattle.json_reader.specs.declared.fault.JsonFault.{JsonFault};
 
 use crate::fault::JsonFault;
 use crate::reader::{Reader, Taken};
-use board_io::Stop;
+use board_base::Stop;
 use json_text::{Raw, skip_space};
 use std::alloc::{AllocError, Global};
 use std::marker::Model;

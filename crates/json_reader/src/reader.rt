@@ -12,7 +12,7 @@ use crate::fault::JsonFault;
 use crate::machine::{Machine, Step};
 use crate::staying::Ground;
 use crate::writing::Writer;
-use board_io::Stop;
+use board_base::Stop;
 use json_text::Raw;
 use std::alloc::{AllocError, Global};
 

@@ -7,7 +7,7 @@ ghost use Rattle.json_reader.specs.declared.fault.JsonFault.{JsonFault};
 
 use crate::fault::JsonFault;
 use crate::reader::{Reader, Taken};
-use board_io::Stop;
+use board_base::Stop;
 use json_text::Raw;
 use std::alloc::Global;
 

@@ -8,3 +8,5 @@ pub mod Spans
 pub mod Collapsed
 pub mod CompactLaws
 pub mod Forms
+pub mod FirstLaws
+pub mod CallerLemmas

@@ -2,6 +2,7 @@ pub mod Alike
 pub mod Appending
 pub mod Characters
 pub mod Compact
+pub mod FirstOccurrences
 pub mod Members
 pub mod Parts
 pub mod Spans

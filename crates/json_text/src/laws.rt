@@ -1,11 +1,12 @@
-//! Laws on values and their compact texts, for all bytes. They do nothing when they run.
+//! Laws on values, their compact texts and first occurrences, for all bytes. They do nothing when they run.
 
-ghost use Rattle.std.specs.Prelude.{◌≡◌, ◌≢◌, ◌⊎◌, ◌≤◌, ℕ, List, []};
-ghost use Rattle.std.specs.List.{AllByRecursion};
+ghost use Rattle.std.specs.Prelude.{◌≡◌, ◌≢◌, ◌↔◌, ◌⊎◌, ◌≤◌, ℕ, List, [], ◌∷◌, ◌++◌, Contains, bytes_eq, if◌then◌else◌};
+ghost use Rattle.std.specs.List.{AllByRecursion, list_any, IsDistinct};
 ghost use Rattle.std.specs.Str.{IsUtf8};
 ghost use Rattle.json_text.specs.Alike.{AreAlike};
 ghost use Rattle.json_text.specs.Characters.{quote};
 ghost use Rattle.json_text.specs.Compact.{Member, array_text, compact, object_text};
+ghost use Rattle.json_text.specs.FirstOccurrences.{first_texts};
 ghost use Rattle.json_text.specs.Parts.{AreMembers};
 ghost use Rattle.json_text.specs.Tree.{Tree, spelling, IsGood, depth};
 ghost use Rattle.json_text.specs.Value.{IsCompact, Value, Stands};
@@ -43,4 +44,23 @@ pub fn form_is_decided()
         → ((members : List Member) × AreMembers 127 members × (text ≡ object_text members))
         ⊎ ((members : List Member) → text ≢ object_text members) }
     ensures nesting { (text : List ℕ) (limit : ℕ) → IsCompact 128 text → IsCompact limit text ⊎ (IsCompact limit text → ⊥) }
+{}
+
+/// One text more joins the first occurrences at their end, if it isn't among the texts before.
+pub fn one_more_is_last()
+    ensures none { first_texts [] ≡ [] }
+    ensures one_more { (texts : List (List ℕ)) (text : List ℕ) → first_texts (texts ++ text ∷ [])
+        ≡ (if list_any (bytes_eq text) texts then first_texts texts else first_texts texts ++ text ∷ []) }
+{}
+
+/// The first occurrences are the texts, each once.
+pub fn first_occurrences_are_the_texts()
+    ensures distinct { (texts : List (List ℕ)) → IsDistinct bytes_eq (first_texts texts) }
+    ensures same { (texts : List (List ℕ)) (text : List ℕ)
+        → Contains (first_texts texts) text ↔ Contains texts text }
+{}
+
+/// Texts that are distinct stay as they are.
+pub fn distinct_texts_stay()
+    ensures { (texts : List (List ℕ)) → IsDistinct bytes_eq texts → first_texts texts ≡ texts }
 {}

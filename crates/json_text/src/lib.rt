@@ -2,6 +2,7 @@
 #![tactic(auto)]
 
 mod content;
+mod first;
 pub mod laws;
 mod order;
 mod quote_bytes;
@@ -12,6 +13,7 @@ mod stretch;
 mod text;
 
 pub use content::{content_of, text_at};
+pub use first::first_occurrences;
 pub use quote_bytes::QuoteBytes;
 pub use quotes::{push_quote, push_quoted, whole_or_cut};
 pub use runs::{bare_end, inert_end, quiet_end, run_end};

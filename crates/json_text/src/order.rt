@@ -9,7 +9,7 @@ ghost use Rattle.std.proofs.Common.{refl, ap};
 ghost use Rattle.std.proofs.lemmas.Slice.Eq.{bytes_eq-Decides};
 
 use crate::text::{Raw, Text};
-use board_io::bytes_order;
+use board_base::bytes_order;
 use std::cmp::Ordering;
 use std::hash::{Hash, Hasher};
 

@@ -13,3 +13,4 @@ pub mod Tabled
 pub mod TextLaws
 mod Unlinked
 pub mod UnplacedLaws
+pub mod CallerLemmas

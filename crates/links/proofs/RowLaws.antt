@@ -2,8 +2,8 @@
 use Rattle.std.proofs.Common.{◌≡◌, ℕ, Bool, true, false, ◌&&◌, ◌||◌, List, [], ◌∷◌, ◌++◌, map, Option, Some, None, bytes_eq, refl, ap, ap₂, ◌∙◌}
 use Rattle.std.specs.List.{list_any, AllByRecursion, IsDistinct}
 use Rattle.std.proofs.lemmas.List.Folds.{list_any-append}
-use Rattle.first_texts.specs.FirstOccurrences.{first_texts}
-use Rattle.first_texts.proofs.FirstLaws.{Contains-first_texts, IsDistinct-first_texts}
+use Rattle.json_text.specs.FirstOccurrences.{first_texts}
+use Rattle.json_text.proofs.CallerLemmas.{Contains-first_texts, IsDistinct-first_texts}
 use Rattle.elem.specs.ElementValue.{ElementValue}
 use Rattle.links.specs.declared.rows.LinkRow.{LinkRow}
 use Rattle.links.specs.Names.{is_id, target_of}

@@ -2,7 +2,7 @@
 use Rattle.std.specs.Prelude.{◌≡◌, ℕ, ◌-◌, ◌<◌, ◌≤◌, min, List, [], ◌∷◌, ◌++◌, Bool, true, ◌&&◌, ◌||◌, Option, Some, None, AllPairs, length, map, slice_get, slice_index_or, bytes_eq}
 use Rattle.std.specs.List.{list_any}
 use Rattle.frac_keys.specs.Keys.{bytes_less}
-use Rattle.first_texts.specs.FirstOccurrences.{first_texts}
+use Rattle.json_text.specs.FirstOccurrences.{first_texts}
 use Rattle.elem.specs.ElementValue.{ElementValue}
 use Rattle.links.specs.declared.rows.LinkRow.{LinkRow}
 use Rattle.links.specs.Names.{target_of}

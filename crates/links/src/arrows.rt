@@ -13,7 +13,7 @@ use crate::listing::Listing;
 use crate::names::{Names, ends_of};
 use crate::parts::{bound_of, has_end_at, id_of, is_target};
 use crate::table::{Row, rows_under};
-use board_io::List;
+use board_base::List;
 use elem::{BoundRef, Element, Role};
 use json_text::Text;
 use std::alloc::{AllocError, Global};

@@ -6,7 +6,7 @@ ghost use Rattle.links.specs.Rows.{has_row, same_row, is_for, is_namer, namer_of
 
 use crate::row_places::{ends_of, insert, place_of, take_out_namer};
 use crate::rows::LinkRow;
-use board_io::List;
+use board_base::List;
 use json_text::Text;
 use std::alloc::{AllocError, Global};
 use std::marker::Model;
@@ -90,16 +90,10 @@ impl LinkTable {
     pub fn namers(&self, id: &Text) -> &[Text]
         ensures exact { result.now ≡ map namer_of (filter (is_for id.now) self.now.rows) }
         ensures rising { IsTrue (are_rising result.now) }
+        ensures ordered { AreRowsRising self.now.rows }
     {
         let (start, end) = ends_of(&self.named, id);
         &self.namers[start..end]
-    }
-
-    /// Tells what a table keeps, for contracts: its rows rise. It does nothing else.
-    pub fn tell(&self)
-        ensures { AreRowsRising self.now.rows }
-    {
-        let _ = &self.named;
     }
 }
 

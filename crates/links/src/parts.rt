@@ -5,7 +5,7 @@ ghost use Rattle.std.specs.Option.{option_copied};
 ghost use Rattle.links.specs.Names as names;
 ghost use Rattle.links.specs.Texts as texts;
 
-use board_io::List;
+use board_base::List;
 use elem::{Binding, BoundRef, Element, Kind, Role};
 use json_text::Text;
 

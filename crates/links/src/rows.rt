@@ -2,17 +2,16 @@
 
 ghost use Rattle.std.specs.Prelude.{◌≡◌, ℕ, List as Items, ◌++◌, map, IfOk, OnOk, option_copied};
 ghost use Rattle.std.specs.List.{list_any, IsDistinct};
-ghost use Rattle.first_texts.specs.FirstOccurrences as first;
+ghost use Rattle.json_text.specs.FirstOccurrences as first;
 ghost use Rattle.links.specs.Rows as words;
 ghost use Rattle.links.specs.Rows.{id_there, is_for, same_row};
 ghost use Rattle.links.specs.Steps.{names_id};
 
 use crate::names::ends_of;
 use crate::parts::{container_of, frame_of, id_of};
-use board_io::List;
+use board_base::List;
 use elem::Element;
-use first_texts::first_occurrences;
-use json_text::Text;
+use json_text::{Text, first_occurrences};
 use std::alloc::{AllocError, Global};
 
 /// That an element names another one, by their ids.

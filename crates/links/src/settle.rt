@@ -11,7 +11,7 @@ ghost use Rattle.links.specs.Texts.{settled_texts};
 
 use crate::arrows::Links;
 use crate::names::Names;
-use board_io::{List, change_each};
+use board_base::{List, change_each};
 use elem::Element;
 use std::alloc::{AllocError, Global};
 

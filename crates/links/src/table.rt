@@ -5,7 +5,7 @@ ghost use Rattle.std.specs.List.Sorted.{IsSortedBy};
 ghost use Rattle.std.specs.Ordering.{is_lt};
 ghost use Rattle.links.specs.Tables.{is_under, row_less};
 
-use board_io::bytes_order;
+use board_base::bytes_order;
 use elem::Element;
 use json_text::Text;
 use std::alloc::AllocError;

@@ -6,7 +6,7 @@ use Rattle.std.proofs.lemmas.Option.{same_Some}
 use Rattle.elem.specs.ElementValue.{ElementValue}
 use Rattle.elem.specs.Order.{has_id, HaveDistinctIds}
 use Rattle.elem_store.specs.Updates.{element_of, ids_of}
-use Rattle.elem_store.proofs.Ids.{same_id, of_same, of_itself}
+use Rattle.elem_store.proofs.CallerLemmas.{same_id, of_same, of_itself}
 
 pub none_apart : (id : List ℕ) (es : List ElementValue) → AllByRecursion (λ other. bytes_eq id other ≡ false) (ids_of es) → element_of es id ≡ None
 none_apart id [] apart = refl

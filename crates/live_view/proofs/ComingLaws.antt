@@ -18,25 +18,19 @@ use Rattle.elem.specs.ElementValue.{ElementValue}
 use Rattle.elem_store.specs.Places.{IsAt, IsGapFor}
 use Rattle.elem.specs.Order.{has_id, HaveDistinctIds}
 use Rattle.elem_store.specs.Updates.{element_of, ids_of, is_taken}
-use Rattle.elem_store.proofs.Edits.{HasTaken-insert, element-gap, is_taken-gap, element-at}
-use Rattle.elem_store.proofs.Ids.{same_id, of_same, of_itself}
-use Rattle.elem_store.proofs.Lists.{find-Some, filter-Contains, Contains-head}
-use Rattle.elem_store.proofs.Rising.{member}
-use Rattle.links.proofs.Among.{distinct-among}
-use Rattle.links.proofs.Members.{map-map}
+use Rattle.elem_store.proofs.CallerLemmas.{HasTaken-insert, element-gap, is_taken-gap, element-at, same_id, of_same, of_itself, find-Some, filter-Contains, Contains-head, member}
+use Rattle.links.proofs.CallerLemmas.{distinct-among, map-map}
 use Rattle.view.specs.Settled.{settled, unsettled}
-use Rattle.view.specs.Shown.{is_live, as_stored, in_scene_order, index_of, without_index, placed, shown, HaveKeysOrNone, AreInSceneOrder, IsView}
+use Rattle.index_repair.specs.Keyed.{index_of, HaveKeysOrNone}
+use Rattle.view.specs.Shown.{is_live, as_stored, in_scene_order, without_index, placed, shown, AreInSceneOrder, IsView}
 use Rattle.view.specs.Steps.{settled_but_for_key}
-use Rattle.view.proofs.InOrder.{AllPairs-in_order, HaveDistinctIds-permuted}
-use Rattle.view.proofs.SceneOrder.{scene_order, IsPermutation-in_scene_order}
-use Rattle.view.proofs.SettledLaws.{distinct-settled, unsettled-settled}
-use Rattle.view.proofs.ShownLaws.{HaveDistinctIds-rising, shown-is, shown-keys}
+use Rattle.view.proofs.CallerLemmas.{AllPairs-in_order, HaveDistinctIds-permuted, scene_order, IsPermutation-in_scene_order, distinct-settled, unsettled-settled, HaveDistinctIds-rising, shown-is, shown-keys}
 use Rattle.live_view.specs.declared.places.Put.{Put}
-use Rattle.live_view.specs.Coming.{all_stored, part_with, part_of_ids, rekeyed, AreAround, AreOthers, ArePutBeside, HasGone, IsComing, IsGoing, IsPlaceFor}
+use Rattle.live_view.specs.inner.Coming.{all_stored, part_with, part_of_ids, rekeyed, AreAround, AreOthers, ArePutBeside, HasGone, IsComing, IsGoing, IsPlaceFor}
 use Rattle.live_view.specs.Putting.{puts_of, IsInPlace, IsWithin, all_put}
 use Rattle.live_view.specs.Reached.{is_among, AreStartedBy, IsStartedBy, HaveReached, HaveStepped}
 use Rattle.live_view.specs.Replacing.{element_after, HaveReplaced}
-use Rattle.live_view.specs.Runs.{part_of, stored_keys, AreKeysWith, AreKeysWithout}
+use Rattle.live_view.specs.inner.Runs.{part_of, stored_keys, AreKeysWith, AreKeysWithout}
 use Rattle.live_view.proofs.NearLaws.{IsShownNear, IsView-near, ids-settled, indices-placed, keyless, kept-order}
 use Rattle.live_view.proofs.OrderedLaws.{order-with, stored-order, map-insert, map-remove, insert-moved, others_than, others-apart, others-removed, others-rise}
 use Rattle.live_view.proofs.Picked.{distinct-after, picked-in_order}

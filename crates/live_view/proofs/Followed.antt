@@ -5,13 +5,11 @@ use Rattle.frac_keys.specs.Rising.{ends_rise, rise_between, are_rising}
 use Rattle.elem.specs.ElementValue.{ElementValue}
 use Rattle.elem.specs.Order.{has_id}
 use Rattle.elem_store.specs.Updates.{element_of, ids_of, is_taken, HasTaken}
-use Rattle.elem_store.proofs.Ids.{same_id, of_itself}
-use Rattle.elem_store.proofs.Lists.{find-Some}
-use Rattle.elem_store.proofs.Rising.{none_above}
+use Rattle.elem_store.proofs.CallerLemmas.{same_id, of_itself, find-Some, none_above}
 use Rattle.undoing.specs.Carrying.{with_put, taken}
 use Rattle.live_view.specs.Changes.{AreSameButAt, HasRedrawn}
 use Rattle.view.specs.Shown.{is_live, live_elements}
-use Rattle.view.proofs.ShownLaws.{live_elements-rise}
+use Rattle.view.proofs.CallerLemmas.{live_elements-rise}
 use Rattle.live_view.proofs.Redrawn.{all-redrawn}
 
 -- an element, if it is live

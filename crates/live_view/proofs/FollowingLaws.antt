@@ -12,15 +12,14 @@ use Rattle.frac_keys.specs.Rising.{are_rising}
 use Rattle.elem.specs.ElementValue.{ElementValue}
 use Rattle.elem.specs.Order.{has_id, HaveDistinctIds}
 use Rattle.elem_store.specs.Updates.{element_of, ids_of, is_newer, is_taken, HasTaken}
-use Rattle.elem_store.proofs.Ids.{same_id, of_same}
-use Rattle.elem_store.proofs.Lists.{find-Some}
-use Rattle.elem_store.proofs.Rising as rows
+use Rattle.elem_store.proofs.CallerLemmas.{same_id, of_same, find-Some}
+use Rattle.elem_store.proofs.CallerLemmas as rows
 use Rattle.undoing.specs.Carrying.{taken, taken_all}
-use Rattle.undoing.proofs.TakenLaws.{taken-has, taken_all-rising}
+use Rattle.undoing.proofs.CallerLemmas.{taken-has, taken_all-rising}
 use Rattle.view.specs.Shown.{is_live, live_elements}
-use Rattle.view.proofs.ShownLaws.{HaveDistinctIds-rising, live_elements-rise}
+use Rattle.view.proofs.CallerLemmas.{HaveDistinctIds-rising, live_elements-rise}
 use Rattle.live_view.specs.Changes.{AreSameButAt}
-use Rattle.live_view.specs.Following.{followed, ArePicked, AreTaken, HaveFollowed}
+use Rattle.live_view.specs.inner.Following.{followed, ArePicked, AreTaken, HaveFollowed}
 use Rattle.live_view.specs.Reached.{is_among}
 use Rattle.live_view.specs.Replacing.{element_after, HaveReplaced}
 use Rattle.live_view.proofs.Followed.{if_live, live-is, element-live}

@@ -5,10 +5,10 @@ use Rattle.std.proofs.lemmas.List.{length-map, drop_all}
 use Rattle.std.proofs.lemmas.Option.{same_Some}
 use Rattle.frac_keys.specs.Rising.{is_key_or_none}
 use Rattle.index_repair.specs.Repair.{are_below}
-use Rattle.index_repair.proofs.RepairLaws.{all-below}
+use Rattle.index_repair.proofs.CallerLemmas.{all-below}
 use Rattle.elem.specs.ElementValue.{ElementValue}
 use Rattle.view.specs.Shown.{as_stored}
-use Rattle.live_view.specs.Runs.{first_of, last_of, key_rises, rises_at, is_cut, part_of, stored_keys}
+use Rattle.live_view.specs.inner.Runs.{first_of, last_of, key_rises, rises_at, is_cut, part_of, stored_keys}
 use Rattle.live_view.proofs.RekeyedLaws.{cut-first}
 
 pub stored_index_is : (live drawn : List ElementValue) (i : ℕ) (s : ElementValue) → i < length drawn → s ≡ get_or drawn i s → slice_get (stored_keys live drawn) i ≡ Some (as_stored live s).index

@@ -1,6 +1,5 @@
 pub mod ByIds
 pub mod ComingLaws
-pub mod ContentLaws
 pub mod CopyLaws
 pub mod Followed
 pub mod FollowingLaws
@@ -22,3 +21,4 @@ pub mod Searched
 pub mod ShownAfter
 pub mod Stepping
 pub mod Untouched
+pub mod CallerLemmas

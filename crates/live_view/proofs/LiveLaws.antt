@@ -10,7 +10,7 @@ use Rattle.links.specs.declared.rows.LinkRow.{LinkRow}
 use Rattle.links.specs.Rows.{has_row}
 use Rattle.links.specs.Steps.{names_id}
 use Rattle.view.specs.Shown.{is_live}
-use Rattle.view.proofs.ShownLaws.{HaveDistinctIds-rising}
+use Rattle.view.proofs.CallerLemmas.{HaveDistinctIds-rising}
 use Rattle.live_view.specs.declared.places.Put.{Put}
 use Rattle.live_view.specs.Changes.{redrawn_as}
 use Rattle.live_view.specs.Putting.{puts_of, IsInPlace, all_put}

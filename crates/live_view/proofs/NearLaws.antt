@@ -11,17 +11,13 @@ use Rattle.index_repair.specs.Repair.{repaired}
 use Rattle.elem.specs.ElementValue.{ElementValue}
 use Rattle.elem.specs.Order.{has_id, HaveDistinctIds}
 use Rattle.elem_store.specs.Updates.{element_of, ids_of}
-use Rattle.elem_store.proofs.Lists.{find-Some, filter-Contains, Contains-filter}
-use Rattle.elem_store.proofs.Rising.{member}
-use Rattle.links.proofs.Members.{map-map}
+use Rattle.elem_store.proofs.CallerLemmas.{find-Some, filter-Contains, Contains-filter, member}
+use Rattle.links.proofs.CallerLemmas.{map-map}
 use Rattle.view.specs.Settled.{settled, unsettled}
-use Rattle.view.specs.Shown.{is_live, comes_before, in_scene_order, index_of, without_index, with_index, keyed, placed, shown, HaveKeysOrNone, IsView}
+use Rattle.index_repair.specs.Keyed.{index_of, with_index, keyed, HaveKeysOrNone}
+use Rattle.view.specs.Shown.{is_live, comes_before, in_scene_order, without_index, placed, shown, IsView}
 use Rattle.view.specs.Steps.{settled_of, settled_but_for_key, HasAllNear}
-use Rattle.view.proofs.InOrder.{AllPairs-in_order, HaveDistinctIds-permuted}
-use Rattle.view.proofs.SceneOrder.{scene_order, IsPermutation-in_scene_order}
-use Rattle.view.proofs.SettledLaws.{distinct-settled, unsettled-settled}
-use Rattle.view.proofs.ShownLaws.{HaveDistinctIds-rising, placed-distinct}
-use Rattle.view.proofs.StepLaws.{settled-alone, settled-keys, settled-unchanged}
+use Rattle.view.proofs.CallerLemmas.{AllPairs-in_order, HaveDistinctIds-permuted, scene_order, IsPermutation-in_scene_order, distinct-settled, unsettled-settled, HaveDistinctIds-rising, placed-distinct, settled-alone, settled-keys, settled-unchanged}
 use Rattle.live_view.specs.Reached.{is_among, AreStartedBy, HaveReached}
 use Rattle.live_view.proofs.ByIds.{same-by_ids}
 use Rattle.live_view.proofs.Picked.{picked-in_order, same-in_order}

@@ -10,21 +10,16 @@ use Rattle.std.proofs.lemmas.Bool.{cases_Bool, cond_both, cond-true, cond-false,
 use Rattle.std.proofs.lemmas.Slice.Eq.{bytes_eq-Decides}
 use Rattle.frac_keys.specs.Keys.{bytes_less}
 use Rattle.frac_keys.specs.Rising.{ends_rise, rise_between, are_rising}
-use Rattle.frac_keys.proofs.KeysLaws.{rise_between-ends}
+use Rattle.frac_keys.proofs.CallerLemmas.{rise_between-ends}
 use Rattle.std.proofs.lemmas.List.Elements.{Contains-get_or, filter-append}
 use Rattle.std.proofs.lemmas.List.Sorted.{IsPermutation-refl, IsPermutation-sym, IsPermutation-trans, IsPermutation-middle, IsPermutation-cons, Contains-permutation}
 use Rattle.elem.specs.ElementValue.{ElementValue}
 use Rattle.elem.specs.Order.{has_id, HaveDistinctIds}
 use Rattle.elem_store.specs.Updates.{element_of, ids_of}
-use Rattle.elem_store.proofs.Ids.{same_id, of_itself}
-use Rattle.elem_store.proofs.Lists.{Contains-head, Contains-cons}
-use Rattle.elem_store.proofs.Rising.{member}
+use Rattle.elem_store.proofs.CallerLemmas.{same_id, of_itself, Contains-head, Contains-cons, member}
 use Rattle.view.specs.Shown.{as_stored, comes_before, with_element, in_scene_order, AreInSceneOrder, IsView}
-use Rattle.view.proofs.InOrder.{in_order-permuted, HaveDistinctIds-permuted}
-use Rattle.view.proofs.OrderLaws.{place_cmp, place_cmp-total, comes_before-cmp}
-use Rattle.view.proofs.SceneOrder.{scene_order, IsPermutation-in_scene_order}
-use Rattle.view.proofs.ShownLaws.{shown-is, HaveDistinctIds-rising}
-use Rattle.live_view.specs.Coming.{all_stored, IsPlaceFor}
+use Rattle.view.proofs.CallerLemmas.{in_order-permuted, HaveDistinctIds-permuted, place_cmp, place_cmp-total, comes_before-cmp, scene_order, IsPermutation-in_scene_order, shown-is, HaveDistinctIds-rising}
+use Rattle.live_view.specs.inner.Coming.{all_stored, IsPlaceFor}
 
 -- ---- before, and behind
 less-from : (o : Ordering) → is_lt o ≡ true → o ≡ Less

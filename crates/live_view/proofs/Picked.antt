@@ -17,14 +17,10 @@ use Rattle.frac_keys.specs.Rising.{are_rising}
 use Rattle.elem.specs.ElementValue.{ElementValue}
 use Rattle.elem.specs.Order.{has_id, HaveDistinctIds}
 use Rattle.elem_store.specs.Updates.{element_of, ids_of}
-use Rattle.elem_store.proofs.Ids.{same_id}
-use Rattle.elem_store.proofs.Lists.{Contains-head, Contains-cons, Contains-cases, Contains-filter, find-Some}
-use Rattle.elem_store.proofs.Rising.{member}
-use Rattle.view.specs.Shown.{comes_before, place_less, in_scene_order, index_of, AreInSceneOrder}
-use Rattle.view.proofs.InOrder.{AllPairs-in_order, HaveDistinctIds-permuted, same_sorted}
-use Rattle.view.proofs.OrderLaws.{place_cmp, place_cmp-total, comes_before-cmp}
-use Rattle.view.proofs.SceneOrder.{scene_order, IsPermutation-in_scene_order}
-use Rattle.view.proofs.ShownLaws.{HaveDistinctIds-rising}
+use Rattle.elem_store.proofs.CallerLemmas.{same_id, Contains-head, Contains-cons, Contains-cases, Contains-filter, find-Some, member}
+use Rattle.index_repair.specs.Keyed.{index_of}
+use Rattle.view.specs.Shown.{comes_before, place_less, in_scene_order, AreInSceneOrder}
+use Rattle.view.proofs.CallerLemmas.{AllPairs-in_order, HaveDistinctIds-permuted, same_sorted, place_cmp, place_cmp-total, comes_before-cmp, scene_order, IsPermutation-in_scene_order, HaveDistinctIds-rising}
 use Rattle.std.specs.Option.{option_or}
 use Rattle.live_view.specs.Reached.{is_among}
 use Rattle.live_view.specs.Replacing.{element_after}

@@ -8,15 +8,14 @@ use Rattle.std.specs.Cmp.Lexicographic.{nat_list_eq_equiv}
 use Rattle.std.specs.List.{list_all}
 use Rattle.frac_keys.specs.Rising.{is_key_or_none}
 use Rattle.index_repair.specs.Repair.{repaired}
-use Rattle.index_repair.proofs.RepairLaws.{repaired-law}
+use Rattle.index_repair.proofs.CallerLemmas.{repaired-law}
 use Rattle.elem.specs.ElementValue.{ElementValue}
 use Rattle.elem_store.specs.Updates.{ids_of}
 use Rattle.view.specs.Settled.{unsettled, settled}
 use Rattle.elem.specs.Order.{HaveDistinctIds}
-use Rattle.view.specs.Shown.{in_scene_order, index_of, keyed, placed, shown, bare, without_index, HaveKeysOrNone}
-use Rattle.view.proofs.SceneOrder.{IsPermutation-in_scene_order}
-use Rattle.view.proofs.SettledLaws.{map-less, unsettled-settled}
-use Rattle.view.proofs.ShownLaws.{shown-is}
+use Rattle.index_repair.specs.Keyed.{index_of, keyed, HaveKeysOrNone}
+use Rattle.view.specs.Shown.{in_scene_order, placed, shown, bare, without_index}
+use Rattle.view.proofs.CallerLemmas.{IsPermutation-in_scene_order, map-less, unsettled-settled, shown-is}
 
 pub shown-distinct : (live : List ElementValue) → HaveDistinctIds live → HaveKeysOrNone live → HaveDistinctIds (shown live)
 shown-distinct live apart h =

@@ -10,11 +10,11 @@ use Rattle.std.proofs.lemmas.Slice.Eq.{bytes_eq-Decides}
 use Rattle.elem.specs.ElementValue.{ElementValue}
 use Rattle.elem.specs.Order.{has_id, HaveDistinctIds}
 use Rattle.elem_store.specs.Updates.{element_of, ids_of}
-use Rattle.elem_store.proofs.Ids.{same_id}
-use Rattle.elem_store.proofs.Lists.{Contains-head}
+use Rattle.elem_store.proofs.CallerLemmas.{same_id, Contains-head}
 use Rattle.std.proofs.lemmas.List.{take_more}
 use Rattle.std.proofs.lemmas.List.Elements.{All-append, All-cons, All-contains, All-nil, Contains-append_right, filter-append}
-use Rattle.view.specs.Shown.{index_of, without_index}
+use Rattle.index_repair.specs.Keyed.{index_of}
+use Rattle.view.specs.Shown.{without_index}
 use Rattle.live_view.specs.declared.places.Put.{Put}
 use Rattle.live_view.proofs.ByIds.{none_apart}
 use Rattle.live_view.specs.Putting.{puts_of, IsWithin, IsInPlace, all_put}

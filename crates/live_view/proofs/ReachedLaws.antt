@@ -7,7 +7,7 @@ use Rattle.std.proofs.lemmas.Slice.Eq.{bytes_eq-Decides}
 use Rattle.elem.specs.ElementValue.{ElementValue}
 use Rattle.elem.specs.Order.{has_id}
 use Rattle.links.specs.Steps.{names_id, is_one_step, is_within, near}
-use Rattle.elem_store.proofs.Lists.{Contains-head, Contains-cons}
+use Rattle.elem_store.proofs.CallerLemmas.{Contains-head, Contains-cons}
 use Rattle.view.specs.Shown.{without_index}
 use Rattle.view.specs.Steps.{HasAllNear}
 use Rattle.live_view.specs.Reached.{is_among, HaveStepped, HaveReached, IsStartedBy, AreStartedBy}

@@ -12,17 +12,14 @@ use Rattle.frac_keys.specs.Rising.{are_rising, is_key_or_none}
 use Rattle.elem.specs.ElementValue.{ElementValue}
 use Rattle.elem.specs.Order.{has_id, HaveDistinctIds}
 use Rattle.elem_store.specs.Updates.{element_of, ids_of}
-use Rattle.elem_store.proofs.Ids.{same_id}
-use Rattle.elem_store.proofs.Lists.{find-Some}
-use Rattle.elem_store.proofs.Rising as rows
-use Rattle.elem_store.proofs.Rising.{member}
-use Rattle.links.proofs.Members.{map-map}
+use Rattle.elem_store.proofs.CallerLemmas.{same_id, find-Some, member}
+use Rattle.elem_store.proofs.CallerLemmas as rows
+use Rattle.links.proofs.CallerLemmas.{map-map}
 use Rattle.live_view.specs.Changes.{outline, redrawn_as, HasRedrawn, IsRedrawn}
-use Rattle.view.specs.Shown.{is_live, in_scene_order, index_of, shown, bare, HaveKeysOrNone, IsView}
-use Rattle.view.proofs.ShownLaws.{HaveDistinctIds-rising}
+use Rattle.index_repair.specs.Keyed.{index_of, HaveKeysOrNone}
+use Rattle.view.specs.Shown.{is_live, in_scene_order, shown, bare, IsView}
+use Rattle.view.proofs.CallerLemmas.{HaveDistinctIds-rising, IsPermutation-in_scene_order, shown-redrawn}
 use Rattle.live_view.proofs.PlacedLaws.{bare-shown, shown-distinct}
-use Rattle.view.proofs.SceneOrder.{IsPermutation-in_scene_order}
-use Rattle.live_view.proofs.ContentLaws.{shown-redrawn}
 
 -- ---- an element with the content of another one
 module _ (new : ElementValue) where

@@ -15,9 +15,10 @@ use Rattle.frac_keys.specs.Rising.{is_key_or_none}
 use Rattle.index_repair.specs.Repair.{repaired, repaired_below, are_below, NeverFall, is_up_to}
 use Rattle.elem.specs.ElementValue.{ElementValue}
 use Rattle.elem_store.specs.Updates.{ids_of}
-use Rattle.view.specs.Shown.{index_of, without_index, with_index, comes_before, place_less, AreInSceneOrder}
-use Rattle.live_view.specs.Coming.{rekeyed}
-use Rattle.live_view.specs.Runs.{first_of, last_of, key_rises, is_cut, rises_at, part_of, IsRunStart, AreRepaired, AreKeysWith, AreKeysWithout}
+use Rattle.index_repair.specs.Keyed.{index_of, with_index}
+use Rattle.view.specs.Shown.{without_index, comes_before, place_less, AreInSceneOrder}
+use Rattle.live_view.specs.inner.Coming.{rekeyed}
+use Rattle.live_view.specs.inner.Runs.{first_of, last_of, key_rises, is_cut, rises_at, part_of, IsRunStart, AreRepaired, AreKeysWith, AreKeysWithout}
 use Rattle.live_view.proofs.OrderedLaws.{map-insert, map-remove}
 use Rattle.live_view.proofs.RunLaws.{rises-below, cut-without, cut-count, part-exchanged, none-repaired, split-all, all-without}
 

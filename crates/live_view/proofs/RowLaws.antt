@@ -9,14 +9,12 @@ use Rattle.std.proofs.lemmas.List.Folds.{list_any-append}
 use Rattle.elem.specs.ElementValue.{ElementValue}
 use Rattle.elem.specs.Order.{has_id, HaveDistinctIds}
 use Rattle.elem_store.specs.Updates.{element_of, ids_of}
-use Rattle.elem_store.proofs.Ids.{same_id}
-use Rattle.elem_store.proofs.Lists.{find-Some, is_some-find}
+use Rattle.elem_store.proofs.CallerLemmas.{same_id, find-Some, is_some-find}
 use Rattle.links.specs.declared.rows.LinkRow.{LinkRow}
 use Rattle.links.specs.Rows.{has_row, same_row, is_for, row_of, rows_of}
 use Rattle.links.specs.Steps.{names_id}
-use Rattle.links.proofs.RowLaws.{rows_of-named}
-use Rattle.links.proofs.Tabled.{list_any-map}
-use Rattle.live_view.specs.Coming.{HasGone}
+use Rattle.links.proofs.CallerLemmas.{rows_of-named, list_any-map}
+use Rattle.live_view.specs.inner.Coming.{HasGone}
 use Rattle.live_view.specs.Reached.{is_among, HaveRowsOf}
 use Rattle.live_view.specs.Replacing.{names_as, AreRowsOfAll, HaveReplaced}
 

@@ -10,9 +10,8 @@ use Rattle.frac_keys.specs.Keys.{is_key, bytes_less}
 use Rattle.frac_keys.specs.Rising.{is_key_or_none}
 use Rattle.frac_keys.specs.Between.{keys_between}
 use Rattle.index_repair.specs.Repair.{repaired, repaired_below, filled, kept, are_below, is_below, is_up_to, NeverFall}
-use Rattle.index_repair.proofs.RepairLaws.{none_between, repaired_below-law, all-below}
-use Rattle.index_repair.proofs.Parts.{repaired-cut}
-use Rattle.live_view.specs.Runs.{first_of, last_of, key_rises, is_cut}
+use Rattle.index_repair.proofs.CallerLemmas.{none_between, repaired_below-law, all-below, repaired-cut}
+use Rattle.live_view.specs.inner.Runs.{first_of, last_of, key_rises, is_cut}
 
 pub none-repaired : (above : Option (List ℕ)) → repaired_below above [] ≡ []
 unfolding repaired_below

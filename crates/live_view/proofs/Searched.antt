@@ -14,7 +14,7 @@ use Rattle.frac_keys.specs.Rising.{are_rising}
 use Rattle.elem.specs.ElementValue.{ElementValue}
 use Rattle.elem_store.specs.Updates.{ids_of}
 use Rattle.elem_store.specs.Places.{IsAt, IsGapFor}
-use Rattle.elem_store.proofs.Rising.{earlier_less, less-less}
+use Rattle.elem_store.proofs.CallerLemmas.{earlier_less, less-less}
 
 -- how the id of an element compares with an id
 abbrev pub order_to : List ℕ → ElementValue → Ordering

@@ -13,19 +13,13 @@ use Rattle.index_repair.specs.Repair.{repaired}
 use Rattle.elem.specs.ElementValue.{ElementValue}
 use Rattle.elem.specs.Order.{has_id, HaveDistinctIds}
 use Rattle.elem_store.specs.Updates.{element_of, ids_of}
-use Rattle.elem_store.proofs.Ids.{same_id, of_itself}
-use Rattle.elem_store.proofs.Lists.{find-Some, Contains-head, Contains-cons, Contains-cases}
-use Rattle.elem_store.proofs.Rising.{member}
-use Rattle.links.proofs.Among.{distinct-among}
-use Rattle.links.proofs.Members.{map-map}
+use Rattle.elem_store.proofs.CallerLemmas.{same_id, of_itself, find-Some, Contains-head, Contains-cons, Contains-cases, member}
+use Rattle.links.proofs.CallerLemmas.{distinct-among, map-map}
 use Rattle.view.specs.Settled.{settled, unsettled}
-use Rattle.view.specs.Shown.{is_live, in_scene_order, index_of, without_index, with_index, keyed, placed, shown, as_stored, HaveKeysOrNone, IsView}
+use Rattle.index_repair.specs.Keyed.{index_of, with_index, keyed, HaveKeysOrNone}
+use Rattle.view.specs.Shown.{is_live, in_scene_order, without_index, placed, shown, as_stored, IsView}
 use Rattle.view.specs.Steps.{settled_of, settled_but_for_key, HasAllNear}
-use Rattle.view.proofs.InOrder.{AllPairs-in_order, HaveDistinctIds-permuted, in_order-only}
-use Rattle.view.proofs.SceneOrder.{scene_order, IsPermutation-in_scene_order}
-use Rattle.view.proofs.SettledLaws.{distinct-settled, unsettled-settled}
-use Rattle.view.proofs.ShownLaws.{HaveDistinctIds-rising, placed-distinct, shown-is}
-use Rattle.view.proofs.StepLaws.{settled-alone, settled-keys, settled-unchanged}
+use Rattle.view.proofs.CallerLemmas.{AllPairs-in_order, HaveDistinctIds-permuted, in_order-only, scene_order, IsPermutation-in_scene_order, distinct-settled, unsettled-settled, HaveDistinctIds-rising, placed-distinct, shown-is, settled-alone, settled-keys, settled-unchanged}
 use Rattle.live_view.specs.declared.places.Put.{Put}
 use Rattle.live_view.specs.Putting.{puts_of, IsInPlace, all_put}
 use Rattle.live_view.specs.Reached.{is_among, AreStartedBy, IsStartedBy}

@@ -10,11 +10,11 @@ use Rattle.std.proofs.lemmas.Slice.Eq.{bytes_eq-Decides}
 use Rattle.frac_keys.specs.Rising.{are_rising}
 use Rattle.elem.specs.ElementValue.{ElementValue}
 use Rattle.elem_store.specs.Updates.{element_of, ids_of}
-use Rattle.elem_store.proofs.Rising.{member}
+use Rattle.elem_store.proofs.CallerLemmas.{member}
 use Rattle.links.specs.declared.rows.LinkRow.{LinkRow}
 use Rattle.links.specs.Rows.{is_for, namer_of}
 use Rattle.links.specs.Steps.{names_id}
-use Rattle.links.proofs.Tabled.{list_any-map, list_any-filter}
+use Rattle.links.proofs.CallerLemmas.{list_any-map, list_any-filter}
 use Rattle.live_view.specs.Reached.{is_among, HaveStepped, HaveRowsOf, IsStartedBy, AreStartedBy}
 
 -- ---- from one id

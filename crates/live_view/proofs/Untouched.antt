@@ -7,9 +7,10 @@ use Rattle.elem.specs.ElementValue.{ElementValue}
 use Rattle.elem.specs.Order.{has_id, HaveDistinctIds}
 use Rattle.elem_store.specs.Updates.{element_of, ids_of}
 use Rattle.view.specs.Settled.{settled, unsettled}
-use Rattle.view.specs.Shown.{index_of, without_index}
+use Rattle.index_repair.specs.Keyed.{index_of}
+use Rattle.view.specs.Shown.{without_index}
 use Rattle.view.specs.Steps.{settled_but_for_key}
-use Rattle.view.proofs.SettledLaws.{unsettled-settled}
+use Rattle.view.proofs.CallerLemmas.{unsettled-settled}
 use Rattle.live_view.proofs.ByIds.{same-by_ids}
 
 pub element-map : (f : ElementValue → ElementValue) → ((e : ElementValue) → (f e).id ≡ e.id) → (es : List ElementValue) (id : List ℕ) → element_of (map f es) id ≡ option_map f (element_of es id)

@@ -8,19 +8,20 @@ ghost use Rattle.links.specs.Rows.{has_row};
 ghost use Rattle.live_view.specs.Reached.{HaveRowsOf};
 ghost use Rattle.view.specs.Settled.{settled};
 ghost use Rattle.elem.specs.Order.{HaveDistinctIds};
-ghost use Rattle.view.specs.Shown.{is_live, live_elements, placed, shown, HaveKeysOrNone};
+ghost use Rattle.index_repair.specs.Keyed.{HaveKeysOrNone};
+ghost use Rattle.view.specs.Shown.{is_live, live_elements, placed, shown};
 
 use crate::kept::Kept;
 use crate::order;
 use crate::replacing::rows_of_all;
-use board_io::List;
+use board_base::List;
 use elem::Element;
 use elem_store::Store;
 use frames_groups::{settle_frames, settle_groups};
+use index_repair::with_repaired_keys;
 use links::{LinkRow, LinkTable, settle_arrows, settle_texts};
 use std::alloc::{AllocError, Global};
 use std::cmp::Ordering;
-use view::with_repaired_keys;
 
 /// What is kept of a store. Fails only for want of memory.
 pub(crate) fn kept_of(alloc: Global, store: &Store) -> Result<Kept, AllocError>

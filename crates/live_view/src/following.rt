@@ -3,10 +3,10 @@
 ghost use Rattle.std.specs.Prelude.{◌≡◌, ℕ, List as Items, ◌++◌, true, is_some, option_copied, IfOk, IfSome, OnOk};
 ghost use Rattle.frac_keys.specs.Rising.{are_rising};
 ghost use Rattle.elem_store.specs.Updates.{element_of, ids_of, AreStored, HasTaken};
-ghost use Rattle.live_view.specs.Following.{ArePicked, AreTaken};
+ghost use Rattle.live_view.specs.inner.Following.{ArePicked, AreTaken};
 ghost use Rattle.live_view.specs.Replacing.{element_after};
 
-use board_io::List;
+use board_base::List;
 use elem::Element;
 use elem_store::Store;
 use json_text::Text;

@@ -4,7 +4,8 @@ ghost use Rattle.std.specs.Prelude.{◌≡◌, List as Items, [], IfOk, map, IsP
 ghost use Rattle.elem.specs.ElementValue.{ElementValue};
 ghost use Rattle.elem_store.specs.Updates.{ids_of};
 ghost use Rattle.view.specs.Settled.{AreSettled};
-ghost use Rattle.view.specs.Shown.{live_elements, shown, bare, HaveRisingKeys, IsSceneOrder};
+ghost use Rattle.index_repair.specs.Keyed.{HaveRisingKeys};
+ghost use Rattle.view.specs.Shown.{live_elements, shown, bare, IsSceneOrder};
 
 use crate::drawing::{elements_copied, table_of};
 use elem::Element;

@@ -5,9 +5,10 @@ ghost use Rattle.frac_keys.specs.Rising.{are_rising};
 ghost use Rattle.elem.specs.ElementValue.{ElementValue};
 ghost use Rattle.elem_store.specs.Updates.{ids_of};
 ghost use Rattle.view.specs.Settled.{AreSettled};
-ghost use Rattle.view.specs.Shown.{live_elements, shown, bare, HaveRisingKeys, IsSceneOrder};
+ghost use Rattle.index_repair.specs.Keyed.{HaveRisingKeys};
+ghost use Rattle.view.specs.Shown.{live_elements, shown, bare, IsSceneOrder};
 ghost use Rattle.live_view.specs.Changes.{HasRedrawn};
-ghost use Rattle.live_view.specs.Following.{HaveFollowed};
+ghost use Rattle.live_view.specs.inner.Following.{HaveFollowed};
 
 use crate::kept::Kept;
 use elem::Element;

@@ -9,7 +9,7 @@ ghost use Rattle.live_view.specs.Reached.{is_among, AreIds, AreStartedBy, HaveRe
 
 use crate::ids::Ids;
 use crate::places::element_of;
-use board_io::List;
+use board_base::List;
 use elem::Element;
 use json_text::Text;
 use links::{LinkRow, LinkTable, rows_of};

@@ -6,7 +6,7 @@ ghost use Rattle.live_view.specs.Changes.{outline, redrawn_as, HasRedrawn, IsRed
 
 use crate::kept::Kept;
 use crate::places::{place_of, place_shown, replace};
-use board_io::List;
+use board_base::List;
 use elem::{Element, same};
 use std::alloc::{AllocError, Global};
 use std::mem;

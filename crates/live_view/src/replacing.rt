@@ -21,7 +21,7 @@ use crate::kept::Kept;
 use crate::order;
 use crate::places::{Put, element_of, place_of, place_shown, put_all};
 use crate::reach::{reached, started_by};
-use board_io::List;
+use board_base::List;
 use elem::Element;
 use frac_keys::Key;
 use json_text::Text;

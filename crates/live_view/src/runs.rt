@@ -5,11 +5,11 @@ ghost use Rattle.frac_keys.specs.Rising.{are_rising};
 ghost use Rattle.elem_store.specs.Updates.{ids_of};
 ghost use Rattle.index_repair.specs.Repair as repair;
 ghost use Rattle.view.specs.Shown.{as_stored};
-ghost use Rattle.live_view.specs.Runs as runs;
-ghost use Rattle.live_view.specs.Runs.{first_of, key_rises, part_of, stored_keys, AreKeysWith, AreKeysWithout, AreRepaired, IsRunStart};
+ghost use Rattle.live_view.specs.inner.Runs as runs;
+ghost use Rattle.live_view.specs.inner.Runs.{first_of, key_rises, part_of, stored_keys, AreKeysWith, AreKeysWithout, AreRepaired, IsRunStart};
 
 use crate::places::element_of;
-use board_io::List;
+use board_base::List;
 use elem::Element;
 use frac_keys::Key;
 use index_repair::repair_part;

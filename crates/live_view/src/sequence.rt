@@ -3,7 +3,7 @@
 ghost use Rattle.std.specs.Prelude.{◌≡◌, [], ◌∷◌, Ok, true, false, OnErr};
 ghost use Rattle.frac_keys.specs.Rising.{are_rising};
 ghost use Rattle.elem_store.specs.Updates.{ids_of};
-ghost use Rattle.live_view.specs.Following.{HaveFollowed};
+ghost use Rattle.live_view.specs.inner.Following.{HaveFollowed};
 
 use crate::coming::alone;
 use crate::drawing::are_live;

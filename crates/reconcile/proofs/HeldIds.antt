@@ -8,7 +8,7 @@ use Rattle.std.proofs.lemmas.Slice.Eq.{bytes_eq-Decides}
 use Rattle.json_text.specs.Compact.{Member as Pair}
 use Rattle.json_text.specs.Parts.{names_of}
 use Rattle.scene_json.specs.Named.{value_at}
-use Rattle.scene_json.proofs.Lookups.{rising_same}
+use Rattle.scene_json.proofs.CallerLemmas.{rising_same}
 use Rattle.reconcile.specs.Ids.{is_held, AreStrictlySorted, HasAdded, HasDropped}
 
 -- a look-up by the order is one by the bytes

@@ -1,1 +1,2 @@
 pub mod HeldIds
+pub mod CallerLemmas

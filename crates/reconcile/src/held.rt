@@ -57,15 +57,9 @@ impl Held {
 
     /// Whether the id is held. It takes no memory.
     pub fn has(&self, id: &Text) -> bool
-        ensures { result ≡ is_held self.now id.now }
+        ensures exact { result ≡ is_held self.now id.now }
+        ensures ordered { AreStrictlySorted self.now }
     {
         self.ids.contains(id)
-    }
-
-    /// Tells what held ids keep, for contracts: they rise. It does nothing else.
-    pub fn tell(&self)
-        ensures { AreStrictlySorted self.now }
-    {
-        let _ = &self.ids;
     }
 }

@@ -6,7 +6,7 @@ ghost use Rattle.elem_store.specs.Updates.{AreStored};
 ghost use Rattle.reconcile.specs.Ids.{free_elements};
 
 use crate::held::Held;
-use board_io::List;
+use board_base::List;
 use elem::Element;
 use elem_store::Store;
 use std::alloc::{AllocError, Global};

@@ -7,15 +7,12 @@ use Rattle.frac_keys.specs.Rising.{are_rising}
 use Rattle.elem.specs.ElementValue.{ElementValue}
 use Rattle.elem.specs.Order.{unstamped, has_id}
 use Rattle.elem_store.specs.Updates.{element_of, ids_of}
-use Rattle.elem_store.proofs.Lists.{Contains-filter, filter-Contains, find-Some}
-use Rattle.elem_store.proofs.Rising.{member}
-use Rattle.delta.proofs.Placing.{same_members}
-use Rattle.delta.proofs.RisingIds.{Contains-map, Contains-to_map}
+use Rattle.elem_store.proofs.CallerLemmas.{Contains-filter, filter-Contains, find-Some, member}
+use Rattle.delta.proofs.CallerLemmas.{same_members, Contains-map, Contains-to_map}
 use Rattle.view.specs.Shown.{is_live, live_elements, shown}
-use Rattle.view.proofs.ShownLaws.{live_elements-rise}
-use Rattle.view.proofs.StampLaws.{stamps-play_no_part}
+use Rattle.view.proofs.CallerLemmas.{live_elements-rise, stamps-play_no_part}
 use Rattle.replica.specs.Back.{AgreesWith}
-use Rattle.replica.proofs.Leading.{SameAs, bare_of, some-bare, none-bare}
+use Rattle.replica.proofs.Leading.{SameAs, bare_of, some-bare}
 
 pub agrees-itself : (elements : List ElementValue) → AgreesWith elements elements
 agrees-itself elements = record {
@@ -32,16 +29,6 @@ agrees-same old now others agrees same = record {
   others = λ id e none some.
       let own = some-bare (element_of now id) (unstamped e) (same id ∙ ap (option_map unstamped) some) in
       sym (ap (λ (x : ElementValue). x.deleted) own.2) ∙ agrees.others id own.0 none own.1;
-}
-
--- also where the old ones are the same but for stamps
-pub agrees-from : (old others now : List ElementValue) → SameAs old others → AgreesWith old now → AgreesWith others now
-agrees-from old others now same agrees = record {
-  each = λ id e h.
-      let was = some-bare (element_of old id) (unstamped e) (same id ∙ ap (option_map unstamped) h) in
-      let own = agrees.each id was.0 was.1 in
-      (own.0, own.1, own.2 ∙ was.2);
-  others = λ id e none some. agrees.others id e (none-bare (element_of old id) (same id ∙ ap (option_map unstamped) none)) some;
 }
 
 -- ---- lists that are the same but for stamps

@@ -1,22 +1,21 @@
 -- Undoing a change of an element that is as after it, but for the stamp, makes the element before it, but for the stamp.
 use Rattle.std.proofs.Common.{◌≡◌, ℕ, Bool, true, false, cond, List, ◌++◌, filter, Option, Some, None, bytes_eq, if◌then◌else◌, inl, inr, refl, sym, ap, ◌∙◌}
 use Rattle.std.proofs.lemmas.Bool.{cases_Bool, false≢true}
-use Rattle.json_text.proofs.Collapsed.{bytes_eq-true, bytes_eq-same}
+use Rattle.json_text.proofs.CallerLemmas.{bytes_eq-true, bytes_eq-same}
 use Rattle.elem.specs.ElementValue.{ElementValue}
 use Rattle.elem.specs.Order.{unstamped}
 use Rattle.elem.specs.Listings.{same_listing_entry-exact, same_listing_entry-same, same_listing_entry}
 use Rattle.delta.specs.Headers.{scalar_of}
-use Rattle.first_texts.specs.FirstOccurrences.{first_occurrences}
+use Rattle.json_text.specs.FirstOccurrences.{first_occurrences}
 use Rattle.delta.specs.Joined.{are_same, joined, stays, is_gained}
 use Rattle.delta.specs.Pairs.{Pair, IsChanged}
 use Rattle.delta.specs.Parts.{scalars_same}
 use Rattle.delta.specs.Undone.{undone_scalar, undone_list}
-use Rattle.delta.proofs.JoinLaws.{are_same-exact, are_same-same}
-use Rattle.delta.proofs.PartLaws.{same-unstamped}
+use Rattle.delta.proofs.CallerLemmas.{are_same-exact, are_same-same, same-unstamped}
 use Rattle.undoing.specs.Differing.{same_kind}
 use Rattle.undoing.specs.Entries.{IsOfElements}
 use Rattle.undoing.specs.Undoing.{undone_in, undone}
-use Rattle.undoing.proofs.UndoneLaws.{undone-undoes, undone-element}
+use Rattle.undoing.proofs.CallerLemmas.{undone-undoes, undone-element}
 
 -- ---- the scalars and lists of after become those of before
 scalars-exact : (a b : Option (List ℕ)) → scalars_same a b ≡ true → a ≡ b

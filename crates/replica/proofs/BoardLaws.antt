@@ -6,20 +6,19 @@ use Rattle.elem.specs.ElementValue.{ElementValue}
 use Rattle.elem.specs.Facts.{IsElement}
 use Rattle.elem.specs.Said.{HasValidTexts, AreElements}
 use Rattle.elem_store.specs.Updates.{element_of, ids_of, takings}
-use Rattle.elem_store.proofs.Lists.{filter-Contains, Contains-cases}
+use Rattle.elem_store.proofs.CallerLemmas.{filter-Contains, Contains-cases}
 use Rattle.delta.specs.Delta.{Delta}
 use Rattle.delta.specs.Pairs.{Pair, pair_with, pairs_from, EntryStandsFor}
-use Rattle.delta.proofs.RisingIds.{Contains-map}
+use Rattle.delta.proofs.CallerLemmas.{Contains-map}
 use Rattle.view.specs.Shown.{live_elements}
-use Rattle.effects.specs.declared.command.Capture.{Capture}
-use Rattle.effects.specs.declared.command.Capture.TheVariants.{Now, Later, Never}
+use Rattle.board_commands.specs.declared.command.Capture.{Capture}
+use Rattle.board_commands.specs.declared.command.Capture.TheVariants.{Now, Later, Never}
 use Rattle.history.specs.Pairs.{IsEntryOf, StackStandsFor, with_pairs, pairs_left}
 use Rattle.history.specs.Stacks.{Stacks, HasStoredIds, HaveStoredIds, noted, with_entry, redo_left}
-use Rattle.history.proofs.StackPairs.{noted-stands, left-stands}
+use Rattle.history.proofs.CallerLemmas.{noted-stands, left-stands}
 use Rattle.undoing.specs.Carrying.{taken_all, carried_all}
 use Rattle.undoing.specs.Differing.{is_changed, pending}
-use Rattle.undoing.proofs.DifferingLaws.{pending-entry}
-use Rattle.undoing.proofs.TakenLaws.{taken_all-elements, taken_all-rising, carried_all-elements, carried_all-rising}
+use Rattle.undoing.proofs.CallerLemmas.{pending-entry, taken_all-elements, taken_all-rising, carried_all-elements, carried_all-rising}
 use Rattle.replica.specs.Boards.{Told, ToldStandsFor, IsSound, IsTold, HasTakenAll, HasCarriedAll, HasCaptured, HasStoredGiven}
 use Rattle.replica.specs.State as state
 use Rattle.replica.specs.State.{State}

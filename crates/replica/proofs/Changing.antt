@@ -8,21 +8,19 @@ use Rattle.elem.specs.ElementValue.{ElementValue}
 use Rattle.elem.specs.Order.{unstamped, has_id}
 use Rattle.elem.specs.Said.{AreElements}
 use Rattle.elem_store.specs.Updates.{element_of, ids_of}
-use Rattle.elem_store.proofs.Ids.{same_id}
-use Rattle.elem_store.proofs.Lists.{Contains-head, Contains-filter, filter-Contains, find-Some}
-use Rattle.elem_store.proofs.Rising.{member}
+use Rattle.elem_store.proofs.CallerLemmas.{same_id, Contains-head, Contains-filter, filter-Contains, find-Some, member}
 use Rattle.delta.specs.Pairs.{Pair, pair_with, pairs_from, IsChanged}
 use Rattle.delta.specs.Parts.{counted}
-use Rattle.delta.proofs.RisingIds.{Contains-map, Contains-to_map}
+use Rattle.delta.proofs.CallerLemmas.{Contains-map, Contains-to_map}
 use Rattle.undoing.specs.Carrying.{taken_all}
 use Rattle.undoing.specs.Differing.{is_changed, pending}
 use Rattle.undoing.specs.Entries.{IsEntry}
-use Rattle.undoing.proofs.DifferingLaws.{changed-is, changed-false, found-is, pairs-elements, pending-entry}
-use Rattle.undoing.proofs.TakenLaws.{taken_all-elements, taken_all-rising}
+use Rattle.undoing.proofs.CallerLemmas.{changed-is, changed-false, found-is, pairs-elements, pending-entry, taken_all-elements, taken_all-rising}
 use Rattle.replica.specs.Back.{AgreesWith, Alters, IsStoredChange, changed}
 use Rattle.replica.specs.Sound.{AreStoredAlike}
 use Rattle.replica.specs.State.{State, noted, stored_with}
-use Rattle.replica.proofs.Leading.{SameAs, bare_of, some-bare, none-bare, Meets, Leads, IsApart, IsVisible}
+use Rattle.replica.proofs.Agreeing.{agrees-itself}
+use Rattle.replica.proofs.Leading.{bare_of, some-bare, Meets, Leads, IsApart, IsVisible}
 use Rattle.replica.proofs.TakenAt.{taken-at, taken-else}
 
 -- ---- the pairs between a snapshot and what is stored
@@ -100,6 +98,13 @@ module _ (snap stored : List ElementValue) (are : AreElements snap) (are' : AreE
             let was = some-bare (element_of n id) (unstamped e) (leads.others id apart ∙ ap (option_map unstamped) some) in
             sym (ap (λ (x : ElementValue). x.deleted) was.2) ∙ agrees.others id was.0 h was.1
 
+  -- where nothing is pending, what is stored agrees with the snapshot
+  pub none-agrees : pending snap stored ≡ [] → AgreesWith snap stored
+  none-agrees none = leads-before stored stored (agrees-itself stored) (record {
+    each = λ pair c. absurd (omega (arith, (subst (λ ps. Contains ps pair) none c).1));
+    others = λ id apart. refl;
+  })
+
 -- ---- a change
 first-of : (xs : List ElementValue) → (xs ≡ [] → ⊥) → (x : ElementValue) × Contains xs x
 first-of [] h = absurd (h refl)
@@ -110,7 +115,7 @@ noted-some [] pair s c = absurd (omega (arith, c.1))
 noted-some (first ∷ entry) pair s c = refl
 
 module _ (s : State) (given : List ElementValue) (change : IsStoredChange s.stored given) (rise : are_rising (ids_of s.stored) ≡ true)
-    (are : AreElements s.stored) (are' : AreElements s.snapshot) (same : SameAs s.snapshot s.stored) where
+    (are : AreElements s.stored) (are' : AreElements s.snapshot) (same : AgreesWith s.snapshot s.stored) where
   new-at : (e : ElementValue) → Contains given e → element_of (taken_all given s.stored) e.id ≡ Some e
   new-at e c = taken-at s.stored given e rise change.ordered change.taken c
 
@@ -122,7 +127,7 @@ module _ (s : State) (given : List ElementValue) (change : IsStoredChange s.stor
 
   -- what is stored of the id of an element of the snapshot
   stored-was : (id : List ℕ) (b : ElementValue) → element_of s.snapshot id ≡ Some b → (o : ElementValue) × (element_of s.stored id ≡ Some o) × (unstamped o ≡ unstamped b)
-  stored-was id b h = some-bare (element_of s.stored id) (unstamped b) (sym (same id) ∙ ap (option_map unstamped) h)
+  stored-was id b h = same.each id b h
 
   pub new-alike : AreStoredAlike s.snapshot (taken_all given s.stored)
   new-alike id b h = go (element_of given id) refl
@@ -145,12 +150,55 @@ module _ (s : State) (given : List ElementValue) (change : IsStoredChange s.stor
   pub new-entry : IsEntry (pending s.snapshot (taken_all given s.stored))
   new-entry = pending-entry s.snapshot (taken_all given s.stored) are' new-elements new-rising
 
+  -- a given element that the snapshot lacks is live, and one that was stored there stays
+  new-live : (e : ElementValue) → Contains given e → element_of s.snapshot e.id ≡ None → (o : Option ElementValue) → element_of s.stored e.id ≡ o → e.deleted ≡ false
+  new-live e c none None h = subst (λ o. Alters o e) h (change.alters e c)
+  new-live e c none (Some old) h =
+      let own : Alters (Some old) e = subst (λ o. Alters o e) h (change.alters e c) in
+      absurd (false≢true (sym own.0 ∙ same.others e.id old none h))
+
+  dead-stays : (id : List ℕ) (e : ElementValue) → element_of s.snapshot id ≡ None → element_of s.stored id ≡ Some e → element_of (taken_all given s.stored) id ≡ Some e
+  dead-stays id e none some = go (element_of given id) refl
+    where
+      go : (o : Option ElementValue) → element_of given id ≡ o → element_of (taken_all given s.stored) id ≡ Some e
+      go None h =
+          taken-else s.stored given id rise (λ x c is. none-some x (sym h ∙ ap (element_of given) (sym is) ∙ member None None given x change.ordered c)) ∙ some
+      go (Some new) h =
+          let found = find-Some (has_id id) given new h in
+          let own : Alters (Some e) new = subst (λ o. Alters o new) (ap (element_of s.stored) (sym (same_id id new found.1)) ∙ some) (change.alters new found.0) in
+          absurd (false≢true (sym own.0 ∙ same.others id e none some))
+
+  -- undoing the change leads back to what was stored
+  pub leads-stored : (n m : List ElementValue) → AgreesWith (taken_all given s.stored) n → Leads (pending s.snapshot (taken_all given s.stored)) n m → AgreesWith s.stored m
+  leads-stored n m agrees leads = record {
+    each = λ id e h. back id e h (element_of s.snapshot id) refl;
+    others = λ id e none some. before.others id e (absent id none (element_of s.snapshot id) refl) some;
+  }
+    where
+      before : AgreesWith s.snapshot m
+      before = leads-before s.snapshot (taken_all given s.stored) are' new-elements new-rising new-alike n m agrees leads
+
+      back : (id : List ℕ) (e : ElementValue) → element_of s.stored id ≡ Some e → (o : Option ElementValue) → element_of s.snapshot id ≡ o
+          → (other : ElementValue) × (element_of m id ≡ Some other) × (unstamped other ≡ unstamped e)
+      back id e h (Some b) there =
+          let was = stored-was id b there in
+          let own = before.each id b there in
+          (own.0, own.1, own.2 ∙ sym was.2 ∙ ap unstamped (same_Some was.0 e (sym was.1 ∙ h)))
+      back id e h None there =
+          some-bare (element_of m id) (unstamped e)
+          (led-at s.snapshot (taken_all given s.stored) are' new-elements new-rising new-alike n m agrees leads id e (dead-stays id e there h)
+          ∙ ap (λ o. Some (unstamped (counted o e))) there
+          ∙ ap (λ d. Some (unstamped (record e { deleted = d }))) (sym (same.others id e there h)))
+
+      absent : (id : List ℕ) → element_of s.stored id ≡ None → (o : Option ElementValue) → element_of s.snapshot id ≡ o → element_of s.snapshot id ≡ None
+      absent id none None there = there
+      absent id none (Some b) there = let was = stored-was id b there in absurd (none-some was.0 (sym none ∙ was.1))
+
   -- the pair of a given element is changed, and one of it is live
   given-changed : (e : ElementValue) → Contains given e → (o : Option ElementValue) → element_of s.snapshot e.id ≡ o
       → IsChanged (pair_with o e) × (((pair_with o e).before.deleted ≡ false) ⊎ (e.deleted ≡ false))
   given-changed e c None h =
-      let none = none-bare (element_of s.stored e.id) (sym (same e.id) ∙ ap (option_map unstamped) h) in
-      let own : Alters None e = subst (λ o. Alters o e) none (change.alters e c) in (
+      let own = new-live e c h (element_of s.stored e.id) refl in (
         record { id = refl; kind = refl; differ = λ alike. false≢true (sym own ∙ sym (ap (λ (x : ElementValue). x.deleted) alike)) },
         inr own,
       )

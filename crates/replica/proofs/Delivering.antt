@@ -4,10 +4,10 @@ use Rattle.std.proofs.lemmas.Bool.{cases_Bool, cond-true, cond-false}
 use Rattle.frac_keys.specs.Rising.{are_rising}
 use Rattle.elem.specs.ElementValue.{ElementValue}
 use Rattle.elem_store.specs.Updates.{Taking, stored_of, ids_of, is_newer, is_taken, takings, AreStored}
-use Rattle.elem_store.proofs.StoreLaws.{AreStored-itself, AreStored-push}
+use Rattle.elem_store.proofs.CallerLemmas.{AreStored-itself, AreStored-push}
 use Rattle.reconcile.specs.Ids.{free_elements}
 use Rattle.undoing.specs.Carrying.{with_put, taken, taken_all, carried_all}
-use Rattle.undoing.proofs.TakenLaws.{taken-has}
+use Rattle.undoing.proofs.CallerLemmas.{taken-has}
 use Rattle.replica.specs.State.{State, after_delivery}
 
 some-not_none : {X : Type 0} (x : X) (xs ys : List X) → ys ≡ x ∷ xs → ys ≡ [] → ⊥

@@ -3,23 +3,21 @@ use Rattle.std.proofs.Common.{◌≡◌, ℕ, Bool, true, false, not, ◌||◌, 
 use Rattle.std.specs.Option.{option_map, option_map_or}
 use Rattle.std.proofs.lemmas.Bool.{true_from_ne_false, both_ways, and_from, or_left, or_right}
 use Rattle.std.proofs.lemmas.Option.{none-some, same_Some}
-use Rattle.json_text.proofs.Collapsed.{bytes_eq-true, bytes_eq-same}
+use Rattle.json_text.proofs.CallerLemmas.{bytes_eq-true, bytes_eq-same}
 use Rattle.frac_keys.specs.Rising.{are_rising}
 use Rattle.elem.specs.ElementValue.{ElementValue}
 use Rattle.elem.specs.Order.{unstamped}
 use Rattle.elem.specs.Said.{AreElements}
 use Rattle.elem_store.specs.Updates.{element_of, ids_of}
-use Rattle.elem_store.proofs.Lists.{find-Some, is_some-find, list_any-false}
+use Rattle.elem_store.proofs.CallerLemmas.{find-Some, is_some-find, list_any-false}
 use Rattle.delta.specs.Pairs.{Pair, pair_with}
-use Rattle.delta.proofs.RisingIds.{Contains-map, Contains-to_map}
+use Rattle.delta.proofs.CallerLemmas.{Contains-map, Contains-to_map}
 use Rattle.undoing.specs.Carrying.{taken_all}
 use Rattle.undoing.specs.Differing.{differ}
 use Rattle.undoing.specs.Entries.{IsEntry, IsGiven}
 use Rattle.undoing.specs.Steps.{Reverted, reverted, is_visible, is_seen, stamped, given, made}
 use Rattle.undoing.specs.Undoing.{undone}
-use Rattle.undoing.proofs.DifferingLaws.{differ-false, found-is}
-use Rattle.undoing.proofs.StepLaws.{given-each, given-all, given-taken, given-rise}
-use Rattle.undoing.proofs.UndoneLaws.{undone-stamp, undone-element}
+use Rattle.undoing.proofs.CallerLemmas.{differ-false, found-is, given-each, given-all, given-taken, given-rise, undone-stamp, undone-element}
 use Rattle.replica.proofs.Backward.{undone-back}
 use Rattle.replica.proofs.TakenAt.{taken-at, taken-else}
 
@@ -35,10 +33,6 @@ SameAs a b = (id : List ℕ) → bare_of a id ≡ bare_of b id
 pub some-bare : (o : Option ElementValue) (u : ElementValue) → option_map unstamped o ≡ Some u → (e : ElementValue) × (o ≡ Some e) × (unstamped e ≡ u)
 some-bare None u h = absurd (none-some u h)
 some-bare (Some e) u h = (e, refl, same_Some (unstamped e) u h)
-
-pub none-bare : (o : Option ElementValue) → option_map unstamped o ≡ None → o ≡ None
-none-bare None h = refl
-none-bare (Some e) h = absurd (none-some (unstamped e) (sym h))
 
 -- ---- where an entry leads
 -- The element of the pair's id is as after it, but for the stamp.

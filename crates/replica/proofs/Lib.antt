@@ -13,3 +13,4 @@ pub mod Changing
 pub mod Ways
 pub mod Moving
 pub mod Delivering
+pub mod CallerLemmas

@@ -1,28 +1,26 @@
 -- States between changes, undos and redos: what was stored after each change, and the ways to it.
-use Rattle.std.proofs.Common.{◌≡◌, ◌≤◌, ◌<◌, ℕ, zero, suc, ◌+◌, ◌-◌, Bool, true, false, ◌&&◌, List, [], ◌∷◌, length, take, filter, Some, None, Ok, Contains, refl, sym, ap, ◌∙◌, subst, arith}
-use Rattle.std.specs.Option.{option_map}
+use Rattle.std.proofs.Common.{◌≡◌, ◌≤◌, ◌<◌, ℕ, zero, suc, ◌+◌, ◌-◌, Bool, true, false, ◌&&◌, List, [], ◌∷◌, length, take, filter, Option, Some, None, Ok, Contains, refl, sym, ap, ◌∙◌, subst, arith}
 use Rattle.std.proofs.lemmas.Bool.{cond-false}
+use Rattle.std.proofs.lemmas.Option.{same_Some}
 use Rattle.std.proofs.lemmas.List.{take_all}
 use Rattle.frac_keys.specs.Rising.{are_rising}
 use Rattle.elem.specs.ElementValue.{ElementValue}
 use Rattle.elem.specs.Order.{unstamped}
 use Rattle.elem.specs.Said.{AreElements}
 use Rattle.elem_store.specs.Updates.{element_of, ids_of}
-use Rattle.elem_store.proofs.Lists.{Contains-head, Contains-cons}
-use Rattle.elem_store.proofs.Rising.{member}
+use Rattle.elem_store.proofs.CallerLemmas.{Contains-head, Contains-cons, member}
 use Rattle.delta.specs.Pairs.{Pair, pair_with, pairs_from}
-use Rattle.delta.proofs.RisingIds.{Contains-map}
+use Rattle.delta.specs.Parts.{counted}
+use Rattle.delta.proofs.CallerLemmas.{Contains-map}
 use Rattle.undoing.specs.Carrying.{taken_all}
 use Rattle.undoing.specs.Differing.{same_kind, differ, is_changed, pending}
 use Rattle.undoing.specs.Steps.{step}
-use Rattle.undoing.proofs.DifferingLaws.{differ-same}
-use Rattle.undoing.proofs.TakenLaws.{taken_all-rising}
-use Rattle.replica.specs.Back.{AgreesWith, IsAs, IsCaptured, IsStoredChange, changed, changed_all, AreChanges, Call, IsDone, undone_all, redone_all, AreUndos, AreRedos}
+use Rattle.undoing.proofs.CallerLemmas.{differ-same, taken_all-rising}
+use Rattle.replica.specs.Back.{AgreesWith, IsAs, HasNothingPending, IsCaptured, IsStoredChange, changed, changed_all, AreChanges, Call, IsDone, undone_all, redone_all, AreUndos, AreRedos}
 use Rattle.replica.specs.Sound.{IsSoundState}
 use Rattle.replica.specs.State.{State, noted, stored_with, undo_on, redo_on, after_undo_of, after_redo_of, after_undo, after_redo}
-use Rattle.replica.proofs.Agreeing.{agrees-itself, agrees-from, same-bare, looks-same}
-use Rattle.replica.proofs.Changing.{pending-meets, leads-before, new-elements, new-rising, new-alike, new-entry, new-visible, changed-state}
-use Rattle.replica.proofs.Leading.{SameAs, some-bare}
+use Rattle.replica.proofs.Agreeing.{agrees-itself, agrees-same, same-bare, looks-same}
+use Rattle.replica.proofs.Changing.{pending-meets, none-agrees, leads-stored, new-elements, new-rising, new-alike, new-entry, new-visible, changed-state}
 use Rattle.replica.proofs.Ways.{IsWay, way-stepped, way-found}
 
 -- ---- where nothing is pending, a capture leaves the stacks
@@ -35,12 +33,21 @@ and-false : (b c : Bool) → c ≡ false → (b && c) ≡ false
 and-false true c h = h
 and-false false c h = refl
 
-pending-none : (snapshot stored : List ElementValue) → are_rising (ids_of stored) ≡ true → SameAs snapshot stored → pending snapshot stored ≡ []
-pending-none snapshot stored rise same = filter-none is_changed (pairs_from (element_of snapshot) stored) (λ pair c.
+pending-none : (snapshot stored : List ElementValue) → are_rising (ids_of stored) ≡ true → AgreesWith snapshot stored → pending snapshot stored ≡ []
+pending-none snapshot stored rise agrees = filter-none is_changed (pairs_from (element_of snapshot) stored) (λ pair c.
     let of = Contains-map (λ (e : ElementValue). pair_with (element_of snapshot e.id) e) stored pair c in
-    let was = some-bare (element_of snapshot of.0.id) (unstamped of.0) (same of.0.id ∙ ap (option_map unstamped) (member None None stored of.0 rise of.1)) in
-    let is : record { before = was.0; after = of.0 } ≡ pair = sym (ap (λ o. pair_with o of.0) was.1) ∙ of.2 in
-    subst (λ p. is_changed p ≡ false) is (and-false (same_kind was.0.kind of.0.kind) (differ was.0 of.0) (differ-same was.0 of.0 was.2)))
+    let was : ElementValue = counted (element_of snapshot of.0.id) of.0 in
+    subst (λ p. is_changed p ≡ false) of.2
+    (and-false (same_kind was.kind of.0.kind) (differ was of.0) (differ-same was of.0 (same of.0 (member None None stored of.0 rise of.1) (element_of snapshot of.0.id) refl))))
+  where
+    same : (e : ElementValue) → element_of stored e.id ≡ Some e → (o : Option ElementValue) → element_of snapshot e.id ≡ o → unstamped (counted o e) ≡ unstamped e
+    same e there None h = ap (λ d. unstamped (record e { deleted = d })) (sym (agrees.others e.id e h there))
+    same e there (Some b) h = let own = agrees.each e.id b h in sym own.2 ∙ ap unstamped (same_Some own.0 e (sym own.1 ∙ there))
+
+-- where all is captured nothing is pending
+pub captured-none : (s : State) → are_rising (ids_of s.stored) ≡ true → IsCaptured s → HasNothingPending s
+captured-none s rise still =
+    pending-none s.snapshot s.stored rise (agrees-same s.snapshot s.snapshot s.stored (agrees-itself s.snapshot) (same-bare s.snapshot s.stored still))
 
 -- ---- what was stored after each change, before and behind one of them
 abbrev pub earlier : (ℕ → List ElementValue) → ℕ → List (List ElementValue)
@@ -55,7 +62,7 @@ later stored_at (suc k) i = stored_at (suc i) ∷ later stored_at k (suc i)
 pub record IsAt (stored_at : ℕ → List ElementValue) (i k : ℕ) (s : State) : Type 0 where
   pub elements : AreElements s.stored
   pub rise : are_rising (ids_of s.stored) ≡ true
-  pub same : SameAs s.snapshot s.stored
+  pub still : AgreesWith s.snapshot s.stored
   pub agrees : AgreesWith (stored_at i) s.stored
   pub on : IsWay (earlier stored_at i) s.stored s.undo
   pub back : IsWay (later stored_at k i) s.stored s.redo
@@ -65,7 +72,7 @@ module _ (stored_at : ℕ → List ElementValue) where
   module _ (i k : ℕ) (s : State) (call : Call) where
     undone-one : IsAt stored_at (suc i) k s → IsDone call (undo_on call.time call.nonce s) → IsAt stored_at i (suc k) (after_undo call.time call.nonce s)
     undone-one at done =
-        let none = pending-none s.snapshot s.stored at.rise at.same in
+        let none = pending-none s.snapshot s.stored at.rise at.still in
         let found : step s.stored call.time call.nonce s.undo s.redo ≡ Some (Ok done.turn) =
         ap (λ e. step s.stored call.time call.nonce (noted e s).undo (noted e s).redo) (sym none) ∙ done.is in
         let own = way-stepped (stored_at i) (stored_at (suc i)) (earlier stored_at i) (later stored_at k (suc i)) s.stored call.time call.nonce
@@ -73,7 +80,7 @@ module _ (stored_at : ℕ → List ElementValue) where
         subst (IsAt stored_at i (suc k)) (sym (ap (λ o. after_undo_of o s) done.is)) (record {
           elements = own.elements;
           rise = own.rise;
-          same = λ id. refl;
+          still = agrees-itself (taken_all done.turn.given s.stored);
           agrees = own.agrees;
           on = own.on;
           back = own.back;
@@ -81,7 +88,7 @@ module _ (stored_at : ℕ → List ElementValue) where
 
     redone-one : IsAt stored_at i (suc k) s → IsDone call (redo_on call.time call.nonce s) → IsAt stored_at (suc i) k (after_redo call.time call.nonce s)
     redone-one at done =
-        let none = pending-none s.snapshot s.stored at.rise at.same in
+        let none = pending-none s.snapshot s.stored at.rise at.still in
         let found : step s.stored call.time call.nonce s.redo s.undo ≡ Some (Ok done.turn) =
         ap (λ e. step s.stored call.time call.nonce (noted e s).redo (noted e s).undo) (sym none) ∙ done.is in
         let own = way-stepped (stored_at (suc i)) (stored_at i) (later stored_at k (suc i)) (earlier stored_at i) s.stored call.time call.nonce
@@ -89,7 +96,7 @@ module _ (stored_at : ℕ → List ElementValue) where
         subst (IsAt stored_at (suc i) k) (sym (ap (λ o. after_redo_of o s) done.is)) (record {
           elements = own.elements;
           rise = own.rise;
-          same = λ id. refl;
+          still = agrees-itself (taken_all done.turn.given s.stored);
           agrees = own.agrees;
           on = own.back;
           back = own.on;
@@ -99,12 +106,12 @@ module _ (stored_at : ℕ → List ElementValue) where
   undo-found : (i k : ℕ) (s : State) (time nonce : ℕ) → IsAt stored_at (suc i) k s → undo_on time nonce s ≡ None → ⊥
   undo-found i k s time nonce at none =
       way-found (stored_at i) (earlier stored_at i) s.stored at.elements s.undo s.redo at.on time nonce
-      (ap (λ e. step s.stored time nonce (noted e s).undo (noted e s).redo) (sym (pending-none s.snapshot s.stored at.rise at.same)) ∙ none)
+      (ap (λ e. step s.stored time nonce (noted e s).undo (noted e s).redo) (sym (pending-none s.snapshot s.stored at.rise at.still)) ∙ none)
 
   redo-found : (i k : ℕ) (s : State) (time nonce : ℕ) → IsAt stored_at i (suc k) s → redo_on time nonce s ≡ None → ⊥
   redo-found i k s time nonce at none =
       way-found (stored_at (suc i)) (later stored_at k (suc i)) s.stored at.elements s.redo s.undo at.back time nonce
-      (ap (λ e. step s.stored time nonce (noted e s).redo (noted e s).undo) (sym (pending-none s.snapshot s.stored at.rise at.same)) ∙ none)
+      (ap (λ e. step s.stored time nonce (noted e s).redo (noted e s).undo) (sym (pending-none s.snapshot s.stored at.rise at.still)) ∙ none)
 
   -- ---- successive ones
   undone-more : (undos : List Call) (n i k : ℕ) (s : State) → length undos + i ≡ n → IsAt stored_at n k s → AreUndos undos s → IsAt stored_at i (length undos + k) (undone_all undos s)
@@ -137,26 +144,26 @@ module _ (stored_at : ℕ → List ElementValue) where
     pub elements : AreElements s.stored
     pub rise : are_rising (ids_of s.stored) ≡ true
     pub before : AreElements s.snapshot
-    pub same : SameAs s.snapshot s.stored
+    pub still : AgreesWith s.snapshot s.stored
     pub on : (now : List ElementValue) → AgreesWith s.stored now → IsWay (earlier stored_at i) now s.undo
 
   changed-ready : (i : ℕ) (s : State) (given : List ElementValue) → s.stored ≡ stored_at i → IsReady i s → IsStoredChange s.stored given → IsReady (suc i) (changed given s)
   changed-ready i s given here ready change =
       let news : List ElementValue = taken_all given s.stored in
-      let are = new-elements s given change ready.rise ready.elements ready.before ready.same in
-      let rise = new-rising s given change ready.rise ready.elements ready.before ready.same in
-      let alike = new-alike s given change ready.rise ready.elements ready.before ready.same in
-      subst (IsReady (suc i)) (sym (changed-state s given change ready.rise ready.elements ready.before ready.same)) (record {
+      let are = new-elements s given change ready.rise ready.elements ready.before ready.still in
+      let rise = new-rising s given change ready.rise ready.elements ready.before ready.still in
+      let alike = new-alike s given change ready.rise ready.elements ready.before ready.still in
+      subst (IsReady (suc i)) (sym (changed-state s given change ready.rise ready.elements ready.before ready.still)) (record {
         elements = are;
         rise = rise;
         before = are;
-        same = λ id. refl;
+        still = agrees-itself news;
         on = λ now agrees. (
-          new-entry s given change ready.rise ready.elements ready.before ready.same,
-          new-visible s given change ready.rise ready.elements ready.before ready.same,
+          new-entry s given change ready.rise ready.elements ready.before ready.still,
+          new-visible s given change ready.rise ready.elements ready.before ready.still,
           pending-meets s.snapshot news ready.before are rise alike now agrees,
           λ next leads.
-              let was : AgreesWith s.stored next = agrees-from s.snapshot s.stored next ready.same (leads-before s.snapshot news ready.before are rise alike now next agrees leads) in
+              let was : AgreesWith s.stored next = leads-stored s given change ready.rise ready.elements ready.before ready.still now next agrees leads in
               (subst (λ old. AgreesWith old next) here was, ready.on next was),
         );
       })
@@ -169,7 +176,7 @@ module _ (stored_at : ℕ → List ElementValue) where
       subst (λ j. IsAt stored_at j 0 s) here (record {
         elements = ready.elements;
         rise = ready.rise;
-        same = ready.same;
+        still = ready.still;
         agrees = subst (λ old. AgreesWith old s.stored) was (agrees-itself s.stored);
         on = ready.on s.stored (agrees-itself s.stored);
         back = tt;
@@ -195,7 +202,7 @@ rising-all (given ∷ givens) s rise =
     rising-all givens (changed given s)
     (ap (λ (es : List ElementValue). are_rising (ids_of es)) (noted-stored (pending t.snapshot t.stored) t) ∙ taken_all-rising s.stored given rise)
 
-module _ (s : State) (givens : List (List ElementValue)) (sound : IsSoundState s) (still : IsCaptured s) (changes : AreChanges givens s) where
+module _ (s : State) (givens : List (List ElementValue)) (sound : IsSoundState s) (none : HasNothingPending s) (changes : AreChanges givens s) where
   -- what was stored after so many of the changes
   abbrev stored_after : ℕ → List ElementValue
   stored_after i = (changed_all (take i givens) s).stored
@@ -206,7 +213,7 @@ module _ (s : State) (givens : List (List ElementValue)) (sound : IsSoundState s
         elements = sound.stored_elements;
         rise = sound.stored_rise;
         before = sound.snapshot_elements;
-        same = same-bare s.snapshot s.stored still;
+        still = none-agrees s.snapshot s.stored sound.snapshot_elements sound.stored_elements sound.stored_rise sound.alike none;
         on = λ now agrees. tt;
       }) changes
 

@@ -1,7 +1,7 @@
 -- A replica stands for what its board stands for, with the ids that are held.
 use Rattle.std.proofs.Common.{◌≡◌, ◌≤◌, ℕ, true, false, List, [], ◌∷◌, Option, Some, None, Result, Ok, Err, IfOk, IfErr, OnOk, OnErr, refl, sym, ap, ◌∙◌, subst}
-use Rattle.board_io.specs.declared.stop.Stop.{Stop}
-use Rattle.board_io.specs.declared.stop.Stop.TheVariants.{Fault, Memory}
+use Rattle.board_base.specs.declared.stop.Stop.{Stop}
+use Rattle.board_base.specs.declared.stop.Stop.TheVariants.{Fault, Memory}
 use Rattle.elem.specs.ElementValue.{ElementValue}
 use Rattle.elem.specs.Facts.{greatest_whole}
 use Rattle.delta.specs.Pairs.{Pair}
@@ -9,10 +9,10 @@ use Rattle.delta.specs.declared.stamping.VersionFull.{VersionFull}
 use Rattle.reconcile.specs.Ids.{free_elements}
 use Rattle.view.specs.Shown.{live_elements, shown}
 use Rattle.effects.specs.Changed.{outcome, OnFault}
-use Rattle.effects.specs.declared.command.Capture.{Capture}
-use Rattle.effects.specs.declared.command.Capture.TheVariants.{Now, Later, Never}
-use Rattle.effects.specs.declared.command.Command.{Command}
-use Rattle.effects.specs.declared.command.Refusal.{Refusal}
+use Rattle.board_commands.specs.declared.command.Capture.{Capture}
+use Rattle.board_commands.specs.declared.command.Capture.TheVariants.{Now, Later, Never}
+use Rattle.board_commands.specs.declared.command.Command.{Command}
+use Rattle.effects.specs.declared.refusal.Refusal.{Refusal}
 use Rattle.history.specs.Stacks.{OnFull}
 use Rattle.history.specs.declared.step.Step.{Step}
 use Rattle.undoing.specs.Differing.{pending}

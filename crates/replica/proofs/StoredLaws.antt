@@ -7,19 +7,15 @@ use Rattle.elem.specs.ElementValue.{ElementValue}
 use Rattle.elem.specs.Said.{AreElements}
 use Rattle.elem.specs.Order.{has_id}
 use Rattle.elem_store.specs.Updates.{Taking, is_newer, element_of, ids_of, stored_of, takings, AreStored}
-use Rattle.elem_store.proofs.BestUpdates.{IsBestOf-stored}
-use Rattle.elem_store.proofs.Ids.{same_id, of_itself}
-use Rattle.elem_store.proofs.Lists.{find-Some}
-use Rattle.elem_store.proofs.Rising.{member}
-use Rattle.elem_store.proofs.StoreLaws.{AreStored-itself, AreStored-ids, ids-stay}
-use Rattle.links.proofs.Members.{list_any-from}
+use Rattle.elem_store.proofs.CallerLemmas.{IsBestOf-stored, same_id, of_itself, find-Some, member, AreStored-itself, AreStored-ids, ids-stay}
+use Rattle.links.proofs.CallerLemmas.{list_any-from}
 use Rattle.delta.specs.Delta.{Delta}
 use Rattle.delta.specs.Pairs.{Pair}
 use Rattle.undoing.specs.Carrying.{with_put, taken_all, followed, carried_over, carried, carried_all}
 use Rattle.undoing.specs.Differing.{same_kind}
 use Rattle.undoing.specs.Undoing.{undone, undone_in}
 use Rattle.undoing.specs.Entries.{IsTakingOfElements}
-use Rattle.undoing.proofs.TakenLaws.{put-each, taken_all-is, taken_all-stored, carried-rising, Is}
+use Rattle.undoing.proofs.CallerLemmas.{put-each, taken_all-is, taken_all-stored, carried-rising, Is}
 use Rattle.history.specs.Stacks.{HaveStoredIds}
 use Rattle.replica.specs.Boards.{AreKnown}
 

@@ -5,13 +5,10 @@ use Rattle.frac_keys.specs.Rising.{ends_rise, rise_between, are_rising}
 use Rattle.elem.specs.ElementValue.{ElementValue}
 use Rattle.elem.specs.Order.{has_id}
 use Rattle.elem_store.specs.Updates.{element_of, ids_of, is_newer, is_taken}
-use Rattle.elem_store.proofs.Ids.{of_itself, of_other}
-use Rattle.elem_store.proofs.Lists.{Contains-head, Contains-cons, Contains-cases}
-use Rattle.elem_store.proofs.Rising.{less-other}
-use Rattle.delta.proofs.RisingIds.{later_greater}
+use Rattle.elem_store.proofs.CallerLemmas.{of_itself, of_other, Contains-head, Contains-cons, Contains-cases, less-other}
+use Rattle.delta.proofs.CallerLemmas.{later_greater}
 use Rattle.undoing.specs.Carrying.{taken, taken_all}
-use Rattle.undoing.proofs.DifferingLaws.{rise-lower}
-use Rattle.undoing.proofs.TakenLaws.{taken-has}
+use Rattle.undoing.proofs.CallerLemmas.{rise-lower, taken-has}
 
 -- the others stay
 one-else : (stored : List ElementValue) (e : ElementValue) (id : List ℕ) → are_rising (ids_of stored) ≡ true → (e.id ≡ id → ⊥) → element_of (taken e stored) id ≡ element_of stored id

@@ -5,7 +5,7 @@ use Rattle.elem.specs.ElementValue.{ElementValue}
 use Rattle.elem_store.specs.Updates.{element_of, ids_of, takings}
 use Rattle.undoing.specs.Carrying.{taken_all, carried_all}
 use Rattle.snapshot.specs.Touched.{AreUntouched, HasTouched}
-use Rattle.snapshot.proofs.TouchedLaws.{untouched-grown, untouched-taken, untouched-carried}
+use Rattle.snapshot.proofs.CallerLemmas.{untouched-grown, untouched-taken, untouched-carried}
 
 -- what follows from what holds where a call succeeds, and from what holds where it fails
 pub either-way : {X Y : Type 0} {P Q R : Type 0} (result : Result X Y) → OnOk result P → OnErr result Q → (P → R) → (Q → R) → R

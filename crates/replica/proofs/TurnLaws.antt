@@ -11,14 +11,13 @@ use Rattle.view.specs.Shown.{live_elements}
 use Rattle.history.specs.declared.step.Step.{Step}
 use Rattle.history.specs.declared.step.Step.TheVariants.{Done, Nothing}
 use Rattle.history.specs.Stacks.{Stacks, HaveStoredIds, HasStepped, noted}
-use Rattle.history.proofs.StepLaws.{ids-stored}
+use Rattle.history.proofs.CallerLemmas.{ids-stored, step-nothing, step-full, step-done, step-taken}
 use Rattle.undoing.specs.Carrying.{taken_all}
 use Rattle.undoing.specs.Differing.{pending}
 use Rattle.undoing.specs.Steps.{step}
 use Rattle.replica.specs.Boards.{Told, ToldStandsFor, IsSound, BecomeStored, HasTurned, HasStopped}
 use Rattle.replica.specs.State as state
 use Rattle.replica.specs.State.{State}
-use Rattle.history.proofs.StackPairs.{step-nothing, step-full, step-done, step-taken}
 use Rattle.replica.proofs.BoardLaws.{told-is, captured_told, captured-stands, captured-sound, stored-rise, stored-elements}
 use Rattle.replica.proofs.StoredLaws.{stack-kept}
 

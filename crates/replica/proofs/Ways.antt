@@ -1,5 +1,5 @@
 -- A stack of entries as a way over what was stored, and one step on it.
-use Rattle.std.proofs.Common.{◌≡◌, ◌≤◌, ℕ, true, List, [], ◌∷◌, Some, None, Ok, map, sym, ap, ◌∙◌, subst}
+use Rattle.std.proofs.Common.{◌≡◌, ◌≤◌, ℕ, true, List, [], ◌∷◌, Option, Some, None, Result, Ok, Err, map, refl, sym, ap, ◌∙◌, subst}
 use Rattle.std.specs.Option.{option_map}
 use Rattle.std.proofs.lemmas.Bool.{cond-true}
 use Rattle.std.proofs.lemmas.Option.{none-some, same_Some}
@@ -7,14 +7,13 @@ use Rattle.frac_keys.specs.Rising.{are_rising}
 use Rattle.elem.specs.ElementValue.{ElementValue}
 use Rattle.elem.specs.Facts.{greatest_whole}
 use Rattle.elem.specs.Said.{AreElements}
-use Rattle.elem_store.specs.Updates.{ids_of}
+use Rattle.elem_store.specs.Updates.{element_of, ids_of}
 use Rattle.delta.specs.Pairs.{Pair, exchanged}
 use Rattle.undoing.specs.Carrying.{taken_all}
 use Rattle.undoing.specs.Entries.{IsEntry}
 use Rattle.undoing.specs.Steps.{is_seen, given, full_id, made, Sought, sought, Turn, turn_of, turn_unless, step}
-use Rattle.undoing.proofs.StepLaws.{step-turn, given-elements, made-entry}
-use Rattle.undoing.proofs.TakenLaws.{taken_all-elements, taken_all-rising}
-use Rattle.replica.specs.Back.{AgreesWith}
+use Rattle.undoing.proofs.CallerLemmas.{step-turn, step-stops, full-is, given-elements, made-entry, taken_all-elements, taken_all-rising}
+use Rattle.replica.specs.Back.{AgreesWith, IsFound}
 use Rattle.replica.proofs.Agreeing.{agrees-same}
 use Rattle.replica.proofs.Leading.{SameAs, Meets, met-same, Leads, leads-once, leads-from, IsVisible, seen-met, leads-on, leads-back, visible-back}
 
@@ -95,3 +94,15 @@ way-found target targets stored are (entry ∷ below) to way time nonce none =
     let found = cond-true (is_seen stored entry) (Some top) (sought stored below (map exchanged entry ∷ to)) seen in
     none-some (turn_unless (full_id stored entry) (turn_of stored time nonce top))
     (sym none ∙ ap (option_map (λ (s : Sought). turn_unless (full_id stored s.entry) (turn_of stored time nonce s))) found)
+
+-- a step that is found is made, or refused for a full version
+pub step-found : (stored : List ElementValue) (time nonce : ℕ) (from to : List (List Pair)) → (step stored time nonce from to ≡ None → ⊥) → IsFound stored (step stored time nonce from to)
+step-found stored time nonce from to some = by (step stored time nonce from to) refl
+  where
+    by : (o : Option (Result Turn (List ℕ))) → step stored time nonce from to ≡ o → IsFound stored o
+    by None is = some is
+    by (Some (Ok turn)) is = tt
+    by (Some (Err id)) is =
+        let stopped = step-stops stored time nonce from to id is in
+        let full = full-is stored stopped.0.entry id stopped.2 in
+        (full.now, ap (element_of stored) (sym full.id) ∙ full.found, full.version)

@@ -1,5 +1,5 @@
 -- Successive changes, the undo and redo of them, and what is then as it was. This project's own.
-use Rattle.std.specs.Prelude.{◌≡◌, ◌≢◌, ◌≤◌, ℕ, List, [], ◌∷◌, true, false, Option, Some, None, Result, Ok, Contains, map}
+use Rattle.std.specs.Prelude.{◌≡◌, ◌≢◌, ◌≤◌, ℕ, List, [], ◌∷◌, true, false, Option, Some, None, Result, Ok, Err, Contains, map}
 use Rattle.frac_keys.specs.Rising.{are_rising}
 use Rattle.elem.specs.ElementValue.{ElementValue}
 use Rattle.elem.specs.Facts.{greatest_whole}
@@ -7,6 +7,7 @@ use Rattle.elem.specs.Order.{unstamped}
 use Rattle.elem.specs.Said.{AreElements}
 use Rattle.elem_store.specs.Updates.{element_of, ids_of, is_taken}
 use Rattle.view.specs.Shown.{live_elements, shown}
+use Rattle.undoing.specs.Differing.{pending}
 use Rattle.undoing.specs.Steps.{Turn}
 use Rattle.replica.specs.State.{State, captured, stored_with, undo_on, redo_on, after_undo, after_redo}
 
@@ -21,7 +22,11 @@ pub record IsAs (was now : State) : Type 0 where
   pub agrees : AgreesWith was.stored now.stored
   pub looks : map unstamped (shown (live_elements now.stored)) ≡ map unstamped (shown (live_elements was.stored))
 
--- Nothing is pending: the snapshot is what is stored but for the stamps.
+-- Nothing is pending: no stored element differs from that of the snapshot. One that the snapshot lacks counts as deleted before.
+abbrev pub HasNothingPending : State → Type 0
+HasNothingPending s = pending s.snapshot s.stored ≡ []
+
+-- All is captured, which says more: the snapshot is what is stored but for the stamps.
 abbrev pub IsCaptured : State → Type 0
 IsCaptured s = map unstamped s.snapshot ≡ map unstamped s.stored
 
@@ -65,6 +70,12 @@ pub record IsDone (call : Call) (found : Option (Result Turn (List ℕ))) : Type
   pub nonce : call.nonce ≤ greatest_whole
   pub turn : Turn
   pub is : found ≡ Some (Ok turn)
+
+-- A step is found: it is made, or refused for a full version alone: the stored element of the id stands at the greatest one.
+abbrev pub IsFound : List ElementValue → Option (Result Turn (List ℕ)) → Type 0
+IsFound stored None = ⊥
+IsFound stored (Some (Ok turn)) = Unit {0}
+IsFound stored (Some (Err id)) = (e : ElementValue) × (element_of stored id ≡ Some e) × (e.version ≡ greatest_whole)
 
 -- after successive undos, and after successive redos
 abbrev pub undone_all : List Call → State → State

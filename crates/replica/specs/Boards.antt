@@ -7,8 +7,8 @@ use Rattle.elem_store.specs.Updates.{element_of, ids_of, is_taken, takings}
 use Rattle.delta.specs.Delta.{Delta}
 use Rattle.delta.specs.Pairs.{EntryStandsFor}
 use Rattle.view.specs.Shown.{live_elements}
-use Rattle.effects.specs.declared.command.Capture.{Capture}
-use Rattle.effects.specs.declared.command.Capture.TheVariants.{Now, Later, Never}
+use Rattle.board_commands.specs.declared.command.Capture.{Capture}
+use Rattle.board_commands.specs.declared.command.Capture.TheVariants.{Now, Later, Never}
 use Rattle.history.specs.Pairs.{StackStandsFor}
 use Rattle.history.specs.Stacks.{Stacks, HaveStoredIds, HasStepped, AreUnseen, StopsAt, noted, side}
 use Rattle.history.specs.declared.step.Step.{Step}

@@ -6,5 +6,6 @@ pub mod laws;
 mod replica;
 mod telling;
 
-pub use effects::{Capture, Command, Refusal, Side, Spot};
+pub use board_commands::{Capture, Command, Side, Spot};
+pub use effects::Refusal;
 pub use replica::Replica;

@@ -4,7 +4,7 @@ ghost use Rattle.std.specs.Prelude.{◌≡◌, ◌≤◌, Some, Ok, Err, length,
 ghost use Rattle.elem.specs.Facts.{greatest_whole};
 ghost use Rattle.view.specs.Shown.{live_elements, shown};
 ghost use Rattle.effects.specs.Changed.{OnFault, outcome};
-ghost use Rattle.effects.specs.Limits.{IsWithinLimits};
+ghost use Rattle.board_commands.specs.Limits.{IsWithinLimits};
 ghost use Rattle.history.specs.Stacks.{OnFull};
 ghost use Rattle.reconcile.specs.Ids.{free_elements, is_held, HasAdded, HasDropped};
 ghost use Rattle.replica.specs.Standing.{ReplicaStandsFor};
@@ -12,9 +12,10 @@ ghost use Rattle.replica.specs.State as state;
 ghost use Rattle.replica.specs.State.{State};
 
 use crate::board::Board;
-use board_io::{List, Stop};
+use board_base::{List, Stop};
+use board_commands::{Capture, Command};
 use delta::VersionFull;
-use effects::{Capture, Command, Refusal};
+use effects::Refusal;
 use elem::Element;
 use elem_store::Store;
 use history::Step;

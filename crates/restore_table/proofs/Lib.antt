@@ -3,3 +3,4 @@ pub mod Merging
 pub mod Nesting
 pub mod RestoredLaws
 pub mod Rows
+pub mod CallerLemmas

@@ -6,7 +6,7 @@ use Rattle.json_text.specs.Compact.{Member as Pair, has_other_name}
 use Rattle.json_text.specs.Members.{pairs}
 use Rattle.json_text.specs.Value.{IsCompact}
 use Rattle.json_text.specs.declared.text.Member.{Member}
-use Rattle.json_text.proofs.CompactLaws.{Value-deeper}
+use Rattle.json_text.proofs.CallerLemmas.{Value-deeper}
 use Rattle.restore_table.specs.Merged.{merged}
 use Rattle.restore_table.specs.Table.{defaults}
 use Rattle.restore_table.proofs.Merging.{merged-values}

@@ -13,8 +13,8 @@ use Rattle.json_text.specs.Compact.{Member as Pair, array_text}
 use Rattle.json_text.specs.Tree.{null_word, false_word}
 use Rattle.json_text.specs.Value.{IsCompact}
 use Rattle.scene_json.specs.Named.{value_at, HaveRisingNames}
-use Rattle.json_text.proofs.CompactLaws.{quote-compact, literal-compact, array-compact}
-use Rattle.scene_json.proofs.Lookups.{IsBelow-less, rising_from, rising_none, rising_parts}
+use Rattle.json_text.proofs.CallerLemmas.{quote-compact, literal-compact, array-compact}
+use Rattle.scene_json.proofs.CallerLemmas.{IsBelow-less, rising_from, rising_none, rising_parts}
 use Rattle.restore_table.specs.declared.table.Row.{Row}
 use Rattle.restore_table.specs.Merged.{row_pair}
 use Rattle.restore_table.specs.Table.{defaults}

@@ -10,7 +10,7 @@ ghost use Rattle.scene_json.specs.TheOne.{IsTheOne};
 ghost use Rattle.restore_table.specs.Merged.{AreUpdated, AreOldIds};
 ghost use Rattle.restore_table.specs.Restored.{arrow_text, listing_name, listing_text};
 
-use board_io::List;
+use board_base::List;
 use json_text::{Member, Raw, Text};
 use scene_json::{raw_array, raw_object, raw_text, texts_of, value_named};
 use std::alloc::{AllocError, Global};

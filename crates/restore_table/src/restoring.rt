@@ -16,7 +16,7 @@ ghost use Rattle.restore_table.specs.Table.{defaults};
 
 use crate::legacy::updated;
 use crate::table::{Row, rows};
-use board_io::{List, bytes_order};
+use board_base::{List, bytes_order};
 use json_text::{Member, Raw, Text};
 use scene_json::is_null;
 use std::alloc::{AllocError, Global};

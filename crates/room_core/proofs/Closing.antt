@@ -1,14 +1,15 @@
 -- Events that bring a room to a close end it so.
 use Rattle.std.proofs.Common.{◌≡◌, ◌⊎◌, inl, inr, ℕ, ◌+◌, ◌≤◌, Bool, true, false, List, [], ◌∷◌, ◌++◌, map, flat_map, Option, Some, None, IsSome, IfSome, option_map, option_to_list, length, refl, sym, ap, ap₂, subst, ◌∙◌, append_assoc, Ok, Err, arith}
 use Rattle.std.proofs.lemmas.List.{append_cancel_left}
-use Rattle.board_io.specs.Events.{opening_of}
-use Rattle.board_io.specs.declared.links.LinkEvent.{LinkEvent}
-use Rattle.board_io.specs.declared.links.LinkEvent.TheVariants.{Opened}
+use Rattle.board_ends.specs.Events.{opening_of}
+use Rattle.board_ends.specs.declared.links.LinkEvent.{LinkEvent}
+use Rattle.board_ends.specs.declared.links.LinkEvent.TheVariants.{Opened}
 use Rattle.room_msg.specs.Texts.{message_text}
 use Rattle.room_core.specs.Closing.{LeadToClose}
 use Rattle.room_core.specs.Rooms.{RoomState, Happening, Joined, Heard, Left, Nothing, IsHeardAs, joined_after, texts_of, text_for_each, without}
 use Rattle.room_core.specs.Serving.{Serving, Round, IsRound, AreRounds, EndsBy, IsServed, at_start, end_of, idles_after, serving_after, serving_at, step_count}
-use Rattle.room_core.specs.Told.{LinksTold, Try, Tells, links_gone, texts_lost, texts_tried}
+use Rattle.board_ends.specs.Ends.{LinksEnd}
+use Rattle.room_core.specs.Told.{Try, Tells, links_gone, texts_lost, texts_tried}
 use Rattle.room_core.specs.declared.limits.RoomLimits.{RoomLimits}
 use Rattle.room_core.specs.declared.limits.ServeEnd.{ServeEnd}
 use Rattle.room_core.specs.declared.limits.ServeEnd.TheVariants.{AllClosed, Idle as IdleEnd, LinkFault, LinksFull, EventsFull, Memory}
@@ -34,17 +35,17 @@ same-links a b (Heard link (Err fault)) same = refl
 same-links a b (Left links) same = refl
 same-links a b Nothing same = refl
 
-nil-cons : {X : Type 0} (x : X) (xs : List X) → [] ≡ x ∷ xs → ⊥
+pub nil-cons : {X : Type 0} (x : X) (xs : List X) → [] ≡ x ∷ xs → ⊥
 nil-cons x xs h = cc
 
-head-same : {X : Type 0} (x y : X) (xs ys : List X) → x ∷ xs ≡ y ∷ ys → x ≡ y
+pub head-same : {X : Type 0} (x y : X) (xs ys : List X) → x ∷ xs ≡ y ∷ ys → x ≡ y
 head-same x y xs ys h = cc
 
-tail-same : {X : Type 0} (x y : X) (xs ys : List X) → x ∷ xs ≡ y ∷ ys → xs ≡ ys
+pub tail-same : {X : Type 0} (x y : X) (xs ys : List X) → x ∷ xs ≡ y ∷ ys → xs ≡ ys
 tail-same x y xs ys h = cc
 
 -- what is lost from a count on is lost at no lower count
-lost-later : (n : ℕ) (tries : List Try) (x : ℕ × ℕ) (lost : List (ℕ × ℕ)) → texts_lost n tries ≡ x ∷ lost → n ≤ x.0
+pub lost-later : (n : ℕ) (tries : List Try) (x : ℕ × ℕ) (lost : List (ℕ × ℕ)) → texts_lost n tries ≡ x ∷ lost → n ≤ x.0
 lost-later n [] x lost is = absurd (nil-cons x lost is)
 lost-later n (try ∷ tries) x lost is = by (lost-later (n + 1) tries x lost) try.is_sent refl
   where
@@ -138,10 +139,10 @@ ends-early limits now last new tries LinksFull event events is within given ends
 ends-early limits now last new tries EventsFull event events is within given ends = let both : None ≡ Some EventsFull = sym is ∙ ends.0 in absurd cc
 ends-early limits now last new tries Memory event events is within given ends = inr (inl refl)
 
-abbrev events_of : List Round → List LinkEvent
+abbrev pub events_of : List Round → List LinkEvent
 events_of rounds = map (λ (round : Round). round.event) rounds
 
-abbrev tries_of : List Round → List Try
+abbrev pub tries_of : List Round → List Try
 tries_of rounds = flat_map (λ (round : Round). round.tries) rounds
 
 -- Rounds that lead to a close, and those that were made, of a room with the same joined links.
@@ -171,7 +172,7 @@ closes limits a b (p ∷ ps) (q ∷ qs) more more_tries last last_tries new end 
     (alike-after a b p q alike (sym event) ps_are.2 qs_are.2 happening (sym same.gone)) ps_are.3 closed qs_are.3 ends (tail-same _ _ _ _ events) same.rest
 
 -- what is told twice is told once
-told-once : {X : Type 0} (before after : Option (List X)) (xs ys : List X) → IsSome before
+pub told-once : {X : Type 0} (before after : Option (List X)) (xs ys : List X) → IsSome before
     → after ≡ option_map (λ told. told ++ xs) before → after ≡ option_map (λ told. told ++ ys) before → xs ≡ ys
 told-once None after xs ys some one two = cc
 told-once (Some told) after xs ys some one two =
@@ -179,16 +180,16 @@ told-once (Some told) after xs ys some one two =
     let inside : told ++ xs ≡ told ++ ys = cc in
     append_cancel_left told xs ys inside
 
-lost-once : (sent : Option (List (ℕ × List ℕ))) (before after : Option (List (ℕ × ℕ))) (ts us : List Try) → IsSome sent → IsSome before
+pub lost-once : (sent : Option (List (ℕ × List ℕ))) (before after : Option (List (ℕ × ℕ))) (ts us : List Try) → IsSome sent → IsSome before
     → IfSome sent (λ texts. after ≡ option_map (λ told. told ++ texts_lost (length texts) ts) before)
     → IfSome sent (λ texts. after ≡ option_map (λ told. told ++ texts_lost (length texts) us) before) → (n : ℕ) × (texts_lost n ts ≡ texts_lost n us)
 lost-once None before after ts us tells some one two = absurd cc
 lost-once (Some texts) before after ts us tells some one two = (length texts, told-once before after _ _ some one two)
 
-pub closing-ends : (limits : RoomLimits) (first other new : RoomState) (before after : LinksTold) (end : ServeEnd) → first.joined ≡ other.joined
+pub closing-ends : (limits : RoomLimits) (first other new : RoomState) (before after : LinksEnd) (end : ServeEnd) → first.joined ≡ other.joined
     → LeadToClose limits (at_start first) before after → IsServed limits (at_start other) new before after end → EndsClosed end
 closing-ends limits first other new before after end joined leads served =
-    let lost = lost-once before.sent before.lost after.lost (tries_of served.rounds ++ served.last_tries) (tries_of leads.rounds ++ leads.more_tries) leads.tell_sent leads.tell_lost served.told.lost leads.told.lost in
+    let lost = lost-once before.sent before.lost after.lost (tries_of served.rounds ++ served.last_tries) (tries_of leads.rounds ++ leads.more_tries) leads.tell.sent leads.tell.lost served.told.lost leads.told.lost in
     closes limits (at_start first) (at_start other) leads.rounds served.rounds leads.more leads.more_tries served.last served.last_tries new end lost.0
     (record { opened = refl; stepped = refl; idles = refl; joined = joined }) leads.are_rounds leads.closed served.are_rounds served.ended
-    (told-once before.given after.given (events_of served.rounds ++ option_to_list served.last) (events_of leads.rounds ++ leads.more) leads.tell_given served.told.given leads.told.given) lost.1
+    (told-once before.given after.given (events_of served.rounds ++ option_to_list served.last) (events_of leads.rounds ++ leads.more) leads.tell.given served.told.given leads.told.given) lost.1

@@ -1,7 +1,9 @@
 mod JoinedLinks
 mod Printed
 mod Steps
-mod Tries
+pub mod Tries
 mod Served
 mod MemberLaws
 mod Closing
+mod Traces
+pub mod CallerLemmas

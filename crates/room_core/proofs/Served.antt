@@ -2,11 +2,12 @@
 use Rattle.std.proofs.Common.{◌≡◌, ℕ, ◌+◌, ◌-◌, ◌*◌, ◌<◌, ◌≤◌, Bool, true, false, cond, ◌&&◌, [], ◌∷◌, Option, Some, None, nat_lt, nat_le, refl, ap, subst, append_assoc, Result, Ok, Err, is_err, OnOk, OnErr, arith}
 use Rattle.std.proofs.lemmas.Bool.{leb-false}
 use Rattle.std.proofs.lemmas.Nat.{mul-add-lt}
-use Rattle.board_io.specs.Events.{opening_of}
-use Rattle.board_io.specs.declared.links.LinkEvent.{LinkEvent}
-use Rattle.board_io.specs.declared.links.LinkEvent.TheVariants.{Opened, Text, Closed, Idle}
+use Rattle.board_ends.specs.Events.{opening_of}
+use Rattle.board_ends.specs.declared.links.LinkEvent.{LinkEvent}
+use Rattle.board_ends.specs.declared.links.LinkEvent.TheVariants.{Opened, Text, Closed, Idle}
 use Rattle.room_core.specs.Rooms.{RoomState}
-use Rattle.room_core.specs.Told.{LinksTold, Tells}
+use Rattle.board_ends.specs.Ends.{LinksEnd}
+use Rattle.room_core.specs.Told.{Tells}
 use Rattle.room_core.specs.Serving.{Serving, AreRounds, EndsBy, IsServed, IsServedEvent, IsServedRound, IsCutEvent, end_of, serving_of, serving_at, step_count, idles_after, is_none_joined}
 use Rattle.room_core.specs.declared.limits.RoomLimits.{RoomLimits}
 use Rattle.room_core.specs.declared.limits.ServeEnd.{ServeEnd}
@@ -56,14 +57,14 @@ module _ (limits : RoomLimits) (now : Serving) (running : end_of limits now ≡ 
       let both = goes_on (nat_lt 0 now.opened && is_none_joined now.room.joined) (nat_le limits.events now.stepped) (nat_le limits.idle now.idles) running in
       (leb-false _ _ both.0, leb-false _ _ both.1)
 
-  pub ended-memory : (a b : LinksTold) → Tells a b [] [] → IsServed limits now now.room a b Memory
+  pub ended-memory : (a b : LinksEnd) → Tells a b [] [] → IsServed limits now now.room a b Memory
   ended-memory a b told = record { rounds = []; are_rounds = tt; last = None; last_tries = []; ended = (running, (refl, refl)); told = told }
 
-  pub ended-full : (link : ℕ) (event : LinkEvent) (a b : LinksTold) → event ≡ Opened link → now.opened ≡ limits.links → Tells a b (event ∷ []) [] → IsServed limits now now.room a b LinksFull
+  pub ended-full : (link : ℕ) (event : LinkEvent) (a b : LinksEnd) → event ≡ Opened link → now.opened ≡ limits.links → Tells a b (event ∷ []) [] → IsServed limits now now.room a b LinksFull
   ended-full link event a b opens full told =
       record { rounds = []; are_rounds = tt; last = Some event; last_tries = []; ended = (running, full, (link, ap Some opens), refl, refl); told = told }
 
-  pub ended-cut : (event : LinkEvent) (new : RoomState) (a b c : LinksTold) → Tells a b (event ∷ []) [] → IsCutEvent now.room event new b c → IsServed limits now new a c Memory
+  pub ended-cut : (event : LinkEvent) (new : RoomState) (a b c : LinksEnd) → Tells a b (event ∷ []) [] → IsCutEvent now.room event new b c → IsServed limits now new a c Memory
   ended-cut event new a b c told cut = record {
     rounds = [];
     are_rounds = tt;
@@ -74,7 +75,7 @@ module _ (limits : RoomLimits) (now : Serving) (running : end_of limits now ≡ 
   }
 
   -- one round, and what ends the room after it
-  pub served-then : (next : Serving) (new : RoomState) (a b c : LinksTold) (end : ServeEnd) → IsServedRound limits now next a b → IsServed limits next new b c end → IsServed limits now new a c end
+  pub served-then : (next : Serving) (new : RoomState) (a b c : LinksEnd) (end : ServeEnd) → IsServedRound limits now next a b → IsServed limits next new b c end → IsServed limits now new a c end
   served-then next new a b c end one others = record {
     rounds = one.round ∷ others.rounds;
     are_rounds = (running, one.within, one.is_round, subst (λ s. AreRounds limits s others.rounds) one.follows others.are_rounds);
@@ -85,7 +86,7 @@ module _ (limits : RoomLimits) (now : Serving) (running : end_of limits now ≡ 
   }
 
 -- what ends a room that no event is stepped in any more
-pub ended-here : (limits : RoomLimits) (now : Serving) (a b : LinksTold) (end : ServeEnd) → end_of limits now ≡ Some end → Tells a b [] [] → IsServed limits now now.room a b end
+pub ended-here : (limits : RoomLimits) (now : Serving) (a b : LinksEnd) (end : ServeEnd) → end_of limits now ≡ Some end → Tells a b [] [] → IsServed limits now now.room a b end
 ended-here limits now a b AllClosed is told = record { rounds = []; are_rounds = tt; last = None; last_tries = []; ended = (is, refl, refl, refl); told = told }
 ended-here limits now a b IdleEnd is told = record { rounds = []; are_rounds = tt; last = None; last_tries = []; ended = (is, refl, refl, refl); told = told }
 ended-here limits now a b EventsFull is told = record { rounds = []; are_rounds = tt; last = None; last_tries = []; ended = (is, refl, refl, refl); told = told }
@@ -94,7 +95,7 @@ ended-here limits now a b LinksFull is told = absurd (never_full _ _ _ is)
 ended-here limits now a b Memory is told = absurd (never_memory _ _ _ is)
 
 -- a served event is a round
-pub served-round : (limits : RoomLimits) (room new : RoomState) (old tally : Tally) (event : LinkEvent) (a b c : LinksTold) → old.opened + opening_of event ≤ limits.links
+pub served-round : (limits : RoomLimits) (room new : RoomState) (old tally : Tally) (event : LinkEvent) (a b c : LinksEnd) → old.opened + opening_of event ≤ limits.links
     → tally.opened ≡ old.opened + opening_of event → tally.stepped ≡ old.stepped + step_count event → tally.idles ≡ idles_after old.idles event
     → Tells a b (event ∷ []) [] → IsServedEvent room event new b c → IsServedRound limits (serving_of room old) (serving_of new tally) a c
 served-round limits room new old tally event a b c within opened stepped idles told one = record {
@@ -124,7 +125,7 @@ fewer events idle stepped idles (Opened link) s i = fewer-steps events idle step
 fewer events idle stepped idles (Text link text) s i = fewer-steps events idle stepped idles s
 fewer events idle stepped idles (Closed link) s i = fewer-steps events idle stepped idles s
 
-pub left-falls : (limits : RoomLimits) (now next : Serving) (a b : LinksTold) → end_of limits now ≡ None → IsServedRound limits now next a b → left_of limits next < left_of limits now
+pub left-falls : (limits : RoomLimits) (now next : Serving) (a b : LinksEnd) → end_of limits now ≡ None → IsServedRound limits now next a b → left_of limits next < left_of limits now
 left-falls limits now next a b running one =
     let below = below_limits limits now running in
     rw one.follows (fewer limits.events limits.idle now.stepped now.idles one.round.event below.0 below.1)

@@ -1,9 +1,12 @@
 -- What an event gives a room, from what each part of a step gives.
-use Rattle.std.proofs.Common.{◌≡◌, ℕ, true, false, List, [], ◌∷◌, Result, Ok, Err, IfOk, OnOk, refl, ap, append-nil}
+use Rattle.std.proofs.Common.{◌≡◌, ℕ, true, false, List, [], ◌∷◌, Result, Ok, Err, IfOk, OnOk, OnErr, refl, sym, ap, subst, append-nil}
 use Rattle.std.specs.declared.alloc.AllocError.{AllocError}
+use Rattle.frac_keys.specs.Rising.{are_rising}
 use Rattle.elem.specs.ElementValue.{ElementValue}
+use Rattle.elem_store.specs.Updates.{ids_of}
+use Rattle.elem_store.proofs.CallerLemmas.{AreStored-itself}
 use Rattle.reconcile.specs.Ids.{free_elements}
-use Rattle.board_io.specs.declared.links.LinkEvent.TheVariants.{Opened, Text, Closed}
+use Rattle.board_ends.specs.declared.links.LinkEvent.TheVariants.{Opened, Text, Closed}
 use Rattle.room_msg.specs.Messages.{IsReadAs}
 use Rattle.room_msg.specs.Texts.{message_text}
 use Rattle.room_msg.specs.declared.fault.MsgFault.{MsgFault}
@@ -31,6 +34,12 @@ pub heard-fault : (old : List ElementValue) (joined : List ℕ) (sender : ℕ) (
 heard-fault old joined sender bytes new fault text (Ok texts) read is told same =
     record { answer = Err fault; read = read; told = rw is at told; taken = none_taken old new same }
 heard-fault old joined sender bytes new fault text (Err e) read is told same = tt
+
+-- what is heard leaves the ids that are stored rising
+pub heard-rises : (old : List ElementValue) (joined : List ℕ) (sender : ℕ) (bytes : List ℕ) (new : List ElementValue) (r : Result (List (ℕ × List ℕ)) AllocError)
+    → are_rising (ids_of old) ≡ true → IfOk r (HaveHeard old joined sender bytes new) → OnErr r (new ≡ old) → are_rising (ids_of new) ≡ true
+heard-rises old joined sender bytes new (Ok texts) rises heard same = (heard.taken old (AreStored-itself old rises)).ordered
+heard-rises old joined sender bytes new (Err e) rises heard same = subst (λ elements. are_rising (ids_of elements) ≡ true) (sym same) rises
 
 pub step-opened : (old new : RoomState) (link : ℕ) (r : Result (List (ℕ × List ℕ)) AllocError) → new.elements ≡ old.elements → OnOk r (new.joined ≡ with_link old.joined link)
     → IfOk r (λ told. told ≡ (link, message_text (Init old.elements)) ∷ []) → IfOk r (IsRoomStep old (Opened link) new)

@@ -2,9 +2,10 @@
 use Rattle.std.proofs.Common.{◌≡◌, ℕ, zero, suc, ◌+◌, ◌<◌, Bool, true, false, not, List, [], ◌∷◌, ◌++◌, Option, Some, None, option_map, IfSome, length, map, filter, drop, get_or, refl, sym, ap, ap₂, subst, ◌∙◌, append_assoc, append-nil, length-append, Result, Ok, Err, OnErr, arith}
 use Rattle.std.proofs.lemmas.List.{map-append}
 use Rattle.std.proofs.lemmas.List.Elements.{filter-append}
-use Rattle.board_io.specs.Events.{with_last, with_lost}
-use Rattle.board_io.specs.declared.links.LinkEvent.{LinkEvent}
-use Rattle.room_core.specs.Told.{LinksTold, Try, Tells, HaveTried, texts_tried, texts_sent, links_gone, texts_lost}
+use Rattle.board_ends.specs.Events.{with_last, with_lost}
+use Rattle.board_ends.specs.declared.links.LinkEvent.{LinkEvent}
+use Rattle.board_ends.specs.Ends.{LinksEnd}
+use Rattle.room_core.specs.Told.{Try, Tells, HaveTried, texts_tried, texts_sent, links_gone, texts_lost}
 
 map-twice : {X : Type 0} (told : Option (List X)) (xs ys : List X) → option_map (λ t. t ++ ys) (option_map (λ t. t ++ xs) told) ≡ option_map (λ t. t ++ (xs ++ ys)) told
 map-twice None xs ys = refl
@@ -47,7 +48,7 @@ lost-twice (Some x) bs al bl cl ts us sent first second =
     ∙ ap (λ lost. option_map (λ t. t ++ lost) al) (texts_lost-append (length x) ts us)
 
 -- what is told in two stretches is told in one
-pub tells-twice : (a b c : LinksTold) (es fs : List LinkEvent) (ts us : List Try) → Tells a b es ts → Tells b c fs us → Tells a c (es ++ fs) (ts ++ us)
+pub tells-twice : (a b c : LinksEnd) (es fs : List LinkEvent) (ts us : List Try) → Tells a b es ts → Tells b c fs us → Tells a c (es ++ fs) (ts ++ us)
 tells-twice a b c es fs ts us first second = record {
   given = second.given ∙ ap (option_map (λ t. t ++ fs)) first.given ∙ map-twice a.given es fs;
   sent = second.sent ∙ ap (option_map (λ t. t ++ texts_sent us)) first.sent ∙ map-twice a.sent (texts_sent ts) (texts_sent us)
@@ -59,15 +60,15 @@ none_lost : (sent : Option (List (ℕ × List ℕ))) (before after : Option (Lis
 none_lost None before after same = tt
 none_lost (Some texts) before after same = same ∙ map-none before
 
-pub tells-nothing : (a b : LinksTold) → b.given ≡ a.given → b.sent ≡ a.sent → b.lost ≡ a.lost → Tells a b [] []
+pub tells-nothing : (a b : LinksEnd) → b.given ≡ a.given → b.sent ≡ a.sent → b.lost ≡ a.lost → Tells a b [] []
 tells-nothing a b given sent lost = record { given = given ∙ map-none a.given; sent = sent ∙ map-none a.sent; lost = none_lost a.sent a.lost b.lost lost }
 
 -- an event was given
-pub tells-event : (a b : LinksTold) (event : LinkEvent) → b.given ≡ with_last a.given event → b.sent ≡ a.sent → b.lost ≡ a.lost → Tells a b (event ∷ []) []
+pub tells-event : (a b : LinksEnd) (event : LinkEvent) → b.given ≡ with_last a.given event → b.sent ≡ a.sent → b.lost ≡ a.lost → Tells a b (event ∷ []) []
 tells-event a b event given sent lost = record { given = given; sent = sent ∙ map-none a.sent; lost = none_lost a.sent a.lost b.lost lost }
 
 -- a text was sent
-pub tells-sent : (a b : LinksTold) (link : ℕ) (text : List ℕ) → b.given ≡ a.given → b.sent ≡ with_last a.sent (link, text) → b.lost ≡ a.lost
+pub tells-sent : (a b : LinksEnd) (link : ℕ) (text : List ℕ) → b.given ≡ a.given → b.sent ≡ with_last a.sent (link, text) → b.lost ≡ a.lost
     → Tells a b [] (record { link = link; text = text; is_sent = true } ∷ [])
 tells-sent a b link text given sent lost = record { given = given ∙ map-none a.given; sent = sent; lost = none_lost a.sent a.lost b.lost lost }
 
@@ -77,7 +78,7 @@ one_lost None before after link lost = tt
 one_lost (Some texts) before after link lost = lost
 
 -- a text's link was gone
-pub tells-lost : (a b : LinksTold) (link : ℕ) (text : List ℕ) → b.given ≡ a.given → b.sent ≡ a.sent → b.lost ≡ with_lost a.sent a.lost link
+pub tells-lost : (a b : LinksEnd) (link : ℕ) (text : List ℕ) → b.given ≡ a.given → b.sent ≡ a.sent → b.lost ≡ with_lost a.sent a.lost link
     → Tells a b [] (record { link = link; text = text; is_sent = false } ∷ [])
 tells-lost a b link text given sent lost =
     record { given = given ∙ map-none a.given; sent = sent ∙ map-none a.sent; lost = one_lost a.sent a.lost b.lost link lost }
@@ -88,7 +89,7 @@ next_rest [] i d l = absurd (omega arith)
 next_rest (x ∷ texts) zero d l = refl
 next_rest (x ∷ texts) (suc i) d l = next_rest texts i d (omega arith)
 
-pub tried-next : (a b c : LinksTold) (texts : List (ℕ × List ℕ)) (gone : List ℕ) (i : ℕ) (try : Try) → i < length texts → get_or texts i (try.link, try.text) ≡ (try.link, try.text)
+pub tried-next : (a b c : LinksEnd) (texts : List (ℕ × List ℕ)) (gone : List ℕ) (i : ℕ) (try : Try) → i < length texts → get_or texts i (try.link, try.text) ≡ (try.link, try.text)
     → HaveTried a b texts gone (drop i texts) → Tells b c [] (try ∷ []) → HaveTried a c texts (gone ++ links_gone (try ∷ [])) (drop (i + 1) texts)
 tried-next a b c texts gone i try l at tried told = let more : suc i ≡ i + 1 = omega arith in record {
   tries = tried.tries ++ try ∷ [];
@@ -99,7 +100,7 @@ tried-next a b c texts gone i try l at tried told = let more : suc i ≡ i + 1 =
   told = tells-twice a b c [] [] tried.tries (try ∷ []) tried.told told;
 }
 
-pub tried-none : (a b : LinksTold) (texts : List (ℕ × List ℕ)) → b ≡ a → HaveTried a b texts [] texts
+pub tried-none : (a b : LinksEnd) (texts : List (ℕ × List ℕ)) → b ≡ a → HaveTried a b texts [] texts
 tried-none a b texts same = record { tries = []; tried = refl; gone_links = refl; told = rw same (tells-nothing a a refl refl refl) }
 
 pub on_err : {A E P : Type 0} (r : Result A E) → P → OnErr r P

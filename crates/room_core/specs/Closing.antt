@@ -1,18 +1,23 @@
 -- Links whose events bring a room to a close. This project's own.
 use Rattle.std.specs.Prelude.{◌≡◌, List, ◌++◌, map, flat_map, Some, IsSome}
-use Rattle.board_io.specs.declared.links.LinkEvent.{LinkEvent}
+use Rattle.board_ends.specs.declared.links.LinkEvent.{LinkEvent}
 use Rattle.room_core.specs.Serving.{Serving, Round, AreRounds, end_of, serving_at}
-use Rattle.room_core.specs.Told.{LinksTold, Try, Tells}
+use Rattle.board_ends.specs.Ends.{LinksEnd}
+use Rattle.room_core.specs.Told.{Try, Tells}
 use Rattle.room_core.specs.declared.limits.RoomLimits.{RoomLimits}
 use Rattle.room_core.specs.declared.limits.ServeEnd.TheVariants.{AllClosed}
 
--- The links tell what they give, send and lose. They told rounds that follow on one another, and then perhaps more. Before
+-- The links tell what they give, send and lose.
+pub record TellAll (links : LinksEnd) : Type 0 where
+  pub given : IsSome links.given
+  pub sent : IsSome links.sent
+  pub lost : IsSome links.lost
+
+-- The links tell all. They told rounds that follow on one another, and then perhaps more. Before
 -- each round no link too many was opened, fewer answers Idle came in a row than end the room, and fewer other events; and
 -- after the last one, and no earlier one, a link was opened and none is joined.
-pub record LeadToClose (limits : RoomLimits) (now : Serving) (before after : LinksTold) : Type 0 where
-  pub tell_given : IsSome before.given
-  pub tell_sent : IsSome before.sent
-  pub tell_lost : IsSome before.lost
+pub record LeadToClose (limits : RoomLimits) (now : Serving) (before after : LinksEnd) : Type 0 where
+  pub tell : TellAll before
   pub rounds : List Round
   pub are_rounds : AreRounds limits now rounds
   pub closed : end_of limits (serving_at now rounds) ≡ Some AllClosed

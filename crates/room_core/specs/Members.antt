@@ -1,6 +1,7 @@
 -- The updates that a member of a room has. This project's own.
 use Rattle.std.specs.Prelude.{◌≡◌, ℕ, ◌==◌, List, [], ◌∷◌, ◌++◌, Bool, ◌||◌, Ok, Err, if◌then◌else◌}
 use Rattle.elem.specs.ElementValue.{ElementValue}
+use Rattle.room_msg.specs.Messages.{IsReadAs}
 use Rattle.room_core.specs.Rooms.{RoomState, Happening, Joined, Heard, Left, Nothing, IsRoomAfter, is_among, without, message_updates}
 
 -- One step of a room: what happened, and the room after it.
@@ -8,10 +9,20 @@ pub record Step : Type 0 where
   pub happening : Happening
   pub after : RoomState
 
--- Each step follows on the one before it, from this room on to the last one.
+-- What was heard was read of some bytes.
+abbrev pub WasRead : Happening → Type 0
+WasRead (Heard link answer) = (bytes : List ℕ) × IsReadAs bytes answer
+WasRead (Joined link) = Unit {0}
+WasRead (Left links) = Unit {0}
+WasRead Nothing = Unit {0}
+
+-- Each step follows on the one before it, from this room on to the last one, and all that was heard
+-- was read.
 abbrev pub AreSteps : RoomState → List Step → RoomState → Type 0
 AreSteps room [] last = last ≡ room
-AreSteps room (step ∷ steps) last = IsRoomAfter room step.happening step.after × AreSteps step.after steps last
+AreSteps room (step ∷ steps) last =
+    WasRead step.happening × IsRoomAfter room step.happening step.after
+    × AreSteps step.after steps last
 
 -- whether a link is the sender of a message, or is sent its text
 abbrev pub has_message : List ℕ → ℕ → ℕ → Bool

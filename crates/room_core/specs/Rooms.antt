@@ -6,8 +6,8 @@ use Rattle.json_text.specs.Characters.{quote}
 use Rattle.json_text.specs.Compact.{object_text}
 use Rattle.elem.specs.ElementValue.{ElementValue}
 use Rattle.elem_store.specs.Updates.{AreStored}
-use Rattle.board_io.specs.declared.links.LinkEvent.{LinkEvent}
-use Rattle.board_io.specs.declared.links.LinkEvent.TheVariants.{Opened, Text, Closed, Idle}
+use Rattle.board_ends.specs.declared.links.LinkEvent.{LinkEvent}
+use Rattle.board_ends.specs.declared.links.LinkEvent.TheVariants.{Opened, Text, Closed, Idle}
 use Rattle.room_msg.specs.Faults.{message_fault_words}
 use Rattle.room_msg.specs.Messages.{IsReadAs}
 use Rattle.room_msg.specs.Texts.{message_text}

@@ -1,11 +1,12 @@
 -- A room that is served over links: what comes of each event, and what ends it. This project's own.
 use Rattle.std.specs.Prelude.{◌≡◌, ◌⊎◌, ℕ, ◌+◌, ◌≤◌, nat_lt, nat_le, List, [], ◌∷◌, ◌++◌, Bool, true, false, ◌&&◌, map, flat_map, option_to_list, Option, Some, None, if◌then◌else◌}
-use Rattle.board_io.specs.declared.links.LinkEvent.{LinkEvent}
-use Rattle.board_io.specs.declared.links.LinkEvent.TheVariants.{Opened, Idle}
-use Rattle.board_io.specs.Events.{opening_of}
+use Rattle.board_ends.specs.declared.links.LinkEvent.{LinkEvent}
+use Rattle.board_ends.specs.declared.links.LinkEvent.TheVariants.{Opened, Idle}
+use Rattle.board_ends.specs.Events.{opening_of}
 use Rattle.room_core.specs.Rooms.{RoomState, Happening, Left, IsHeardAs, IsRoomAfter, texts_of, without}
 use Rattle.room_core.specs.Members.{Step}
-use Rattle.room_core.specs.Told.{LinksTold, Try, Tells, texts_tried, links_gone}
+use Rattle.board_ends.specs.Ends.{LinksEnd}
+use Rattle.room_core.specs.Told.{Try, Tells, texts_tried, links_gone}
 use Rattle.room_core.specs.declared.serving.Tally.{Tally}
 use Rattle.room_core.specs.declared.limits.RoomLimits.{RoomLimits}
 use Rattle.room_core.specs.declared.limits.ServeEnd.{ServeEnd}
@@ -109,7 +110,7 @@ EndsBy limits now last new tries end = (end_of limits now ≡ Some end) × (last
 
 -- A room was served from here on to its end: rounds, and then what ended it; and the links told just these events, and the
 -- texts tried for them.
-pub record IsServed (limits : RoomLimits) (now : Serving) (new : RoomState) (before after : LinksTold) (end : ServeEnd) : Type 0 where
+pub record IsServed (limits : RoomLimits) (now : Serving) (new : RoomState) (before after : LinksEnd) (end : ServeEnd) : Type 0 where
   pub rounds : List Round
   pub are_rounds : AreRounds limits now rounds
   pub last : Option LinkEvent
@@ -130,7 +131,7 @@ abbrev pub serving_of : RoomState → Tally → Serving
 serving_of room tally = record { room = room; opened = tally.opened; stepped = tally.stepped; idles = tally.idles }
 
 -- One event was served: a round, and the texts that were tried for it are told.
-pub record IsServedEvent (room : RoomState) (event : LinkEvent) (new : RoomState) (before after : LinksTold) : Type 0 where
+pub record IsServedEvent (room : RoomState) (event : LinkEvent) (new : RoomState) (before after : LinksEnd) : Type 0 where
   pub round : Round
   pub of : round.event ≡ event
   pub is_round : IsRound room round
@@ -138,13 +139,13 @@ pub record IsServedEvent (room : RoomState) (event : LinkEvent) (new : RoomState
   pub told : Tells before after [] round.tries
 
 -- An event whose step ended for want of memory, and the texts that were tried for it.
-pub record IsCutEvent (room : RoomState) (event : LinkEvent) (new : RoomState) (before after : LinksTold) : Type 0 where
+pub record IsCutEvent (room : RoomState) (event : LinkEvent) (new : RoomState) (before after : LinksEnd) : Type 0 where
   pub tries : List Try
   pub cut : IsCutShort room (Some event) new tries
   pub told : Tells before after [] tries
 
 -- One event was given and served whole.
-pub record IsServedRound (limits : RoomLimits) (now next : Serving) (before after : LinksTold) : Type 0 where
+pub record IsServedRound (limits : RoomLimits) (now next : Serving) (before after : LinksEnd) : Type 0 where
   pub round : Round
   pub within : now.opened + opening_of round.event ≤ limits.links
   pub is_round : IsRound now.room round

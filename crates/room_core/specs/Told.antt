@@ -1,12 +1,7 @@
 -- What links tell of a call: the events given, the texts sent, and those that found their link gone. This project's own.
-use Rattle.std.specs.Prelude.{◌≡◌, ℕ, ◌+◌, List, [], ◌∷◌, ◌++◌, length, map, filter, Bool, not, if◌then◌else◌, Option, IfSome, option_map}
-use Rattle.board_io.specs.declared.links.LinkEvent.{LinkEvent}
-
--- What links tell, each part where they tell it.
-pub record LinksTold : Type 0 where
-  pub given : Option (List LinkEvent)
-  pub sent : Option (List (ℕ × List ℕ))
-  pub lost : Option (List (ℕ × ℕ))
+use Rattle.std.specs.Prelude.{◌≡◌, ℕ, ◌+◌, List, [], ◌∷◌, ◌++◌, length, map, filter, Bool, not, if◌then◌else◌, IfSome, option_map}
+use Rattle.board_ends.specs.Ends.{LinksEnd}
+use Rattle.board_ends.specs.declared.links.LinkEvent.{LinkEvent}
 
 -- A text that was tried: its link, and whether it was sent; where it wasn't, the link was gone.
 pub record Try : Type 0 where
@@ -32,17 +27,13 @@ texts_lost count [] = []
 texts_lost count (try ∷ tries) = if try.is_sent then texts_lost (count + 1) tries else (count, try.link) ∷ texts_lost count tries
 
 -- Between the two the links told just these events, and of these texts just those that were sent and those that were lost.
-pub record Tells (before after : LinksTold) (events : List LinkEvent) (tries : List Try) : Type 0 where
+pub record Tells (before after : LinksEnd) (events : List LinkEvent) (tries : List Try) : Type 0 where
   pub given : after.given ≡ option_map (λ told. told ++ events) before.given
   pub sent : after.sent ≡ option_map (λ told. told ++ texts_sent tries) before.sent
   pub lost : IfSome before.sent (λ texts. after.lost ≡ option_map (λ told. told ++ texts_lost (length texts) tries) before.lost)
 
--- what these links tell
-abbrev pub told_of : {L : Type 0} → (L → Option (List LinkEvent)) → (L → Option (List (ℕ × List ℕ))) → (L → Option (List (ℕ × ℕ))) → L → LinksTold
-told_of given sent lost links = record { given = given links; sent = sent links; lost = lost links }
-
 -- Of these texts all but the rest were tried, in their order, and these links were gone.
-pub record HaveTried (before after : LinksTold) (texts : List (ℕ × List ℕ)) (gone : List ℕ) (rest : List (ℕ × List ℕ)) : Type 0 where
+pub record HaveTried (before after : LinksEnd) (texts : List (ℕ × List ℕ)) (gone : List ℕ) (rest : List (ℕ × List ℕ)) : Type 0 where
   pub tries : List Try
   pub tried : texts ≡ texts_tried tries ++ rest
   pub gone_links : links_gone tries ≡ gone

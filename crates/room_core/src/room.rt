@@ -1,13 +1,16 @@
 //! A room.
 
-ghost use Rattle.std.specs.Prelude.{◌≡◌, ◌≤◌, [], ◌∷◌, All, length, map, IfOk, OnOk, OnErr};
+ghost use Rattle.std.specs.Prelude.{◌≡◌, [], ◌∷◌, true, IfOk, OnOk, OnErr};
 ghost use Rattle.std.specs.List.Sorted.{IsStrictlyIncreasing};
+ghost use Rattle.frac_keys.specs.Rising.{are_rising};
+ghost use Rattle.elem_store.specs.Updates.{ids_of};
 ghost use Rattle.room_core.specs.Rooms.{IsRoomStep, HaveHeard, HaveTaken, text_for_each, without, with_link, message_updates};
 ghost use Rattle.room_msg.specs.Texts as texts;
 
 use crate::joined::{has_link, insert_link, other_links, remove_links};
 use crate::texts::{init_text, invalid_text, text_for};
-use board_io::{Bytes, LinkEvent, List, Stop};
+use board_base::{Bytes, List, Stop};
+use board_ends::LinkEvent;
 use elem::Element;
 use elem_store::Store;
 use reconcile::{Held, reconcile};
@@ -23,14 +26,18 @@ pub struct Room {
 }
 
 impl Model for Room {
+    ghost use Rattle.std.specs.Prelude.{◌≡◌, true};
     ghost use Rattle.std.specs.List.Sorted.{IsStrictlyIncreasing};
+    ghost use Rattle.frac_keys.specs.Rising.{are_rising};
+    ghost use Rattle.elem_store.specs.Updates.{ids_of};
     ghost use Rattle.room_core.specs.Rooms.{RoomState};
 
     ghost Value = { RoomState };
 
     ghost view = { λ r. record { elements = r.store.elements; joined = r.joined.items } };
 
-    ghost invariant = { λ r. IsStrictlyIncreasing r.joined.items };
+    ghost invariant = { λ r. IsStrictlyIncreasing r.joined.items
+        × (are_rising (ids_of r.store.elements) ≡ true) };
 }
 
 impl Room {
@@ -38,6 +45,7 @@ impl Room {
     pub fn new(alloc: Global, store: Store) -> Room
         ensures { result ≡ record { elements = store.elements; joined = [] } }
     {
+        store.tell();
         Room {
             store,
             joined: Vec::new(alloc),
@@ -76,7 +84,8 @@ impl Room {
 
     /// The stored elements. It takes no memory.
     pub fn store(&self) -> &Store
-        ensures { result.now.elements ≡ self.now.elements }
+        ensures elements { result.now.elements ≡ self.now.elements }
+        ensures rising { are_rising (ids_of self.now.elements) ≡ true }
     {
         &self.store
     }

@@ -1,9 +1,10 @@
 //! Sending the texts of a step.
 
 ghost use Rattle.std.specs.Prelude.{◌≡◌, ◌≤◌, ◌++◌, List as Items, ℕ, IfOk, OnErr, [], ◌∷◌};
-ghost use Rattle.room_core.specs.Told.{told_of, HaveTried};
+ghost use Rattle.room_core.specs.Told.{HaveTried};
 
-use board_io::{Bytes, Links, SendError};
+use board_base::Bytes;
+use board_ends::{Links, SendError};
 use std::alloc::{AllocError, Global};
 
 /// Tries each text, also after one whose link is gone, and gives the links that are gone. Want of memory ends it.
@@ -12,13 +13,14 @@ pub(crate) fn send_all<L: Links>(
     links: &mut L,
     texts: &[(u64, Bytes)],
 ) -> Result<Vec<u64>, AllocError>
-    ensures tried { IfOk result (λ gone. HaveTried (told_of L.given L.sent L.lost links.old) (told_of L.given L.sent L.lost links.new)
+    ensures tried { IfOk result (λ gone. HaveTried (L.seen links.old) (L.seen links.new)
         texts.now gone.items []) }
-    ensures cut { OnErr result ((gone : Items ℕ) × (rest : Items (ℕ × Items ℕ)) × HaveTried (told_of L.given L.sent L.lost links.old) (told_of L.given L.sent L.lost links.new)
-        texts.now gone rest) }
-    ensures port { L.port links.new ≡ L.port links.old }
-    ensures counted { L.faults links.old ≤ L.faults links.new }
-    ensures gone_counted { L.gone links.old ≤ L.gone links.new }
+    ensures cut { OnErr result ((gone : Items ℕ) × (rest : Items (ℕ × Items ℕ))
+        × HaveTried (L.seen links.old) (L.seen links.new) texts.now gone rest) }
+    ensures port { (L.seen links.new).port ≡ (L.seen links.old).port }
+    ensures listens { (L.seen links.new).listens ≡ (L.seen links.old).listens }
+    ensures counted { (L.seen links.old).faults ≤ (L.seen links.new).faults }
+    ensures gone_counted { (L.seen links.old).gone ≤ (L.seen links.new).gone }
 {
     let mut gone = Vec::new(alloc);
     for (link, text) in texts {

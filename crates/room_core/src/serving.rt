@@ -1,16 +1,15 @@
 //! A room that is served over links.
 
 ghost use Rattle.std.specs.Prelude.{◌≡◌, ℕ, ◌<◌, ◌≤◌, ◌+◌, IsTrue, IsFalse, IsSome, IfErr, OnOk, OnErr, Err, None, []};
-ghost use Rattle.board_io.specs.Counts.{Rose};
-ghost use Rattle.board_io.specs.Events.{opening_of};
+ghost use Rattle.board_ends.specs.Counts.{Rose};
+ghost use Rattle.board_ends.specs.Events.{opening_of};
 ghost use Rattle.room_core.specs.Rooms.{RoomState};
-ghost use Rattle.room_core.specs.Told.{told_of};
 ghost use Rattle.room_core.specs.Serving.{Serving, at_start, IsServed, IsServedRound, IsServedEvent, IsCutEvent, end_by, end_of, serving_of, step_count, idles_after};
 
 use crate::limits::{RoomLimits, ServeEnd};
 use crate::room::Room;
 use crate::sending::send_all;
-use board_io::{LinkError, LinkEvent, Links};
+use board_ends::{LinkError, LinkEvent, Links};
 use std::alloc::{AllocError, Global};
 
 /// Steps the room by each event that the links give, and sends the texts of each step, until something ends it. Each text
@@ -25,13 +24,14 @@ pub fn serve_room<L: Links>(
     requires idle { 1 ≤ limits.now.idle }
     requires events { 1 ≤ limits.now.events }
     requires fresh { room.old.joined ≡ [] }
-    requires listening { IsSome (L.port links.old) }
+    requires listening { IsSome (L.seen links.old).port }
     ensures served { IsServed limits.now (at_start room.old) room.new
-        (told_of L.given L.sent L.lost links.old) (told_of L.given L.sent L.lost links.new) result }
-    ensures fault { result ≡ ServeEnd.LinkFault → Rose (L.faults links.old) (L.faults links.new) }
-    ensures port { L.port links.new ≡ L.port links.old }
-    ensures counted { L.faults links.old ≤ L.faults links.new }
-    ensures gone_counted { L.gone links.old ≤ L.gone links.new }
+        (L.seen links.old) (L.seen links.new) result }
+    ensures fault { result ≡ ServeEnd.LinkFault → Rose (L.seen links.old).faults (L.seen links.new).faults }
+    ensures port { (L.seen links.new).port ≡ (L.seen links.old).port }
+    ensures listens { (L.seen links.new).listens ≡ (L.seen links.old).listens }
+    ensures counted { (L.seen links.old).faults ≤ (L.seen links.new).faults }
+    ensures gone_counted { (L.seen links.old).gone ≤ (L.seen links.new).gone }
 {
     let mut tally = Tally {
         opened: 0,
@@ -112,17 +112,18 @@ fn serve_round<L: Links>(
 ) -> Result<(), ServeEnd>
     requires running { end_of limits.now (serving_of room.old tally.old) ≡ None }
     requires within { tally.old.opened ≤ limits.now.links }
-    requires listening { IsSome (L.port links.old) }
+    requires listening { IsSome (L.seen links.old).port }
     ensures on { OnOk result (IsServedRound limits.now (serving_of room.old tally.old) (serving_of room.new tally.new)
-        (told_of L.given L.sent L.lost links.old) (told_of L.given L.sent L.lost links.new)) }
+        (L.seen links.old) (L.seen links.new)) }
     ensures ended { IfErr result (IsServed limits.now (serving_of room.old tally.old) room.new
-        (told_of L.given L.sent L.lost links.old) (told_of L.given L.sent L.lost links.new)) }
-    ensures fault { result ≡ Err ServeEnd.LinkFault → Rose (L.faults links.old) (L.faults links.new) }
+        (L.seen links.old) (L.seen links.new)) }
+    ensures fault { result ≡ Err ServeEnd.LinkFault → Rose (L.seen links.old).faults (L.seen links.new).faults }
     ensures running { OnOk result (end_of limits.now (serving_of room.new tally.new) ≡ None) }
     ensures within { OnOk result (tally.new.opened ≤ limits.now.links) }
-    ensures port { L.port links.new ≡ L.port links.old }
-    ensures counted { L.faults links.old ≤ L.faults links.new }
-    ensures gone_counted { L.gone links.old ≤ L.gone links.new }
+    ensures port { (L.seen links.new).port ≡ (L.seen links.old).port }
+    ensures listens { (L.seen links.new).listens ≡ (L.seen links.old).listens }
+    ensures counted { (L.seen links.old).faults ≤ (L.seen links.new).faults }
+    ensures gone_counted { (L.seen links.old).gone ≤ (L.seen links.new).gone }
 {
     let event = match links.next() {
         Ok(event) => event,
@@ -161,12 +162,13 @@ fn serve_event<L: Links>(
     event: &LinkEvent,
 ) -> Result<(), AllocError>
     ensures whole { OnOk result (IsServedEvent room.old event.now room.new
-        (told_of L.given L.sent L.lost links.old) (told_of L.given L.sent L.lost links.new)) }
+        (L.seen links.old) (L.seen links.new)) }
     ensures cut { OnErr result (IsCutEvent room.old event.now room.new
-        (told_of L.given L.sent L.lost links.old) (told_of L.given L.sent L.lost links.new)) }
-    ensures port { L.port links.new ≡ L.port links.old }
-    ensures counted { L.faults links.old ≤ L.faults links.new }
-    ensures gone_counted { L.gone links.old ≤ L.gone links.new }
+        (L.seen links.old) (L.seen links.new)) }
+    ensures port { (L.seen links.new).port ≡ (L.seen links.old).port }
+    ensures listens { (L.seen links.new).listens ≡ (L.seen links.old).listens }
+    ensures counted { (L.seen links.old).faults ≤ (L.seen links.new).faults }
+    ensures gone_counted { (L.seen links.old).gone ≤ (L.seen links.new).gone }
 {
     let texts = room.step(event)?;
     let gone = send_all(alloc, links, texts.as_slice())?;

@@ -8,7 +8,7 @@ ghost use Rattle.room_msg.specs.declared.message.Message.{Message};
 ghost use Rattle.room_core.specs.Rooms as rooms;
 ghost use Rattle.room_core.specs.Rooms.{text_for_each};
 
-use board_io::Bytes;
+use board_base::Bytes;
 use elem::push_element;
 use elem_store::Store;
 use json_text::push_quoted;

@@ -7,12 +7,12 @@ use Rattle.std.proofs.lemmas.Map.Made.{IsDistinct-from_count}
 use Rattle.json_text.specs.Compact.{Member as Pair, array_text, object_text}
 use Rattle.json_text.specs.Parts.{AreMembers}
 use Rattle.json_text.specs.Value.{IsCompact}
-use Rattle.json_text.proofs.CompactLaws.{Value-deeper, quote-compact, array-compact, object-compact}
+use Rattle.json_text.proofs.CallerLemmas.{Value-deeper, quote-compact, array-compact, object-compact}
 use Rattle.elem.specs.ElementValue.{ElementValue}
 use Rattle.elem.specs.Texts.{element_text}
-use Rattle.elem.proofs.Saying.{literal}
+use Rattle.elem.proofs.CallerLemmas.{literal}
 use Rattle.elem_read.specs.Reading.{IsWholeElement}
-use Rattle.elem_read.proofs.ReadElements.{AreRead-texts}
+use Rattle.elem_read.proofs.CallerLemmas.{AreRead-texts}
 use Rattle.room_msg.specs.Messages.{init_tag, update_tag, HasElements, StandsAlone, IsReadAs, IsWholeMessage}
 use Rattle.room_msg.specs.Texts.{tagged_members, message_text}
 use Rattle.room_msg.specs.declared.message.Message.{Message}

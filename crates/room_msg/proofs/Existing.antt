@@ -8,16 +8,13 @@ use Rattle.json_text.specs.Parts.{AreMembers}
 use Rattle.json_text.specs.Value.{IsCompact}
 use Rattle.json_reader.specs.declared.fault.JsonFault.TheVariants.{Syntax}
 use Rattle.scene_json.specs.Named.{value_at}
-use Rattle.json_text.proofs.Collapsed.{bytes_eq-true, bytes_eq-same}
-use Rattle.json_text.proofs.CompactLaws.{Value-compact}
-use Rattle.json_text.proofs.Forms.{array-or-not, object-or-not}
-use Rattle.json_reader.proofs.Outcomes.{value-or-fault}
+use Rattle.json_text.proofs.CallerLemmas.{bytes_eq-true, bytes_eq-same, Value-compact, array-or-not, object-or-not}
+use Rattle.json_reader.proofs.CallerLemmas.{value-or-fault}
 use Rattle.elem.specs.ElementValue.{ElementValue}
 use Rattle.elem.specs.Forms.{IsObject}
-use Rattle.elem.proofs.FormsOnce.{members-once}
+use Rattle.elem.proofs.CallerLemmas.{members-once}
 use Rattle.elem_read.specs.Elements.{AreRead}
-use Rattle.elem_read.proofs.Decided.{Decided, Fits, fits-in, text-or-not}
-use Rattle.elem_read.proofs.ReadElements.{read-or-faulty, All-whole}
+use Rattle.elem_read.proofs.CallerLemmas.{Decided, Fits, fits-in, text-or-not, read-or-faulty, All-whole}
 use Rattle.room_msg.specs.Messages.{init_tag, update_tag, HasTag, HasPayload, IsMessageOf, IsMessageFault, IsPayloadFault, StandsAlone, IsReadAs, IsWholeMessage}
 use Rattle.room_msg.specs.declared.fault.MsgFault.{MsgFault}
 use Rattle.room_msg.specs.declared.fault.MsgFault.TheVariants.{Json, NotObject, Tag, Payload, Element}

@@ -4,3 +4,4 @@ pub mod Existing
 pub mod Once
 pub mod Told
 pub mod Written
+pub mod CallerLemmas

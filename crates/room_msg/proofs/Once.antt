@@ -9,15 +9,14 @@ use Rattle.json_reader.specs.Faults.{IsFirstFault}
 use Rattle.json_reader.specs.declared.fault.JsonFault.{JsonFault}
 use Rattle.json_reader.specs.declared.fault.JsonFault.TheVariants.{Syntax}
 use Rattle.scene_json.specs.Named.{value_at}
-use Rattle.json_text.proofs.Reading.{Stands-once}
-use Rattle.json_reader.proofs.FirstFaults as json
+use Rattle.json_text.proofs.CallerLemmas.{Stands-once}
+use Rattle.json_reader.proofs.CallerLemmas as json
 use Rattle.elem.specs.ElementValue.{ElementValue}
 use Rattle.elem.specs.Forms.{IsObject}
-use Rattle.elem.proofs.FormsOnce.{text-once, members-once}
-use Rattle.elem.proofs.Once.{array-once}
+use Rattle.elem.proofs.CallerLemmas.{text-once, members-once, array-once}
 use Rattle.elem_read.specs.Elements.{AreRead, IsFirstFaulty}
 use Rattle.elem_read.specs.declared.fault.ElemFault.{ElemFault}
-use Rattle.elem_read.proofs.ReadElements.{read-once, faulty-once, faultless}
+use Rattle.elem_read.proofs.CallerLemmas.{read-once, faulty-once, faultless}
 use Rattle.room_msg.specs.Messages.{init_tag, update_tag, HasTag, HasPayload, IsMessageOf, IsMessageFault, StandsAlone, HasMore, IsReadAs}
 use Rattle.room_msg.specs.declared.fault.MsgFault.{MsgFault}
 use Rattle.room_msg.specs.declared.fault.MsgFault.TheVariants.{Json, NotObject, Tag, Payload, Element}

@@ -5,7 +5,7 @@ use Rattle.json_text.specs.Characters.{quote}
 use Rattle.json_text.specs.Compact.{Member as Pair}
 use Rattle.scene_json.specs.Named.{value_at}
 use Rattle.elem.specs.Forms.{IsObject}
-use Rattle.elem.proofs.Saying.{literal}
+use Rattle.elem.proofs.CallerLemmas.{literal}
 use Rattle.room_msg.specs.Messages.{init_tag, update_tag, HasTag, IsPresence, IsPayloadFault, IsMessageFault, StandsAlone, IsReadAs}
 use Rattle.room_msg.specs.declared.fault.MsgFault.{MsgFault}
 use Rattle.room_msg.specs.declared.fault.MsgFault.TheVariants.{Json, NotObject, Tag, Payload, Element}

@@ -1,6 +1,6 @@
 //! A message.
 
-use board_io::List;
+use board_base::List;
 use elem::Element;
 use json_text::Raw;
 

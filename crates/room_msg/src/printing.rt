@@ -6,7 +6,7 @@ ghost use Rattle.room_msg.specs.Texts as texts;
 ghost use Rattle.room_msg.specs.Texts.{tagged_members};
 
 use crate::message::Message;
-use board_io::{Bytes, List};
+use board_base::{Bytes, List};
 use elem::{Element, push_elements};
 use json_text::push_quoted;
 use std::alloc::{AllocError, Global};

@@ -9,7 +9,7 @@ ghost use Rattle.room_msg.specs.declared.fault.MsgFault.{MsgFault};
 
 use crate::fault::MsgFault;
 use crate::message::Message;
-use board_io::{List, Stop};
+use board_base::{List, Stop};
 use elem::Element;
 use elem_read::read_elements;
 use json_reader::{JsonFault, scan};

@@ -2,7 +2,7 @@
 use Rattle.std.proofs.Common.{◌≡◌, ℕ, Bool, true, false, ◌&&◌, if◌then◌else◌, List, [], ◌∷◌, Option, Some, None, IsSome, Result, Ok, Err, OnOk, OnErr, IfErr, Contains, refl, sym, ap, ◌∙◌, subst, inl, inr, arith}
 use Rattle.std.proofs.lemmas.List.Elements.{Contains-push_cases}
 use Rattle.std.proofs.lemmas.Option.{none-some}
-use Rattle.board_io.specs.declared.stop.Stop.{Stop}
+use Rattle.board_base.specs.declared.stop.Stop.{Stop}
 use Rattle.elem.specs.ElementValue.{ElementValue}
 use Rattle.elem.specs.Order.{has_id}
 use Rattle.elem_store.specs.Updates.{HasTaken, is_taken, element_of}
@@ -13,10 +13,10 @@ use Rattle.history.specs.declared.planned.HistoryStep.{HistoryStep}
 use Rattle.history.specs.declared.step.Step.{Step}
 use Rattle.history.specs.declared.step.Step.TheVariants.{Done, Nothing}
 use Rattle.history.specs.Stacks.{Stacks, HasStoredIds, HaveStoredIds, HasUndone, HasRedone, noted, with_entry, redo_left, put_step}
-use Rattle.history.proofs.StepLaws.{ids-stored, ids-taken}
+use Rattle.history.proofs.CallerLemmas.{ids-stored, ids-taken}
 use Rattle.snapshot.specs.Pending.{pairs_since}
 use Rattle.snapshot.specs.Touched.{AreUntouched, HasTouched}
-use Rattle.snapshot.proofs.StoredLaws.{since-stored}
+use Rattle.snapshot.proofs.CallerLemmas.{since-stored}
 use Rattle.rows.specs.Desks.{IsDesk}
 
 -- what follows from what holds where a call succeeds, and from what holds where it fails

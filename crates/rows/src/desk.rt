@@ -2,7 +2,7 @@
 
 use crate::samples::framed;
 use crate::told::{push_element, push_entry, push_pending, push_stacks};
-use board_io::{List, Stop};
+use board_base::{List, Stop};
 use delta::{Entry, VersionFull};
 use elem::Element;
 use elem_store::Store;

@@ -2,9 +2,10 @@
 
 ghost use Rattle.std.specs.Prelude.{◌≤◌, ◌<◌, IfOk};
 
-use board_io::{
-    Bytes, Failed, LinkError, LinkEvent, Links, List, MemSink, MemSource, ReadError, ScriptLinks,
-    SendError, Sink, Source, StdSink, StdSource, Stop, read_all, write_all,
+use board_base::{Bytes, List, Stop};
+use board_ends::{
+    Failed, LinkError, LinkEvent, Links, MemSink, MemSource, ReadError, ScriptLinks, SendError,
+    Sink, Source, StdSink, StdSource, read_all, write_all,
 };
 use std::alloc::{AllocError, Global};
 use std::io;

@@ -4,7 +4,7 @@ ghost use Rattle.std.specs.Prelude.{◌≡◌, Some};
 ghost use Rattle.frac_keys.specs.Keys.{bytes_less};
 ghost use Rattle.index_repair.specs.Repair.{are_below, is_below};
 
-use board_io::List;
+use board_base::List;
 use frac_keys::{Key, n_between};
 use index_repair::repair_part;
 use std::alloc::Global;

@@ -2,6 +2,8 @@
 #![tactic(auto)]
 
 #[cfg(test)]
+mod breaches;
+#[cfg(test)]
 mod copies;
 #[cfg(test)]
 mod desk;

@@ -1,6 +1,6 @@
 //! Elements by their texts.
 
-use board_io::List;
+use board_base::List;
 use elem::Element;
 use elem_read::read_element;
 use json_reader::scan;

@@ -2,7 +2,8 @@
 
 ghost use Rattle.std.specs.Prelude.{IsSome};
 
-use board_io::{Bytes, LinkError, LinkEvent, Links, SendError};
+use board_base::Bytes;
+use board_ends::{LinkError, LinkEvent, Links, SendError};
 use mio::net::TcpStream;
 use std::alloc::Global;
 use std::io::{ErrorKind, Write};
@@ -14,23 +15,23 @@ use tungstenite::{
 };
 use ws_links::WsLinks;
 
-/// How many turns something may take to come. Each past the first 10,000 takes a millisecond.
-const PATIENCE: usize = 20_000;
+/// How many turns something may take to come. Each in which nothing comes takes a millisecond.
+pub(crate) const PATIENCE: usize = 10_000;
 
 /// How many turns are taken to see that nothing comes.
 const QUIET: usize = 1_000;
 
 /// Links that listen.
 #[derive(Drop)]
-struct Host<R> {
-    alloc: Global,
-    port: u16,
+pub(crate) struct Host<R> {
+    pub(crate) alloc: Global,
+    pub(crate) port: u16,
     links: WsLinks<R>,
     ghost listens: { IsSome links.port },
 }
 
 /// Links on the first free port of some.
-fn listen<R: Net + Clock + Drop>(alloc: Global, handle: R) -> Option<Host<R>> {
+pub(crate) fn listen<R: Net + Clock + Drop>(alloc: Global, handle: R) -> Option<Host<R>> {
     let Ok(mut links) = WsLinks::new(alloc, handle) else {
         return None;
     };
@@ -47,14 +48,14 @@ impl<R: Net + Clock + Drop> Host<R> {
         self.links.next()
     }
 
-    fn send(&mut self, link: u64, bytes: &[u8]) -> Result<(), SendError> {
+    pub(crate) fn send(&mut self, link: u64, bytes: &[u8]) -> Result<(), SendError> {
         match Bytes::from_slice(self.alloc, bytes) {
             Ok(text) => self.links.send(link, &text),
             Err(_) => Err(SendError::Memory),
         }
     }
 
-    fn is_idle(&mut self) -> bool {
+    pub(crate) fn is_idle(&mut self) -> bool {
         matches!(self.next(), Ok(LinkEvent::Idle))
     }
 
@@ -93,7 +94,7 @@ impl<R: Net + Clock + Drop> Host<R> {
         }
     }
 
-    fn closes(&mut self, number: u64) -> bool {
+    pub(crate) fn closes(&mut self, number: u64) -> bool {
         match self.event() {
             Some(LinkEvent::Closed(link)) => link == number,
             _ => false,
@@ -103,7 +104,7 @@ impl<R: Net + Clock + Drop> Host<R> {
 
 /// Masks all its frames alike.
 #[derive(Drop)]
-struct OneKey;
+pub(crate) struct OneKey;
 
 impl MaskKeys for OneKey {
     fn next_key(&mut self) -> [u8; 4] {
@@ -111,7 +112,7 @@ impl MaskKeys for OneKey {
     }
 }
 
-type Client = WebSocket<TcpStream, OneKey>;
+pub(crate) type Client = WebSocket<TcpStream, OneKey>;
 
 type Asking = MidHandshake<ClientHandshake<TcpStream, OneKey>>;
 
@@ -150,7 +151,11 @@ fn answered<R: Net + Clock + Drop>(host: &mut Host<R>, asking: Asking) -> Option
 }
 
 /// A client that has joined as this link.
-fn join<R: Net + Clock + Drop>(host: &mut Host<R>, net: &impl Net, link: u64) -> Option<Client> {
+pub(crate) fn join<R: Net + Clock + Drop>(
+    host: &mut Host<R>,
+    net: &impl Net,
+    link: u64,
+) -> Option<Client> {
     let asking = ask(host.alloc, net, host.port)?;
     if host.opens(link) {
         answered(host, asking)
@@ -185,7 +190,10 @@ fn has_nothing(client: &mut Client) -> bool {
 }
 
 /// The next message to the client, while no link has an event.
-fn told<R: Net + Clock + Drop>(host: &mut Host<R>, client: &mut Client) -> Option<Message> {
+pub(crate) fn told<R: Net + Clock + Drop>(
+    host: &mut Host<R>,
+    client: &mut Client,
+) -> Option<Message> {
     for _ in 0..PATIENCE {
         match read(client) {
             Ok(message) => return Some(message),
@@ -199,7 +207,7 @@ fn told<R: Net + Clock + Drop>(host: &mut Host<R>, client: &mut Client) -> Optio
     None
 }
 
-fn is_text(message: Option<Message>, text: &str) -> bool {
+pub(crate) fn is_text(message: Option<Message>, text: &str) -> bool {
     match message {
         Some(Message::Text(got)) => got.as_str() == text,
         _ => false,
@@ -217,12 +225,12 @@ fn is_pong(message: Option<Message>) -> bool {
     matches!(message, Some(message) if message.is_pong())
 }
 
-fn is_close(message: Option<Message>) -> bool {
+pub(crate) fn is_close(message: Option<Message>) -> bool {
     matches!(message, Some(message) if message.is_close())
 }
 
 /// Whether the message leaves the client.
-fn says(client: &mut Client, message: Option<Message>) -> bool {
+pub(crate) fn says(client: &mut Client, message: Option<Message>) -> bool {
     match message {
         Some(message) => client.send(message).is_ok(),
         None => false,
@@ -230,7 +238,7 @@ fn says(client: &mut Client, message: Option<Message>) -> bool {
 }
 
 /// Whether these bytes leave the client as they are.
-fn writes(client: &mut Client, bytes: &[u8]) -> bool {
+pub(crate) fn writes(client: &mut Client, bytes: &[u8]) -> bool {
     match client.get_mut().write(bytes) {
         Ok(count) => count == bytes.len(),
         Err(_) => false,

@@ -3,7 +3,7 @@
 ghost use Rattle.std.specs.Prelude.{◌≤◌, length, IsTrue};
 
 use crate::samples::element;
-use board_io::List;
+use board_base::List;
 use json_text::Text;
 use links::{LinkRow, LinkTable, rows_of};
 use std::alloc::Global;

@@ -1,6 +1,6 @@
 //! JSON values that are made.
 
-use board_io::List;
+use board_base::List;
 use json_text::{Raw, Text, push_quoted};
 use scene_json::{push_member, push_whole, raw_array, raw_null, raw_text, raw_truth, raw_whole};
 use std::alloc::Global;

@@ -10,12 +10,12 @@ use Rattle.json_text.specs.Compact.{Member as Pair, array_text}
 use Rattle.json_text.specs.Parts.{AreMembers, names_of}
 use Rattle.json_text.specs.Tree.{null_word}
 use Rattle.json_text.specs.Value.{IsCompact}
-use Rattle.json_text.proofs.Collapsed.{bytes_eq-true}
+use Rattle.json_text.proofs.CallerLemmas.{bytes_eq-true}
 use Rattle.scene_json.specs.Named.{value_at, AreSameMembers}
-use Rattle.scene_json.proofs.Lookups.{distinct_moved, same_moved}
+use Rattle.scene_json.proofs.CallerLemmas.{distinct_moved, same_moved}
 use Rattle.scene_file.specs.Heads.{Heading}
 use Rattle.scene_file.specs.Reading.{value_unless_null, HasItems, HasMembers, IsSource, IsHeadOf}
-use Rattle.scene_file.specs.Taken.{AreItemsRead}
+use Rattle.scene_file.specs.inner.Taken.{AreItemsRead}
 use Rattle.scene_file.proofs.Nesting.{value_unless_null-found}
 
 abbrev pub elements : List ℕ

@@ -4,7 +4,7 @@ use Rattle.std.proofs.lemmas.Bool.{and_parts, both_ways}
 use Rattle.std.proofs.lemmas.List.Folds.{list_all-append}
 use Rattle.json_text.specs.Characters.{is_blank, is_space}
 use Rattle.json_text.specs.Value.{Stands}
-use Rattle.json_text.proofs.Reading.{Head, begins_value, tree-Head, begins-no-space}
+use Rattle.json_text.proofs.CallerLemmas.{Head, begins_value, tree-Head, begins-no-space}
 
 -- white space, then the first byte of a value
 stands-parts : (bytes text rest : List ℕ) (s : Stands bytes text rest) → (h : Head begins_value s.value) × (bytes ≡ s.blank ++ (h.first ∷ (h.more ++ rest)))

@@ -7,17 +7,14 @@ use Rattle.json_text.specs.Parts.{AreMembers, names_of}
 use Rattle.json_text.specs.Tree.{null_word}
 use Rattle.json_text.specs.Value.{IsCompact, Stands}
 use Rattle.scene_json.specs.Named.{value_at, AreSameMembers, HaveRisingNames}
-use Rattle.json_text.proofs.Collapsed.{bytes_eq-true, bytes_eq-same}
-use Rattle.json_text.proofs.CompactLaws.{Value-compact}
-use Rattle.json_text.proofs.Forms.{array-or-not, object-or-not}
-use Rattle.json_reader.proofs.Outcomes.{value-or-fault}
-use Rattle.scene_json.proofs.Rising.{tabled}
+use Rattle.json_text.proofs.CallerLemmas.{bytes_eq-true, bytes_eq-same, Value-compact, array-or-not, object-or-not}
+use Rattle.json_reader.proofs.CallerLemmas.{value-or-fault}
+use Rattle.scene_json.proofs.CallerLemmas.{tabled}
 use Rattle.elem.specs.Forms.{find_in, IsText, IsObject}
-use Rattle.elem.proofs.FormsOnce.{text-once}
-use Rattle.elem_read.proofs.Decided.{Decided, Fits, fits-in, text-or-not, unpaired, pairs-unpaired, not-named}
-use Rattle.elem_read.proofs.ReadElements.{read-or-faulty}
+use Rattle.elem.proofs.CallerLemmas.{text-once}
+use Rattle.elem_read.proofs.CallerLemmas.{Decided, Fits, fits-in, text-or-not, unpaired, pairs-unpaired, not-named, read-or-faulty}
 use Rattle.file_table.specs.Table.{AreLeastEntries}
-use Rattle.file_table.proofs.Tabled.{files-exist}
+use Rattle.file_table.proofs.CallerLemmas.{files-exist}
 use Rattle.scene_file.specs.Heads.{Heading, IsJoinedHead, least_source, settings_of, files_of}
 use Rattle.scene_file.specs.Reading.{value_unless_null, HasItems, HasMembers, IsSource, IsScene, loaded, IsHeadOf, IsSceneOf, IsSceneFault, IsSceneAt, IsSceneFaultAt}
 use Rattle.scene_file.specs.declared.scene.Scene.{Scene}

@@ -1,5 +1,5 @@
 -- What holds of read scenes and of their joined head, so that the text of a scene of theirs has each layout.
-use Rattle.std.proofs.Common.{◌≡◌, ℕ, Bool, true, false, List, [], ◌∷◌, ◌++◌, map, flat_map, get_or, Option, Some, None, IfSome, bytes_eq, codes, if◌then◌else◌, is_some, refl, sym, subst, ◌∙◌, inl, inr, lit≤, IsUtf8}
+use Rattle.std.proofs.Common.{lit≤, ◌≡◌, ℕ, Bool, true, false, List, [], ◌∷◌, ◌++◌, map, flat_map, get_or, Option, Some, None, IfSome, bytes_eq, codes, if◌then◌else◌, is_some, refl, sym, subst, ◌∙◌, inl, inr, IsUtf8}
 use Rattle.std.specs.List.{AllByRecursion, IsDistinct, cons_option, list_all}
 use Rattle.std.specs.Option.{option_map}
 use Rattle.std.proofs.lemmas.List.Elements.{All-from_recursion, All-contains, All-contains_itself, recursion_from_All}
@@ -11,31 +11,25 @@ use Rattle.json_text.specs.Tree.{spelling}
 use Rattle.json_text.specs.Value.{IsCompact}
 use Rattle.scene_json.specs.Layout.{laid_out}
 use Rattle.scene_json.specs.Named.{value_at, HaveRisingNames}
-use Rattle.json_text.proofs.CompactLaws.{quote-compact, literal-compact, object-compact}
-use Rattle.scene_json.proofs.Lookups.{rising_distinct}
+use Rattle.json_text.proofs.CallerLemmas.{quote-compact, literal-compact, object-compact, IsDistinct-first_texts}
+use Rattle.scene_json.proofs.CallerLemmas.{rising_distinct}
 use Rattle.index_repair.specs.Repair.{repaired}
 use Rattle.frac_keys.specs.Keys.{bytes_less}
-use Rattle.first_texts.specs.FirstOccurrences.{first_texts}
-use Rattle.first_texts.proofs.FirstLaws.{IsDistinct-first_texts}
+use Rattle.json_text.specs.FirstOccurrences.{first_texts}
 use Rattle.elem.specs.ElementValue.{ElementValue}
 use Rattle.elem.specs.Forms.{find_in}
 use Rattle.elem.specs.Texts.{element_members, element_text, text_or_null}
-use Rattle.elem.proofs.Saying.{element-are}
+use Rattle.elem.proofs.CallerLemmas.{element-are, IsKept, AreKept}
 use Rattle.elem_read.specs.Elements.{AreRead}
 use Rattle.elem_read.specs.Reading.{IsElementIn}
-use Rattle.elem_read.proofs.Keeping.{AllFound, found-has, found-self, object-nests, says-element, says-written}
-use Rattle.elem_read.proofs.Whole.{restored-nest, restored-named}
+use Rattle.elem_read.proofs.CallerLemmas.{AllFound, found-has, found-self, object-nests, says-element, says-written, restored-nest, restored-named}
 use Rattle.file_table.specs.References.{references, referred_files}
 use Rattle.file_table.specs.Table.{AreLeastEntries}
-use Rattle.file_table.proofs.Least.{least-is}
-use Rattle.file_table.proofs.Referred.{found, IsDistinct-found}
-use Rattle.view.specs.Settled.{AreSettled}
-use Rattle.view.specs.Shown.{index_of, keyed, live_elements, shown, HaveRisingKeys}
-use Rattle.view.proofs.Kept.{IsKept, AreKept, kept-keys, live-kept, repaired-kept, shown-kept}
-use Rattle.view.proofs.ShownLaws.{live_elements-rise, HaveDistinctIds-rising, shown-keys, shown-settled}
+use Rattle.file_table.proofs.CallerLemmas.{least-is, found, IsDistinct-found}
+use Rattle.index_repair.specs.Keyed.{index_of, keyed}
+use Rattle.index_repair.proofs.CallerLemmas.{repaired-kept}
 use Rattle.elem_store.specs.Updates.{is_best, AreStored}
-use Rattle.elem_store.proofs.Lists.{filter-Contains}
-use Rattle.elem_store.proofs.StoreLaws.{AreStored-best}
+use Rattle.elem_store.proofs.CallerLemmas.{filter-Contains, AreStored-best}
 use Rattle.scene_file.specs.Heads.{Heading, IsJoinedHead, lesser_source, least_source, settings_of, files_of}
 use Rattle.scene_file.specs.Layouts.{IsWrittenIn}
 use Rattle.scene_file.specs.Reading.{IsSource, loaded, IsHeadOf, IsSceneOf}
@@ -73,7 +67,7 @@ pub record Fits (name value : List ℕ) : Type 0 where
   pub named : IsUtf8 name
   pub nests : IsCompact 126 value
 
-abbrev AllFit : List Pair → Type 0
+abbrev pub AllFit : List Pair → Type 0
 AllFit ms = AllByRecursion (λ (m : Pair). Fits m.0 m.1) ms
 
 -- The source is a text, and the settings and the files are members that nest at most 126.
@@ -181,7 +175,7 @@ elements-compact [] all = tt
 elements-compact (e ∷ elements) all = (element-compact e all.0, elements-compact elements all.1)
 
 -- the files that are named
-referred-fit : (files : List Pair) (ids : List (List ℕ)) → AllFit files → AllFit (found files ids)
+pub referred-fit : (files : List Pair) (ids : List (List ℕ)) → AllFit files → AllFit (found files ids)
 referred-fit files [] all = tt
 referred-fit files (id ∷ ids) all = by (value_at id files) (λ entry e. found-has Fits files all id entry e) (referred-fit files ids all)
   where
@@ -190,7 +184,7 @@ referred-fit files (id ∷ ids) all = by (value_at id files) (λ entry e. found-
     by None each rest = rest
     by (Some entry) each rest = (each entry refl, rest)
 
-scene-text-compact : (head : Heading) (elements : List ElementValue) → IsFit head → HaveRisingNames (pairs head.app_state) → AreKept elements → IsCompact 128 (scene_text head elements)
+pub scene-text-compact : (head : Heading) (elements : List ElementValue) → IsFit head → HaveRisingNames (pairs head.app_state) → AreKept elements → IsCompact 128 (scene_text head elements)
 scene-text-compact head elements fit rise kept =
     let ids = first_texts (references elements) in
     let files = members-fit (found head.files ids) (IsDistinct-found head.files ids (IsDistinct-first_texts (references elements))) (referred-fit head.files ids fit.files) in
@@ -203,15 +197,15 @@ pub written-exists : (layout : Layout) (text : List ℕ) → IsCompact 128 text 
 written-exists Compact text is = (text, refl)
 written-exists Pretty text is = (spelling (laid_out 0 is.tree), record { tree = is.tree; good = is.good; spells = is.spells; laid = refl })
 
--- ---- what is shown of read scenes
+-- ---- what is stored of read scenes
 abbrev pub HasText : Scene → Type 0
 HasText scene = (text : List ℕ) × IsSceneOf text scene
 
-all-sound : (scenes : List Scene) → AllByRecursion HasText scenes → AllByRecursion IsSound scenes
+pub all-sound : (scenes : List Scene) → AllByRecursion HasText scenes → AllByRecursion IsSound scenes
 all-sound [] all = tt
 all-sound (scene ∷ scenes) all = (scene-sound all.0.0 scene all.0.1, all-sound scenes all.1)
 
-heads-fit : (scenes : List Scene) → AllByRecursion IsSound scenes → AllByRecursion IsFit (map (λ (scene : Scene). scene.head) scenes)
+pub heads-fit : (scenes : List Scene) → AllByRecursion IsSound scenes → AllByRecursion IsFit (map (λ (scene : Scene). scene.head) scenes)
 heads-fit [] all = tt
 heads-fit (scene ∷ scenes) all = (all.0.head, heads-fit scenes all.1)
 
@@ -219,38 +213,13 @@ append-kept : (es fs : List ElementValue) → AreKept es → AreKept fs → AreK
 append-kept [] fs first second = second
 append-kept (e ∷ es) fs first second = (first.0, append-kept es fs first.1 second)
 
-updates-kept : (scenes : List Scene) → AllByRecursion IsSound scenes → AreKept (flat_map (λ (scene : Scene). scene.elements) scenes)
+pub updates-kept : (scenes : List Scene) → AllByRecursion IsSound scenes → AreKept (flat_map (λ (scene : Scene). scene.elements) scenes)
 updates-kept [] all = tt
 updates-kept (scene ∷ scenes) all = append-kept scene.elements (flat_map (λ (scene : Scene). scene.elements) scenes) all.0.elements (updates-kept scenes all.1)
 
 -- stored elements are updates
-stored-kept : (updates stored : List ElementValue) → AreKept updates → AreStored updates stored → AreKept stored
+pub stored-kept : (updates stored : List ElementValue) → AreKept updates → AreStored updates stored → AreKept stored
 stored-kept updates stored all are =
     recursion_from_All IsKept stored (λ i e within.
     All-contains IsKept updates (get_or stored i e) (All-from_recursion IsKept updates all)
     (filter-Contains (is_best updates (get_or stored i e).id) updates (get_or stored i e) (AreStored-best updates stored (get_or stored i e) are (All-contains_itself stored i e within))).0)
-
-module _ (scenes : List Scene) (head : Heading) (stored : List ElementValue) (read : AllByRecursion HasText scenes)
-    (joined : IsJoinedHead (map (λ (scene : Scene). scene.head) scenes) head) (are : AreStored (flat_map (λ (scene : Scene). scene.elements) scenes) stored) where
-  live-are-kept : AreKept (live_elements stored)
-  live-are-kept = live-kept stored (stored-kept (flat_map (λ (scene : Scene). scene.elements) scenes) stored (updates-kept scenes (all-sound scenes read)) are)
-
-  pub shown-rise : HaveRisingKeys (shown (live_elements stored))
-  shown-rise = shown-keys (live_elements stored) (kept-keys (live_elements stored) live-are-kept)
-
-  pub shown-agree : AreSettled (shown (live_elements stored))
-  shown-agree =
-      shown-settled (live_elements stored) (HaveDistinctIds-rising (live_elements stored) (live_elements-rise stored are.ordered)) (kept-keys (live_elements stored) live-are-kept)
-
-  fits : IsFit head
-  fits = joined-fits (map (λ (scene : Scene). scene.head) scenes) head (heads-fit scenes (all-sound scenes read)) joined
-
-  pub shown-compact : IsCompact 128 (scene_text head (shown (live_elements stored)))
-  shown-compact = scene-text-compact head (shown (live_elements stored)) fits joined.app_state.ordered (shown-kept (live_elements stored) live-are-kept)
-
-  pub shown-files : AllByRecursion (λ (file : Pair). IsCompact 126 file.1) (referred_files head.files (shown (live_elements stored)))
-  shown-files = nest (referred_files head.files (shown (live_elements stored))) (referred-fit head.files (first_texts (references (shown (live_elements stored)))) fits.files)
-    where
-      nest : (files : List Pair) → AllFit files → AllByRecursion (λ (file : Pair). IsCompact 126 file.1) files
-      nest [] all = tt
-      nest (file ∷ files) all = (all.0.nests, nest files all.1)

@@ -5,7 +5,7 @@ use Rattle.json_text.specs.Compact.{Member as Pair, object_text}
 use Rattle.json_text.specs.Parts.{AreMembers}
 use Rattle.scene_json.specs.Named.{value_at}
 use Rattle.elem.specs.Forms.{IsObject}
-use Rattle.elem.proofs.Saying.{literal}
+use Rattle.elem.proofs.CallerLemmas.{literal}
 use Rattle.scene_file.specs.Reading.{IsScene}
 
 pub is-object : (value : List ℕ) (members : List Pair) → value ≡ object_text members → AreMembers 127 members → IsObject value members

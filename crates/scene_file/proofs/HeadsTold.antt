@@ -7,7 +7,7 @@ use Rattle.scene_json.specs.Named.{value_at, AreSameMembers, HaveRisingNames}
 use Rattle.scene_json.specs.TheOne.{IsTheOne}
 use Rattle.elem.specs.Forms.{IsText}
 use Rattle.file_table.specs.Table.{AreLeastEntries}
-use Rattle.file_table.proofs.Least.{least-distinct}
+use Rattle.file_table.proofs.CallerLemmas.{least-distinct}
 use Rattle.scene_file.specs.Heads.{Heading}
 use Rattle.scene_file.specs.Reading.{value_unless_null, HasMembers, IsSource, IsHeadOf}
 

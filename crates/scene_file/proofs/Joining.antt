@@ -12,10 +12,10 @@ use Rattle.json_text.specs.Compact.{Member as Pair}
 use Rattle.json_text.specs.Members.{pairs, pair_of}
 use Rattle.json_text.specs.declared.text.Member.{Member}
 use Rattle.scene_json.specs.Named.{HaveRisingNames}
-use Rattle.scene_json.proofs.Lookups.{rising_from, rising_none}
+use Rattle.scene_json.proofs.CallerLemmas.{rising_from, rising_none}
 use Rattle.frac_keys.specs.Keys.{bytes_less}
 use Rattle.file_table.specs.Table.{AreLeastEntries}
-use Rattle.file_table.proofs.Least.{AreLeastEntries-join, AreLeastEntries-own}
+use Rattle.file_table.proofs.CallerLemmas.{AreLeastEntries-join, AreLeastEntries-own}
 use Rattle.scene_file.specs.Heads.{Heading, lesser_source, least_source, IsJoinedHead}
 
 -- ---- sources

@@ -15,3 +15,4 @@ pub mod SceneTexts
 pub mod Sound
 pub mod Values
 pub mod WholeScenes
+pub mod CallerLemmas

@@ -9,16 +9,15 @@ use Rattle.json_text.specs.Compact.{Member as Pair}
 use Rattle.json_text.specs.Parts.{AreMembers}
 use Rattle.json_text.specs.Value.{IsCompact}
 use Rattle.scene_json.specs.Named.{value_at, AreSameMembers, HaveRisingNames}
-use Rattle.json_text.proofs.Collapsed.{bytes_eq-true, bytes_eq-same}
-use Rattle.scene_json.proofs.Lookups.{IsBelow, rising_parts, rising_from, rising_none}
-use Rattle.first_texts.specs.FirstOccurrences.{first_texts}
-use Rattle.first_texts.proofs.FirstLaws.{IsDistinct-first_texts, Contains-first_texts}
+use Rattle.json_text.proofs.CallerLemmas.{bytes_eq-true, bytes_eq-same, IsDistinct-first_texts, Contains-first_texts}
+use Rattle.scene_json.proofs.CallerLemmas.{IsBelow, rising_parts, rising_from, rising_none}
+use Rattle.json_text.specs.FirstOccurrences.{first_texts}
 use Rattle.elem.specs.ElementValue.{ElementValue}
 use Rattle.elem.specs.Forms.{find_in}
-use Rattle.elem_read.proofs.Keeping.{AllFound, found-has}
-use Rattle.elem_store.proofs.Lists.{list_any-false}
+use Rattle.elem_read.proofs.CallerLemmas.{AllFound, found-has}
+use Rattle.elem_store.proofs.CallerLemmas.{list_any-false}
 use Rattle.file_table.specs.References.{references, referred_files}
-use Rattle.file_table.proofs.Referred.{found, none-either, referred-at, IsDistinct-found}
+use Rattle.file_table.proofs.CallerLemmas.{found, none-either, referred-at, IsDistinct-found}
 
 -- ---- members of names that pass
 abbrev passed : (List ℕ → Bool) → List Pair → List Pair

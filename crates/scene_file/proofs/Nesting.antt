@@ -8,7 +8,7 @@ use Rattle.json_text.specs.Tree.{null_word}
 use Rattle.json_text.specs.Value.{IsCompact}
 use Rattle.json_text.specs.declared.text.Member.{Member}
 use Rattle.scene_json.specs.Named.{value_at}
-use Rattle.elem_read.proofs.Keeping.{found-has, object-nests}
+use Rattle.elem_read.proofs.CallerLemmas.{found-has, object-nests}
 use Rattle.file_table.specs.Table.{EntriesNest}
 use Rattle.scene_file.specs.Reading.{value_unless_null, HasMembers}
 

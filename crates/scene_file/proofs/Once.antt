@@ -8,16 +8,15 @@ use Rattle.json_text.specs.declared.text.Member.{Member}
 use Rattle.json_reader.specs.Faults.{IsFirstFault}
 use Rattle.json_reader.specs.declared.fault.JsonFault.{JsonFault}
 use Rattle.scene_json.specs.Named.{value_at}
-use Rattle.json_text.proofs.Reading.{Stands-once}
-use Rattle.json_reader.proofs.FirstFaults as json
-use Rattle.scene_json.proofs.Lookups.{rising_same}
+use Rattle.json_text.proofs.CallerLemmas.{Stands-once}
+use Rattle.json_reader.proofs.CallerLemmas as json
+use Rattle.scene_json.proofs.CallerLemmas.{rising_same}
 use Rattle.elem.specs.Forms.{IsObject}
-use Rattle.elem.proofs.FormsOnce.{text-once, members-once}
-use Rattle.elem.proofs.Once.{array-once}
+use Rattle.elem.proofs.CallerLemmas.{text-once, members-once, array-once}
 use Rattle.elem_read.specs.Elements.{IsFirstFaulty, AreRead}
 use Rattle.elem_read.specs.declared.fault.ElemFault.{ElemFault}
-use Rattle.elem_read.proofs.ReadElements.{read-once, faulty-once, faultless}
-use Rattle.file_table.proofs.Least.{AreLeastEntries-unique}
+use Rattle.elem_read.proofs.CallerLemmas.{read-once, faulty-once, faultless}
+use Rattle.file_table.proofs.CallerLemmas.{AreLeastEntries-unique}
 use Rattle.scene_file.specs.Heads.{Heading, IsJoinedHead, settings_of, files_of}
 use Rattle.scene_file.specs.Reading.{value_unless_null, HasItems, HasMembers, IsSource, IsScene, loaded, IsHeadOf, IsSceneOf, IsSceneFault, IsSceneAt, IsSceneFaultAt}
 use Rattle.scene_file.specs.declared.scene.Scene.{Scene}

@@ -11,8 +11,7 @@ use Rattle.json_text.specs.Parts.{AreMembers}
 use Rattle.json_text.specs.Value.{IsCompact}
 use Rattle.json_text.specs.declared.text.Member.{Member}
 use Rattle.scene_json.specs.Named.{AreSameMembers, HaveRisingNames}
-use Rattle.scene_json.proofs.Lookups.{distinct_moved, same_moved, rising_from_sort}
-use Rattle.scene_json.proofs.Pairs.{names-pairs, AreMembers-values}
+use Rattle.scene_json.proofs.CallerLemmas.{distinct_moved, same_moved, rising_from_sort, names-pairs, AreMembers-values}
 use Rattle.file_table.specs.Table.{EntriesNest}
 
 abbrev pub is_lower : Member → Member → Bool

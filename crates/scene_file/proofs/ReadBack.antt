@@ -12,15 +12,12 @@ use Rattle.json_text.specs.Tree.{IsNumber, null_word, scalar, spelling}
 use Rattle.json_text.specs.Value.{Value, IsCompact, Follows}
 use Rattle.scene_json.specs.Layout.{laid_out}
 use Rattle.scene_json.specs.Named.{AreSameMembers, HaveRisingNames}
-use Rattle.json_text.proofs.CompactLaws.{Value-deeper, quote-compact, literal-compact, object-compact}
-use Rattle.json_text.proofs.Forms.{object-starts}
-use Rattle.json_text.proofs.Reading.{number-Head, head-apart}
-use Rattle.scene_json.proofs.Laid.{laid-Value}
+use Rattle.json_text.proofs.CallerLemmas.{Value-deeper, quote-compact, literal-compact, object-compact, object-starts, number-Head, head-apart}
+use Rattle.scene_json.proofs.CallerLemmas.{laid-Value}
 use Rattle.elem.specs.ElementValue.{ElementValue}
 use Rattle.elem.specs.Forms.{IsObject}
 use Rattle.elem.specs.Texts.{element_text, text_or_null}
-use Rattle.elem.proofs.FormsOnce.{null-no-text}
-use Rattle.elem.proofs.Saying.{literal, AreMembers-deeper}
+use Rattle.elem.proofs.CallerLemmas.{null-no-text, literal, AreMembers-deeper}
 use Rattle.elem_read.specs.Elements.{AreRead}
 use Rattle.elem_read.specs.Reading.{IsWholeElement}
 use Rattle.file_table.specs.References.{referred_files}

@@ -7,11 +7,9 @@ use Rattle.std.proofs.lemmas.List.Elements.{All-contains}
 use Rattle.json_text.specs.Characters.{quote}
 use Rattle.json_text.specs.Members.{pairs}
 use Rattle.frac_keys.specs.Keys.{bytes_less}
-use Rattle.elem.proofs.Once.{quote-once}
-use Rattle.elem.proofs.OrderLaws.{bytes-neither, bytes-below}
-use Rattle.elem.proofs.Sorting.{bytes_less-same, bytes_less-asym}
-use Rattle.elem_store.proofs.Lists.{Contains-head, Contains-cons, Contains-cases}
-use Rattle.file_table.proofs.Least.{AreLeastEntries-moved}
+use Rattle.elem.proofs.CallerLemmas.{quote-once, bytes-neither, bytes-below, bytes_less-same, bytes_less-asym}
+use Rattle.elem_store.proofs.CallerLemmas.{Contains-head, Contains-cons, Contains-cases}
+use Rattle.file_table.proofs.CallerLemmas.{AreLeastEntries-moved}
 use Rattle.scene_file.specs.Heads.{Heading, lesser_source, least_source, settings_of, files_of, IsJoinedHead, IsLeastSource, HaveSameHeads}
 use Rattle.scene_file.specs.Whole.{IsWholeHead}
 use Rattle.scene_file.proofs.WholeScenes.{least-whole}

@@ -17,8 +17,7 @@ use Rattle.json_text.specs.Tree.{Tree, IsGood, spelling}
 use Rattle.json_text.specs.Value.{IsCompact}
 use Rattle.json_text.specs.declared.text.Member.{Member}
 use Rattle.scene_json.specs.Layout.{laid_out}
-use Rattle.json_text.proofs.CompactLaws.{quote-compact, decimal_nests, array-compact, object-compact, Value-deeper}
-use Rattle.json_text.proofs.Reading.{tree-once}
+use Rattle.json_text.proofs.CallerLemmas.{quote-compact, decimal_nests, array-compact, object-compact, Value-deeper, tree-once}
 use Rattle.elem.specs.ElementValue.{ElementValue}
 use Rattle.elem.specs.Texts.{element_text, text_or_null}
 use Rattle.file_table.specs.References.{referred_files}
@@ -27,7 +26,7 @@ use Rattle.scene_file.specs.declared.layout.Layout.{Layout}
 use Rattle.scene_file.specs.declared.layout.Layout.TheVariants.{Compact, Pretty}
 use Rattle.scene_file.specs.Heads.{Heading}
 use Rattle.scene_file.specs.Layouts.{IsWrittenIn}
-use Rattle.scene_file.specs.Printing.{text_before_elements, text_behind_elements}
+use Rattle.scene_file.specs.inner.Printing.{text_before_elements, text_behind_elements}
 use Rattle.scene_file.specs.Scenes.{scene_members, scene_text, state_text}
 use Rattle.scene_file.specs.Texts.{IsSceneText}
 

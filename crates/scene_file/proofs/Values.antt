@@ -1,8 +1,8 @@
 -- A fault of a value, and of the text in which it stands.
 use Rattle.std.proofs.Common.{◌≡◌, ℕ, List, drop}
-use Rattle.board_io.specs.declared.stop.Stop.TheVariants.{Fault}
+use Rattle.board_base.specs.declared.stop.Stop.TheVariants.{Fault}
 use Rattle.json_text.specs.Value.{Stands}
-use Rattle.elem_read.proofs.Parts.{stopped}
+use Rattle.elem_read.proofs.CallerLemmas.{stopped}
 use Rattle.scene_file.specs.Reading.{IsSceneFault, IsSceneFaultAt}
 use Rattle.scene_file.specs.declared.fault.SceneFault.{SceneFault}
 use Rattle.scene_file.specs.declared.fault.SceneFault.TheVariants.{Json, NotObject, NotScene, Elements, AppState, Files, Element}

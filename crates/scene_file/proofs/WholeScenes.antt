@@ -8,25 +8,23 @@ use Rattle.json_text.specs.Members.{pairs}
 use Rattle.json_text.specs.Parts.{AreMembers}
 use Rattle.json_text.specs.Value.{IsCompact}
 use Rattle.scene_json.specs.Named.{value_at, AreSameMembers, HaveRisingNames}
-use Rattle.scene_json.proofs.Lookups.{rising_distinct}
+use Rattle.scene_json.proofs.CallerLemmas.{rising_distinct}
 use Rattle.frac_keys.specs.Keys.{bytes_less}
 use Rattle.elem.specs.ElementValue.{ElementValue}
 use Rattle.elem.specs.Forms.{find_in}
-use Rattle.elem.proofs.Sorting.{AllByRecursion-weaker}
+use Rattle.elem.proofs.CallerLemmas.{AllByRecursion-weaker}
 use Rattle.elem_read.specs.Elements.{AreRead}
 use Rattle.elem_read.specs.Reading.{IsWholeElement}
-use Rattle.elem_read.proofs.Keeping.{AllFound, found-has, found-self}
-use Rattle.elem_read.proofs.Whole.{IsSound, IsSound-read, IsSound-whole}
+use Rattle.elem_read.proofs.CallerLemmas.{AllFound, found-has, found-self, IsSound, IsSound-read, IsSound-whole}
 use Rattle.elem_store.specs.Updates.{AreStored}
 use Rattle.file_table.specs.Table.{IsLeast, AreLeastEntries}
-use Rattle.file_table.proofs.Least.{least-is}
-use Rattle.view.specs.Shown.{shown}
+use Rattle.file_table.proofs.CallerLemmas.{least-is}
 use Rattle.scene_file.specs.Heads.{Heading, lesser_source, least_source, settings_of, files_of, IsJoinedHead}
 use Rattle.scene_file.specs.Reading.{loaded, IsSource, IsHeadOf, IsSceneAt}
 use Rattle.scene_file.specs.Whole.{IsWholeHead, HaveKeys, IsWholeScene}
 use Rattle.scene_file.specs.declared.scene.Scene.{Scene}
 use Rattle.scene_file.proofs.Nesting.{nests-value_unless_null}
-use Rattle.scene_file.proofs.Sound.{AreSound, loaded-sound, loaded-keys, stored-all, shown-sound}
+use Rattle.scene_file.proofs.Sound.{AreSound, loaded-sound, loaded-keys, stored-all}
 
 abbrev IsNamed : List ℕ → List ℕ → Type 0
 IsNamed name value = IsUtf8 name
@@ -110,7 +108,7 @@ read-sound (value ∷ values) elements (inl (dropped, read)) = read-sound values
 read-sound (value ∷ values) elements (inr (e, others, all, is, read)) =
     subst AreSound (sym all) (All-cons IsSound e others (IsSound-read value e is) (read-sound values others read))
 
-sounds-whole : (elements : List ElementValue) → AreSound elements → All IsWholeElement elements
+pub sounds-whole : (elements : List ElementValue) → AreSound elements → All IsWholeElement elements
 sounds-whole elements sound = All-weaker IsSound IsWholeElement IsSound-whole elements sound
 
 pub wholes-sound : (elements : List ElementValue) → All IsWholeElement elements → AreSound elements
@@ -118,9 +116,6 @@ wholes-sound elements whole = All-weaker IsWholeElement IsSound (λ e is. IsSoun
 
 pub stored-whole : (updates elements : List ElementValue) → All IsWholeElement updates → AreStored updates elements → All IsWholeElement elements
 stored-whole updates elements whole are = stored-all IsWholeElement updates elements are whole
-
-pub shown-whole : (live : List ElementValue) → All IsWholeElement live → All IsWholeElement (shown live)
-shown-whole live whole = sounds-whole (shown live) (shown-sound live (wholes-sound live whole))
 
 pub scene-whole : (bytes : List ℕ) (scene : Scene) (rest : List ℕ) → IsSceneAt bytes scene rest → IsWholeScene scene
 scene-whole bytes scene rest at =

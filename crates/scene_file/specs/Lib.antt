@@ -1,9 +1,8 @@
 pub mod Faults
 pub mod Heads
 pub mod Layouts
-pub mod Printing
 pub mod Reading
 pub mod Scenes
-pub mod Taken
 pub mod Texts
 pub mod Whole
+pub mod inner

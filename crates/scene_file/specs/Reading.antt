@@ -12,7 +12,7 @@ use Rattle.index_repair.specs.Repair.{repaired}
 use Rattle.elem.specs.ElementValue.{ElementValue}
 use Rattle.elem.specs.Forms.{IsText, IsObject}
 use Rattle.elem_read.specs.Elements.{AreRead, IsFirstFaulty}
-use Rattle.view.specs.Shown.{index_of, keyed}
+use Rattle.index_repair.specs.Keyed.{index_of, keyed}
 use Rattle.scene_file.specs.Heads.{Heading}
 use Rattle.scene_file.specs.declared.scene.Scene.{Scene}
 use Rattle.scene_file.specs.declared.fault.SceneFault.{SceneFault}

@@ -1,10 +1,10 @@
 //! Why a text is no scene.
 
 ghost use Rattle.std.specs.Prelude.{◌≡◌};
-ghost use Rattle.board_io.specs.Pieces.{line_text};
+ghost use Rattle.board_base.specs.Pieces.{line_text};
 ghost use Rattle.scene_file.specs.Faults.{scene_fault_words};
 
-use board_io::Piece;
+use board_base::Piece;
 use elem_read::ElemFault;
 use json_reader::JsonFault;
 

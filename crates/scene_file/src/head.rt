@@ -9,7 +9,7 @@ ghost use Rattle.file_table.specs.Table.{AreLeastEntries, EntriesNest};
 ghost use Rattle.scene_file.specs.Heads.{Heading, IsJoinedHead, lesser_source};
 ghost use Rattle.scene_file.specs.Reading.{value_unless_null, HasMembers, IsHeadOf};
 
-use board_io::List;
+use board_base::List;
 use file_table::Files;
 use json_text::{Member, Text};
 use scene_json::{raw_text, text_named};

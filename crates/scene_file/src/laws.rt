@@ -1,14 +1,13 @@
 //! Laws on scenes and heads, for all of them. They do nothing when they run.
 
-ghost use Rattle.std.specs.Prelude.{◌≡◌, ◌↔◌, ◌⊎◌, ◌<◌, ◌≤◌, ℕ, List, ◌++◌, All, Contains, true, Some, None, drop, flat_map, length, map};
+ghost use Rattle.std.specs.Prelude.{◌≡◌, ◌↔◌, ◌⊎◌, ◌<◌, ◌≤◌, ℕ, List, ◌++◌, All, Contains, true, Some, None, drop, length};
 ghost use Rattle.json_text.specs.Characters.{is_blank};
 ghost use Rattle.json_text.specs.Value.{IsCompact};
 ghost use Rattle.elem.specs.ElementValue.{ElementValue};
 ghost use Rattle.elem_read.specs.Reading.{IsWholeElement};
 ghost use Rattle.elem_store.specs.Updates.{AreStored};
-ghost use Rattle.view.specs.Shown.{live_elements, shown};
 ghost use Rattle.scene_file.specs.Heads.{Heading, HaveSameHeads, IsJoinedHead, IsLeastSource, least_source};
-ghost use Rattle.scene_file.specs.Reading.{IsSceneOf, IsSceneAt, IsSceneFaultAt};
+ghost use Rattle.scene_file.specs.Reading.{IsSceneAt, IsSceneFaultAt};
 ghost use Rattle.scene_file.specs.Scenes.{scene_text, state_text};
 ghost use Rattle.scene_file.specs.Texts.{IsSceneText};
 ghost use Rattle.scene_file.specs.Whole.{IsWholeHead, HaveKeys, IsWholeScene, with_named_files};
@@ -65,27 +64,20 @@ pub fn least_source_is_least()
         ↔ ((head : Heading) → Contains heads head → head.source ≡ None) }
 {}
 
-/// The text of what is shown of scenes is a compact text, which nests at most 128; and a compact text is written in each
-/// layout.
-pub fn shown_scene_is_written()
-    ensures compact { (scenes : List Scene) (head : Heading) (stored : List ElementValue)
-        → All (λ scene. (text : List ℕ) × IsSceneOf text scene) scenes
-        → IsJoinedHead (map (λ (scene : Scene). scene.head) scenes) head
-        → AreStored (flat_map (λ (scene : Scene). scene.elements) scenes) stored
-        → IsCompact 128 (scene_text head (shown (live_elements stored))) }
-    ensures written { (layout : Layout) (head : Heading) (elements : List ElementValue)
+/// A compact text of a scene is written in each layout.
+pub fn compact_scene_is_written()
+    ensures { (layout : Layout) (head : Heading) (elements : List ElementValue)
         → IsCompact 128 (scene_text head elements) → (written : List ℕ) × IsSceneText layout head elements written }
 {}
 
-/// A scene that is read is whole, and so is what is made of whole scenes: their joined head, what is stored of their
-/// elements, and what is shown of these.
+/// A scene that is read is whole, and so is what is made of whole scenes: their joined head, and what is stored of their
+/// elements.
 pub fn scenes_are_whole()
     ensures read { (bytes : List ℕ) (scene : Scene) (rest : List ℕ) → IsSceneAt bytes scene rest → IsWholeScene scene }
     ensures joined { (heads : List Heading) (head : Heading)
         → All IsWholeHead heads → IsJoinedHead heads head → IsWholeHead head }
     ensures stored { (updates elements : List ElementValue)
         → All IsWholeElement updates → AreStored updates elements → All IsWholeElement elements }
-    ensures shown { (live : List ElementValue) → All IsWholeElement live → All IsWholeElement (shown live) }
 {}
 
 /// The text of a whole scene, in whatever layout and whatever follows it, is read as that scene: with its elements, and

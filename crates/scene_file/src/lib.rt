@@ -1,4 +1,4 @@
-//! Scene files: scenes are read with their heads, heads are joined, and scenes are printed.
+//! Scene files: scenes are read with their heads, heads are joined, and elements are printed under a head.
 #![tactic(auto)]
 
 mod fault;
@@ -12,6 +12,6 @@ mod scene;
 pub use fault::SceneFault;
 pub use head::{Head, join};
 pub use layout::Layout;
-pub use printing::{elements_text, scene_text, state_text};
+pub use printing::{elements_text, state_text};
 pub use reading::{read_scene, scene_of};
 pub use scene::Scene;

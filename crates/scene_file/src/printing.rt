@@ -2,7 +2,6 @@
 
 ghost use Rattle.std.specs.Prelude.{◌≡◌, ℕ, List as Items, [], ◌++◌, bytes_eq, map, All, IfOk, OnOk};
 ghost use Rattle.std.specs.List.{IsDistinct, join_with_byte};
-ghost use Rattle.std.specs.Str.{IsUtf8};
 ghost use Rattle.json_text.specs.Compact.{object_text};
 ghost use Rattle.json_text.specs.Members.{pairs};
 ghost use Rattle.json_text.specs.Parts.{names_of};
@@ -11,36 +10,21 @@ ghost use Rattle.scene_json.specs.Layout.{IsLaidOut};
 ghost use Rattle.scene_json.specs.Lines.{IsLaidOutSoFar};
 ghost use Rattle.elem.specs.Texts.{element_text, text_or_null};
 ghost use Rattle.file_table.specs.Table.{EntriesNest};
-ghost use Rattle.view.specs.Shown.{shown, HaveRisingKeys};
-ghost use Rattle.scene_file.specs.Printing.{text_before_elements, text_behind_elements};
+ghost use Rattle.scene_file.specs.inner.Printing.{text_before_elements, text_behind_elements};
 ghost use Rattle.scene_file.specs.Scenes as scenes;
 ghost use Rattle.scene_file.specs.Texts.{IsSceneText};
 
 use crate::head::Head;
 use crate::layout::Layout;
-use board_io::{Bytes, List};
+use board_base::{Bytes, List};
 use elem::{Element, push_element, push_elements};
 use elem_store::Store;
 use json_text::{Member, Text, push_quote};
 use scene_json::{Lines, push_comma, push_member};
 use std::alloc::{AllocError, Global};
-use view::View;
 
-/// The text of the scene of what a view shows, under this head, in this layout; no line feed ends it. Fails only for want
-/// of memory.
-pub fn scene_text(
-    alloc: Global,
-    head: &Head,
-    view: &View,
-    layout: Layout,
-) -> Result<Bytes, AllocError>
-    ensures text { IfOk result (IsSceneText layout head.now (shown view.now)) }
-    ensures rise { IfOk result (λ _. HaveRisingKeys (shown view.now)) }
-{
-    elements_text(alloc, head, view.elements(), layout)
-}
-
-/// The text of the scene of elements that are shown, as `scene_text` gives it.
+/// The text of the scene of these elements, under this head, in this layout; no line feed ends it. Fails only for want of
+/// memory.
 pub fn elements_text(
     alloc: Global,
     head: &Head,

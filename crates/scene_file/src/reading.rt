@@ -8,21 +8,21 @@ ghost use Rattle.elem.specs.ElementValue.{ElementValue};
 ghost use Rattle.elem.specs.Forms.{IsObject};
 ghost use Rattle.elem_read.specs.declared.fault.FaultyElement.{FaultyElement};
 ghost use Rattle.scene_file.specs.Reading.{value_unless_null, loaded, HasMembers, IsSceneOf, IsSceneFault, IsSceneAt, IsSceneFaultAt};
-ghost use Rattle.scene_file.specs.Taken.{IsTaken};
+ghost use Rattle.scene_file.specs.inner.Taken.{IsTaken};
 ghost use Rattle.scene_file.specs.declared.scene.Scene.{Scene};
 ghost use Rattle.scene_file.specs.declared.fault.SceneFault.{SceneFault};
 
 use crate::fault::SceneFault;
 use crate::head::head_of;
 use crate::scene::Scene;
-use board_io::{List, Stop};
+use board_base::{List, Stop};
 use elem::Element;
 use elem_read::{FaultyElement, read_array};
+use index_repair::with_repaired_keys;
 use json_reader::scan;
 use json_text::{Member, Raw};
 use scene_json::{has_value, is_null, members, members_to, shaped, value_named};
 use std::alloc::{AllocError, Global};
-use view::with_repaired_keys;
 
 /// The scene that stands at an offset, behind white space and in whatever spelling, and the offset after it; or the first
 /// fault there.

@@ -1,7 +1,7 @@
 //! A scene.
 
 use crate::head::Head;
-use board_io::List;
+use board_base::List;
 use elem::Element;
 
 /// A scene: its head, and its elements in the array's order, each with a key.

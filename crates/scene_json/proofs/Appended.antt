@@ -5,7 +5,7 @@ use Rattle.std.proofs.lemmas.List.Elements.{All-map, All-same, recursion_from_Al
 use Rattle.std.specs.List.{join_with_byte}
 use Rattle.json_text.specs.Compact.{array_text}
 use Rattle.json_text.specs.Value.{IsCompact}
-use Rattle.json_text.proofs.CompactLaws.{array-compact, items-step}
+use Rattle.json_text.proofs.CallerLemmas.{array-compact, items-step}
 
 -- one turn of a loop that appends the texts of items between commas
 pub mapped-step : {X : Type 0} (f : X → List ℕ) (start : List ℕ) (xs : List X) (x : X) (i : ℕ) (out comma done : List ℕ) → i < length xs → x ≡ get_or xs i x →

@@ -9,8 +9,7 @@ use Rattle.json_text.specs.Characters.{is_hex, is_plain}
 use Rattle.json_text.specs.Tree.{Piece, bare, letter, unit, IsPiece, piece_spelling}
 use Rattle.scene_json.specs.Passes.{behind_string}
 use Rattle.scene_json.proofs.ItemsLeft.{front}
-use Rattle.json_text.proofs.Reading.{list_all-each}
-use Rattle.json_text.proofs.Strings.{plain-bare, hex-plain}
+use Rattle.json_text.proofs.CallerLemmas.{list_all-each, plain-bare, hex-plain}
 
 pub length-behind_string : (escaped : Bool) (bs : List ℕ) → length (behind_string escaped bs) ≤ length bs
 length-behind_string escaped [] = omega arith

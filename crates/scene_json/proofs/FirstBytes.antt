@@ -4,9 +4,7 @@ use Rattle.std.specs.List.{AllByRecursion}
 use Rattle.json_text.specs.Compact.{Member, array_text, object_text}
 use Rattle.json_text.specs.Parts.{AreMembers}
 use Rattle.json_text.specs.Value.{IsCompact}
-use Rattle.json_text.proofs.CompactLaws.{Value-deeper, Value-Form}
-use Rattle.json_text.proofs.Forms.{StartsWith, form-listed, form-membered, array-starts, object-starts}
-use Rattle.json_text.proofs.Reading.{begins_value, Head, tree-Head, first-same}
+use Rattle.json_text.proofs.CallerLemmas.{Value-deeper, Value-Form, StartsWith, form-listed, form-membered, array-starts, object-starts, begins_value, Head, tree-Head, first-same}
 use Rattle.scene_json.specs.Passes.{Compacted}
 use Rattle.scene_json.proofs.ItemsLeft.{front, front-is, ends-inside}
 

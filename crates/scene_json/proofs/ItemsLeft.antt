@@ -5,8 +5,7 @@ use Rattle.std.specs.List.{AllByRecursion, join_with_byte}
 use Rattle.json_text.specs.Tree.{Container, array, closing}
 use Rattle.json_text.specs.Compact.{array_text}
 use Rattle.json_text.specs.Value.{IsCompact}
-use Rattle.json_text.proofs.Contents.{drop-after, inside-after}
-use Rattle.json_text.proofs.Reading.{begins_value, Head, tree-Head, head-apart, first-same}
+use Rattle.json_text.proofs.CallerLemmas.{drop-after, inside-after, begins_value, Head, tree-Head, head-apart, first-same}
 use Rattle.scene_json.specs.Passes.{Compacted, IsEnd, EndsAt, left_text, behind_item, GoesOn}
 use Rattle.scene_json.specs.Walks.{Leaves}
 

@@ -14,3 +14,4 @@ pub mod Lookups
 pub mod Rising
 mod Quotes
 pub mod Appended
+pub mod CallerLemmas

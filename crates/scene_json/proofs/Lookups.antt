@@ -18,7 +18,7 @@ use Rattle.json_text.specs.Members.{pairs}
 use Rattle.json_text.specs.Parts.{names_of}
 use Rattle.json_text.specs.declared.text.Member.{Member}
 use Rattle.scene_json.specs.Named.{value_at, AreSameMembers, HaveRisingNames}
-use Rattle.json_text.proofs.Collapsed.{bytes_eq-true}
+use Rattle.json_text.proofs.CallerLemmas.{bytes_eq-true}
 
 -- what a look-up from a place on finds there
 pub value_at-found : (name : List ℕ) (ms : List Member) (i : ℕ) (m : Member) → i < length ms → m ≡ get_or ms i m → bytes_eq name m.name ≡ true →

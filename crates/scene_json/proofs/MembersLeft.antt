@@ -7,8 +7,7 @@ use Rattle.json_text.specs.Compact.{Member, member_text, object_text}
 use Rattle.json_text.specs.Value.{IsCompact}
 use Rattle.json_text.specs.Walk.{Quoted}
 use Rattle.json_text.specs.Parts.{AreMembers}
-use Rattle.json_text.proofs.Forms.{array-starts, quote-Quoted}
-use Rattle.json_text.proofs.Contents.{drop-after, inside-after}
+use Rattle.json_text.proofs.CallerLemmas.{array-starts, quote-Quoted, drop-after, inside-after}
 use Rattle.scene_json.specs.Passes.{Compacted, IsEnd, EndsAt, left_text, behind_item, StandHere, IsPassed, IsStopped, HaveEnded}
 use Rattle.scene_json.proofs.ItemsLeft.{front-is, behind-split, behind-ends, ends-inside}
 

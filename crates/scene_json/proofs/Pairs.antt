@@ -6,8 +6,7 @@ use Rattle.json_text.specs.declared.text.Member.{Member}
 use Rattle.json_text.specs.Compact.{Member as Pair}
 use Rattle.json_text.specs.Members.{pairs, pair_of}
 use Rattle.json_text.specs.Value.{IsCompact}
-use Rattle.json_text.proofs.Collapsed.{names_of}
-use Rattle.json_text.proofs.CompactLaws.{AreMembers}
+use Rattle.json_text.proofs.CallerLemmas.{names_of, AreMembers}
 
 pub names-pairs : (ms : List Member) → names_of (pairs ms) ≡ map (λ m. m.name) ms
 names-pairs [] = refl

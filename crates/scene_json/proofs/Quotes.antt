@@ -4,9 +4,7 @@ use Rattle.std.specs.List.{AllByRecursion}
 use Rattle.json_text.specs.Characters.{quote}
 use Rattle.json_text.specs.Compact.{content}
 use Rattle.json_text.specs.Value.{IsCompact}
-use Rattle.json_text.proofs.CompactLaws.{quote-compact}
-use Rattle.json_text.proofs.Reading.{tail-same}
-use Rattle.json_text.proofs.Strings.{utf8-Quotes, pieces-once}
+use Rattle.json_text.proofs.CallerLemmas.{quote-compact, tail-same, utf8-Quotes, pieces-once}
 
 -- a quote is of one text alone
 quote-once : (text other : List ℕ) → IsUtf8 text → IsUtf8 other → quote text ≡ quote other → text ≡ other

@@ -5,7 +5,7 @@ use Rattle.std.specs.FinMap.{FinMap, entries, entries_sorted, from_entries, get-
 use Rattle.std.specs.List.{list_any}
 use Rattle.json_text.specs.Compact.{Member as Pair}
 use Rattle.scene_json.specs.Named.{value_at, HaveRisingNames}
-use Rattle.json_text.proofs.Collapsed.{bytes_eq-true}
+use Rattle.json_text.proofs.CallerLemmas.{bytes_eq-true}
 use Rattle.scene_json.proofs.Lookups.{sorted_same, find_same}
 
 -- ---- what is found under the names of a list

@@ -10,8 +10,7 @@ use Rattle.json_text.specs.Tree.{Piece, bare, letter, unit, IsPiece, piece_spell
 use Rattle.json_text.specs.Walk.{outside, inside}
 use Rattle.scene_json.specs.Layout.{line, label_laid_out, laid_out, values_laid_out}
 use Rattle.scene_json.specs.Lines.{IsLaidOutSoFar, Standing, layout, layout_from}
-use Rattle.json_text.proofs.Strings.{plain-bare, hex-plain}
-use Rattle.json_text.proofs.Reading.{begins_value, begins-no-space, values-Front, regroup-last, is_part_of_literal, list_all-each, literal-plain}
+use Rattle.json_text.proofs.CallerLemmas.{plain-bare, hex-plain, begins_value, begins-no-space, values-Front, regroup-last, is_part_of_literal, list_all-each, literal-plain}
 
 -- plain characters of a string are copied
 run-steps : (xs : List ℕ) (first : Bool) (spaces : ℕ) (bs : List ℕ) → list_all is_plain xs ≡ true → layout (inside false) first spaces (xs ++ bs) ≡ xs ++ layout (inside false) first spaces bs

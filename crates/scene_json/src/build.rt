@@ -10,13 +10,13 @@ ghost use Rattle.json_text.specs.Compact.{array_text, object_text, member_text};
 ghost use Rattle.json_text.specs.Value.{IsCompact};
 ghost use Rattle.json_text.specs.Members.{pairs};
 
-use board_io::List;
+use board_base::List;
 use itoa::Buffer;
 use json_text::{Member, Raw, Text, push_quote, whole_or_cut};
 use std::alloc::{AllocError, Global};
 
 /// `null`. It takes no memory.
-#[tactic(auto, using(json_text::proofs::CompactLaws::compact_texts))]
+#[tactic(auto, using(json_text::proofs::CallerLemmas::compact_texts))]
 pub fn raw_null(_alloc: Global) -> Result<Raw, AllocError>
     ensures sure { IsOk result }
     ensures word { IfOk result (λ raw. raw ≡ null_word) }
@@ -26,7 +26,7 @@ pub fn raw_null(_alloc: Global) -> Result<Raw, AllocError>
 }
 
 /// `true` or `false`. It takes no memory.
-#[tactic(auto, using(json_text::proofs::CompactLaws::compact_texts))]
+#[tactic(auto, using(json_text::proofs::CallerLemmas::compact_texts))]
 pub fn raw_truth(_alloc: Global, truth: bool) -> Result<Raw, AllocError>
     ensures sure { IsOk result }
     ensures word { IfOk result (λ raw. raw ≡ (if truth then true_word else false_word)) }
@@ -40,7 +40,7 @@ pub fn raw_truth(_alloc: Global, truth: bool) -> Result<Raw, AllocError>
 }
 
 /// The number in digits.
-#[tactic(auto, using(json_text::proofs::CompactLaws::compact_texts))]
+#[tactic(auto, using(json_text::proofs::CallerLemmas::compact_texts))]
 pub fn raw_whole(alloc: Global, number: u64) -> Result<Raw, AllocError>
     ensures digits { IfOk result (λ raw. raw ≡ decimal number) }
     ensures nests { IfOk result (IsCompact 0) }
@@ -58,7 +58,7 @@ pub fn raw_of(bytes: Vec<u8>) -> Result<Raw, AllocError>
 
 /// The text as a string: `"` and `\` stand behind a `\`, and of the control characters five have a letter and the
 /// others four digits of base 16 in lower case.
-#[tactic(auto, using(json_text::proofs::CompactLaws::compact_texts))]
+#[tactic(auto, using(json_text::proofs::CallerLemmas::compact_texts))]
 pub fn raw_text(alloc: Global, text: &Text) -> Result<Raw, AllocError>
     ensures quote { IfOk result (λ raw. raw ≡ quote text.now) }
     ensures nests { IfOk result (IsCompact 0) }
@@ -137,7 +137,7 @@ pub fn push_comma(out: &mut Vec<u8>, i: usize) -> Result<(), AllocError>
 }
 
 /// Appends a number in digits. For want of memory nothing is appended.
-#[tactic(auto, using(json_text::proofs::CompactLaws::decimal_nests))]
+#[tactic(auto, using(json_text::proofs::CallerLemmas::decimal_nests))]
 pub fn push_whole(out: &mut Vec<u8>, number: u64) -> Result<(), AllocError>
     ensures ok { OnOk result (out.new.items ≡ out.old.items ++ decimal number) }
     ensures err { OnErr result (out.new.items ≡ out.old.items) }

@@ -12,7 +12,7 @@ ghost use Rattle.scene_json.specs.Lines.{IsLaidOutSoFar, layout_from};
 ghost use Rattle.scene_json.specs.Passes.{spaces_from, put_before, put_behind};
 
 use crate::nesting::opens;
-use board_io::Bytes;
+use board_base::Bytes;
 use json_text::{Raw, is_space, run_end, whole_or_cut};
 use std::alloc::{AllocError, Global};
 use std::marker::Model;
@@ -95,7 +95,7 @@ impl Lines {
     }
 
     /// Appends the layout of the next piece. After want of memory a part of it may stand there.
-    #[tactic(auto, using(json_text::proofs::Appending::extends_same, json_text::proofs::Appending::extends_by, json_text::proofs::Appending::extends_then, crate::proofs::Spread::laid_on))]
+    #[tactic(auto, using(json_text::proofs::CallerLemmas::extends_same, json_text::proofs::CallerLemmas::extends_by, json_text::proofs::CallerLemmas::extends_then, crate::proofs::Spread::laid_on))]
     fn push_all(&mut self, out: &mut Vec<u8>, piece: &[u8]) -> Result<(), AllocError>
         ensures ok { OnOk result ((text : Items ℕ) → IsLaidOutSoFar self.old text out.old.items
             → IsLaidOutSoFar self.new (text ++ piece.now) out.new.items) }
@@ -110,7 +110,7 @@ impl Lines {
 
     /// Appends the layout of the plain characters of a string that stand at the front, and of the byte behind them, and
     /// gives what follows.
-    #[tactic(auto, using(json_text::proofs::Appending::extends_same, json_text::proofs::Appending::extends_by, json_text::proofs::Appending::extends_then, crate::proofs::Spread::run_from))]
+    #[tactic(auto, using(json_text::proofs::CallerLemmas::extends_same, json_text::proofs::CallerLemmas::extends_by, json_text::proofs::CallerLemmas::extends_then, crate::proofs::Spread::run_from))]
     fn push_next<'a>(&mut self, out: &mut Vec<u8>, bytes: &'a [u8]) -> Result<&'a [u8], AllocError>
         ensures appended { IfOk result (λ rest. (more : Items ℕ) → out.new.items ++ layout_from self.new (rest.now ++ more)
             ≡ out.old.items ++ layout_from self.old (bytes.now ++ more)) }
@@ -141,7 +141,7 @@ impl Lines {
     }
 
     /// Appends the layout of a byte.
-    #[tactic(auto, using(json_text::proofs::Appending::extends_same, json_text::proofs::Appending::extends_by, json_text::proofs::Appending::extends_then))]
+    #[tactic(auto, using(json_text::proofs::CallerLemmas::extends_same, json_text::proofs::CallerLemmas::extends_by, json_text::proofs::CallerLemmas::extends_then))]
     fn push_byte(&mut self, out: &mut Vec<u8>, byte: u8) -> Result<(), AllocError>
         ensures appended { OnOk result ((more : Items ℕ) → out.new.items ++ layout_from self.new more
             ≡ out.old.items ++ layout_from self.old (byte ∷ more)) }
@@ -164,7 +164,7 @@ impl Lines {
 }
 
 /// Begins the line of this byte, if it is the first in a container or closes one that isn't empty, and gives its level.
-#[tactic(auto, using(json_text::proofs::Appending::extends_same, json_text::proofs::Appending::extends_by, json_text::proofs::Appending::extends_then))]
+#[tactic(auto, using(json_text::proofs::CallerLemmas::extends_same, json_text::proofs::CallerLemmas::extends_by, json_text::proofs::CallerLemmas::extends_then))]
 fn break_line(out: &mut Vec<u8>, level: u64, first: bool, byte: u8) -> Result<u64, AllocError>
     ensures level { IfOk result (λ now. 2 * now ≡ spaces_from first (2 * level) byte) }
     ensures written { OnOk result (out.new.items ≡ out.old.items ++ put_before first (2 * level) byte) }
@@ -185,7 +185,7 @@ fn break_line(out: &mut Vec<u8>, level: u64, first: bool, byte: u8) -> Result<u6
 }
 
 /// Parts this byte from what follows it, if it is a comma or a colon.
-#[tactic(auto, using(json_text::proofs::Appending::extends_same, json_text::proofs::Appending::extends_by, json_text::proofs::Appending::extends_then))]
+#[tactic(auto, using(json_text::proofs::CallerLemmas::extends_same, json_text::proofs::CallerLemmas::extends_by, json_text::proofs::CallerLemmas::extends_then))]
 fn part(out: &mut Vec<u8>, level: u64, byte: u8) -> Result<(), AllocError>
     ensures written { OnOk result (out.new.items ≡ out.old.items ++ put_behind (2 * level) byte) }
     ensures kept { OnErr result (Extends out.old.items out.new.items) }
@@ -198,7 +198,7 @@ fn part(out: &mut Vec<u8>, level: u64, byte: u8) -> Result<(), AllocError>
 }
 
 /// Begins a line with two spaces for each level.
-#[tactic(auto, using(json_text::proofs::Appending::extends_same, json_text::proofs::Appending::extends_by, json_text::proofs::Appending::extends_then, crate::proofs::Spread::line_more))]
+#[tactic(auto, using(json_text::proofs::CallerLemmas::extends_same, json_text::proofs::CallerLemmas::extends_by, json_text::proofs::CallerLemmas::extends_then, crate::proofs::Spread::line_more))]
 fn push_line(out: &mut Vec<u8>, level: u64) -> Result<(), AllocError>
     ensures written { OnOk result (out.new.items ≡ out.old.items ++ line (2 * level)) }
     ensures kept { OnErr result (Extends out.old.items out.new.items) }

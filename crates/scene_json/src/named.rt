@@ -1,17 +1,16 @@
 //! Members of an object by their names.
 
-ghost use Rattle.std.specs.Prelude.{◌≡◌, ◌↔◌, ◌≤◌, ℕ, List as Items, Bool, Some, IfOk, OnErr, IsTrue, if◌then◌else◌, decimal, option_copied, bytes_eq};
+ghost use Rattle.std.specs.Prelude.{◌≡◌, ◌↔◌, ◌≤◌, ℕ, List as Items, Some, IfOk, OnErr, IsTrue, decimal, option_copied, bytes_eq};
 ghost use Rattle.std.specs.List.{list_any};
 ghost use Rattle.std.specs.Str.{IsUtf8};
 ghost use Rattle.json_text.specs.Characters.{quote};
 ghost use Rattle.json_text.specs.Members.{pairs};
-ghost use Rattle.json_text.specs.Tree.{true_word, false_word};
 ghost use Rattle.scene_json.specs.Named.{value_at};
 ghost use Rattle.scene_json.specs.TheOne.{IsTheOne};
 
 use crate::parts::{Shape, text_of};
-use crate::scalar::{GREATEST_WHOLE, truth_of, whole_of};
-use board_io::{List, Stop};
+use crate::scalar::{GREATEST_WHOLE, whole_of};
+use board_base::{List, Stop};
 use json_text::{Member, Raw, Text};
 use std::alloc::{AllocError, Global};
 
@@ -44,14 +43,6 @@ pub fn whole_named(members: &List<Member>, name: &str) -> Option<u64>
         (λ (n : ℕ). (n ≤ GREATEST_WHOLE) × (value_at name.now (pairs members.now) ≡ Some (decimal n))) result }
 {
     whole_of(value_named(members, name)?)
-}
-
-/// The truth that the member with this name is, if it is one. It takes no memory.
-pub fn truth_named(members: &List<Member>, name: &str) -> Option<bool>
-    ensures { IsTheOne (λ (truth : Bool).
-        value_at name.now (pairs members.now) ≡ Some (if truth then true_word else false_word)) result }
-{
-    truth_of(value_named(members, name)?)
 }
 
 /// The text that the member with this name is a string of, if it is one.

@@ -12,7 +12,7 @@ ghost use Rattle.scene_json.specs.Passes.{Compacted, EndsAt, StandHere, HaveEnde
 ghost use Rattle.scene_json.specs.Walks.{AreLeft, AreBehind, AreTakenTo, IsTakenApart};
 
 use crate::nesting::after_string;
-use board_io::{List, Stop};
+use board_base::{List, Stop};
 use json_text::{Member, Raw, Text, inert_end, quiet_end, text_at};
 use std::alloc::{AllocError, Global};
 use std::marker::Model;

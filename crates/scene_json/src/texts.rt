@@ -9,7 +9,7 @@ ghost use Rattle.scene_json.specs.TheOne.{IsTheOne};
 
 use crate::named::shaped;
 use crate::parts::{items, text_of};
-use board_io::List;
+use board_base::List;
 use json_text::{Raw, Text};
 use std::alloc::{AllocError, Global};
 

@@ -4,7 +4,7 @@ use Rattle.std.proofs.lemmas.Grind.{flat_map-append}
 use Rattle.std.proofs.lemmas.List.{take_more}
 use Rattle.elem.specs.ElementValue.{ElementValue}
 use Rattle.clash.specs.Firsts.{HasClash, IsLikeFirst, firsts_of, firsts_with}
-use Rattle.clash.proofs.FirstLaws.{firsts-tell, firsts-more}
+use Rattle.clash.proofs.CallerLemmas.{firsts-tell, firsts-more}
 use Rattle.session.specs.Clashes.{HaveClashes}
 
 -- ---- two lists

@@ -6,12 +6,12 @@ use Rattle.std.specs.List.Sorted.{IsStrictlySortedBy}
 use Rattle.std.proofs.lemmas.Bool.{cases_Bool}
 use Rattle.std.proofs.lemmas.List.Kept.{IsStrictlySortedBy-filter}
 use Rattle.std.proofs.lemmas.Map.Views.{any-filter_same}
-use Rattle.json_text.proofs.Collapsed.{bytes_eq-true}
+use Rattle.json_text.proofs.CallerLemmas.{bytes_eq-true}
 use Rattle.frac_keys.specs.Keys.{bytes_less}
-use Rattle.elem.proofs.Sorting.{AllByRecursion-weaker, bytes_less-trans, bytes_less-turned}
-use Rattle.delta.proofs.Placing.{each-put}
+use Rattle.elem.proofs.CallerLemmas.{AllByRecursion-weaker, bytes_less-trans, bytes_less-turned}
+use Rattle.delta.proofs.CallerLemmas.{each-put}
 use Rattle.reconcile.specs.Ids.{is_held, AreStrictlySorted, HasAdded, HasDropped}
-use Rattle.reconcile.proofs.HeldIds.{held-unique}
+use Rattle.reconcile.proofs.CallerLemmas.{held-unique}
 use Rattle.session.specs.Worlds.{with_id, without_id}
 
 abbrev itself : List ℕ → List ℕ

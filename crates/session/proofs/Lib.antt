@@ -7,3 +7,4 @@ pub mod ReportLaws
 pub mod TextLaws
 pub mod Deciding
 pub mod PrintedLaws
+pub mod CallerLemmas

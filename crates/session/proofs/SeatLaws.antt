@@ -4,10 +4,10 @@ use Rattle.elem.specs.ElementValue.{ElementValue}
 use Rattle.delta.specs.Pairs.{Pair}
 use Rattle.view.specs.Shown.{live_elements, shown}
 use Rattle.effects.specs.Changed.{outcome}
-use Rattle.effects.specs.declared.command.Capture.{Capture}
-use Rattle.effects.specs.declared.command.Capture.TheVariants.{Now, Later, Never}
-use Rattle.effects.specs.declared.command.Command.{Command}
-use Rattle.effects.specs.declared.command.Refusal.{Refusal}
+use Rattle.board_commands.specs.declared.command.Capture.{Capture}
+use Rattle.board_commands.specs.declared.command.Capture.TheVariants.{Now, Later, Never}
+use Rattle.board_commands.specs.declared.command.Command.{Command}
+use Rattle.effects.specs.declared.refusal.Refusal.{Refusal}
 use Rattle.reconcile.specs.Ids.{AreStrictlySorted, free_elements}
 use Rattle.history.specs.Pairs.{StackStandsFor}
 use Rattle.undoing.specs.Carrying.{taken_all}
@@ -18,7 +18,7 @@ use Rattle.replica.specs.State.{State, noted, captured, stored_with, outcome_on,
 use Rattle.session.specs.declared.seat.Seat.{Seat as KeptSeat}
 use Rattle.session.specs.declared.outcome.Outcome.{Outcome}
 use Rattle.session.specs.declared.outcome.Outcome.TheVariants.{Given, Refused}
-use Rattle.session.specs.Standing.{SeatStandsFor, IsActed}
+use Rattle.session.specs.inner.Standing.{SeatStandsFor, IsActed}
 use Rattle.session.specs.Worlds.{Seat, Act, acted, change_on, delivered, given_of, holding, of_command, of_step, redo_of, undo_of}
 
 -- ---- what stays over a call, and what is stored then

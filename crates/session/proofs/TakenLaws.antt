@@ -6,13 +6,12 @@ use Rattle.std.proofs.lemmas.List.Elements.{All-contains, All-from_recursion, Co
 use Rattle.elem.specs.ElementValue.{ElementValue}
 use Rattle.elem.specs.Said.{AreElements}
 use Rattle.elem_store.specs.Updates.{AreStored, HaveSameUpdates, stored_of}
-use Rattle.elem_store.proofs.Lists.{Contains-head, Contains-cons, Contains-cases, filter-Contains}
-use Rattle.elem_store.proofs.StoreLaws.{stores-converge}
-use Rattle.effects.specs.declared.command.Capture.{Capture}
-use Rattle.effects.specs.declared.command.Command.{Command}
+use Rattle.elem_store.proofs.CallerLemmas.{Contains-head, Contains-cons, Contains-cases, filter-Contains, stores-converge}
+use Rattle.board_commands.specs.declared.command.Capture.{Capture}
+use Rattle.board_commands.specs.declared.command.Command.{Command}
 use Rattle.reconcile.specs.Ids.{is_held, free_elements}
 use Rattle.undoing.specs.Carrying.{taken_all}
-use Rattle.undoing.proofs.TakenLaws.{taken_all-stored}
+use Rattle.undoing.proofs.CallerLemmas.{taken_all-stored}
 use Rattle.replica.specs.State.{State, outcome_on, undo_on, redo_on}
 use Rattle.session_text.specs.declared.event.Event.{Event}
 use Rattle.session_text.specs.declared.event.Event.TheVariants.{Change, Update, Deliver, Hold, Release, Undo, Redo}

@@ -12,8 +12,9 @@ use Rattle.session_text.specs.declared.session.Session.{Session}
 use Rattle.session.specs.declared.seat.Seat.{Seat as KeptSeat}
 use Rattle.session.specs.declared.world.World.{World as Played}
 use Rattle.session.specs.declared.outcome.Outcome.{Outcome}
-use Rattle.session.specs.Standing.{SeatStandsFor, SeatsStandFor, WorldStandsFor, IsActed, IsWorldAfter}
-use Rattle.session.specs.Worlds.{Seat, World, Act, fresh, acted, seat_at, after_act, after_seat, after_event, after_events, all_picked, picked, given_of, last_world, next_generator, opened, with_refused, world_after}
+use Rattle.session.specs.inner.Standing.{SeatStandsFor, SeatsStandFor, WorldStandsFor, IsActed, IsWorldAfter}
+use Rattle.drawn_words.specs.Words.{next_generator}
+use Rattle.session.specs.Worlds.{Seat, World, Act, fresh, acted, seat_at, after_act, after_seat, after_event, after_events, all_picked, picked, given_of, last_world, opened, with_refused, world_after}
 
 -- ---- two lists, place by place
 module _ {A B : Type 0} (R : A → B → Type 0) where

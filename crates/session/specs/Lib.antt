@@ -1,6 +1,6 @@
 pub mod Clashes
 pub mod Printed
 pub mod Reports
-pub mod Standing
 pub mod Texts
 pub mod Worlds
+pub mod inner

@@ -4,7 +4,8 @@ use Rattle.std.specs.List.{AllZip}
 use Rattle.scene_file.specs.Heads.{Heading}
 use Rattle.scene_file.specs.Scenes.{scene_text}
 use Rattle.view.specs.Settled.{AreSettled}
-use Rattle.view.specs.Shown.{live_elements, shown, HaveRisingKeys}
+use Rattle.index_repair.specs.Keyed.{HaveRisingKeys}
+use Rattle.view.specs.Shown.{live_elements, shown}
 use Rattle.elem.specs.ElementValue.{ElementValue}
 use Rattle.replica.specs.Standing.{ReplicaStandsFor}
 use Rattle.session_text.specs.declared.session.Session.{Session}

@@ -3,8 +3,8 @@ use Rattle.std.specs.Prelude.{ℕ, List, [], ◌∷◌, Option, Some, None, map,
 use Rattle.json_text.specs.Characters.{quote}
 use Rattle.json_text.specs.Compact.{Member as Pair, array_text, object_text}
 use Rattle.json_text.specs.Tree.{null_word}
-use Rattle.effects.specs.declared.command.Refusal.{Refusal}
-use Rattle.effects.specs.declared.command.Refusal.TheVariants.{Exists, NoElement, WrongKind, Protected, VersionFull}
+use Rattle.effects.specs.declared.refusal.Refusal.{Refusal}
+use Rattle.effects.specs.declared.refusal.Refusal.TheVariants.{Exists, NoElement, WrongKind, Protected, VersionFull}
 use Rattle.session.specs.declared.report.Report.{Report}
 use Rattle.session.specs.declared.report.ReplicaReport.{ReplicaReport}
 use Rattle.session.specs.declared.report.RefusedEvent.{RefusedEvent}

@@ -1,18 +1,17 @@
 -- The world of a session: its replicas, the messages between them, and what each event makes of it. This project's own.
 use Rattle.std.specs.Prelude.{ℕ, ◌+◌, ◌*◌, List, [], ◌∷◌, ◌++◌, Option, Some, None, Result, Ok, Err, not, filter, flat_map, replicate, take, bytes_eq, option_to_list, slice_get, slice_index_or, slice_set}
 use Rattle.std.specs.Option.{option_map_or}
-use Rattle.rand_core.specs.Pcg32Seed.{pcg32_seed}
 use Rattle.rand_pcg.specs.Lcg.{Lcg}
-use Rattle.rand_pcg.specs.Pcg.{pcg32, pcg32_of_seed}
+use Rattle.drawn_words.specs.Words.{generator_of, next_generator, next_word}
 use Rattle.elem.specs.ElementValue.{ElementValue}
 use Rattle.delta.specs.Placed.{with_item}
 use Rattle.reconcile.specs.Ids.{free_elements}
 use Rattle.scene_file.specs.Heads.{Heading}
 use Rattle.scene_file.specs.declared.scene.Scene.{Scene}
-use Rattle.effects.specs.declared.command.Capture.{Capture}
-use Rattle.effects.specs.declared.command.Command.{Command}
-use Rattle.effects.specs.declared.command.Refusal.{Refusal}
-use Rattle.effects.specs.declared.command.Refusal.TheVariants.{VersionFull}
+use Rattle.board_commands.specs.declared.command.Capture.{Capture}
+use Rattle.board_commands.specs.declared.command.Command.{Command}
+use Rattle.effects.specs.declared.refusal.Refusal.{Refusal}
+use Rattle.effects.specs.declared.refusal.Refusal.TheVariants.{VersionFull}
 use Rattle.undoing.specs.Steps.{Turn}
 use Rattle.replica.specs.State.{State, nothing, outcome_on, after_change, after_delivery, undo_on, after_undo, redo_on, after_redo}
 use Rattle.session_text.specs.declared.session.Session.{Session}
@@ -98,13 +97,6 @@ seat_at w at = slice_index_or w.seats at fresh
 abbrev pub state_at : World → ℕ → State
 state_at w at = (seat_at w at).state
 
--- the word that is drawn next, and the generator after it
-unfoldable pub next_word : Lcg → ℕ
-next_word generator = (pcg32 generator).0
-
-unfoldable pub next_generator : Lcg → Lcg
-next_generator generator = (pcg32 generator).1
-
 -- the nonce of the next change, undo or redo at a replica: the word, and the replica's number in the last six bits
 abbrev pub nonce_at : World → ℕ → ℕ
 nonce_at w at = 64 * next_word w.generator + at
@@ -158,10 +150,6 @@ opening_elements session = option_map_or (λ (scene : Scene). scene.elements) se
 
 abbrev pub head_of : Session → Heading
 head_of session = option_map_or (λ (scene : Scene). scene.head) session.scene (record { source = None; app_state = []; files = [] })
-
--- the generator of a seed
-unfoldable pub generator_of : ℕ → Lcg
-generator_of seed = pcg32_of_seed (pcg32_seed 16 seed)
 
 -- the world before the first event: each replica was delivered the elements of the scene
 abbrev pub opened : Session → World

@@ -6,7 +6,7 @@ ghost use Rattle.clash.specs.Firsts.{firsts_of};
 ghost use Rattle.session.specs.Clashes.{HaveClashes};
 
 use crate::counting::sum_of;
-use board_io::List;
+use board_base::List;
 use clash::Clash;
 use elem::Element;
 use std::alloc::{AllocError, Global};

@@ -1,6 +1,6 @@
 //! What comes of an event.
 
-use board_io::List;
+use board_base::List;
 use effects::Refusal;
 use elem::Element;
 

@@ -3,7 +3,7 @@
 ghost use Rattle.std.specs.Prelude.{◌≡◌, [], ◌++◌, IfOk, OnOk, option_to_list, slice_get, slice_index_or};
 ghost use Rattle.session.specs.Worlds.{all_picked, picked};
 
-use board_io::List;
+use board_base::List;
 use elem::Element;
 use session_text::Pick;
 use std::alloc::{AllocError, Global};

@@ -1,6 +1,6 @@
 //! The report of a session.
 
-use board_io::{Bytes, List};
+use board_base::{Bytes, List};
 use effects::Refusal;
 use replica::Replica;
 

@@ -2,16 +2,17 @@
 
 ghost use Rattle.std.specs.Prelude.{◌≡◌, List as Items, IfOk};
 ghost use Rattle.session.specs.Reports.{AreReplicaReports, IsReplicaReport, IsReportOf};
-ghost use Rattle.session.specs.Standing.{SeatStandsFor, SeatsStandFor, WorldStandsFor};
+ghost use Rattle.session.specs.inner.Standing.{SeatStandsFor, SeatsStandFor, WorldStandsFor};
 ghost use Rattle.session.specs.Worlds as worlds;
 
 use crate::clashes::clashes_among;
 use crate::report::{ReplicaReport, Report};
 use crate::seat::Seat;
 use crate::world::{World, opening_elements};
-use board_io::List;
-use scene_file::{Head, Layout, scene_text};
+use board_base::List;
+use scene_file::{Head, Layout};
 use session_text::Session;
+use shown_scenes::scene_text;
 use std::alloc::{AllocError, Global};
 use view::view_of;
 

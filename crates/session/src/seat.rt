@@ -2,16 +2,17 @@
 
 ghost use Rattle.std.specs.Prelude.{◌≡◌, ◌+◌, ◌≤◌, IfOk, OnOk};
 ghost use Rattle.elem.specs.Facts.{greatest_whole};
-ghost use Rattle.effects.specs.Limits.{IsWithinLimits};
-ghost use Rattle.session.specs.Standing.{IsActed, SeatStandsFor};
+ghost use Rattle.board_commands.specs.Limits.{IsWithinLimits};
+ghost use Rattle.session.specs.inner.Standing.{IsActed, SeatStandsFor};
 ghost use Rattle.session.specs.Worlds as worlds;
 ghost use Rattle.session.specs.Worlds.{change_on, delivered, fresh, holding, redo_of, undo_of, with_id, without_id};
 
 use crate::counting::sum_of;
 use crate::outcome::Outcome;
-use board_io::Stop;
+use board_base::Stop;
+use board_commands::{Capture, Command};
 use delta::VersionFull;
-use effects::{Capture, Command, Refusal};
+use effects::Refusal;
 use elem::Element;
 use history::Step;
 use json_text::Text;

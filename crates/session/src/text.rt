@@ -6,7 +6,7 @@ ghost use Rattle.json_text.specs.Compact.{member_text};
 ghost use Rattle.session.specs.Texts as texts;
 
 use crate::report::{RefusedEvent, ReplicaReport, Report};
-use board_io::Bytes;
+use board_base::Bytes;
 use effects::Refusal;
 use json_text::{push_quote, push_quoted};
 use scene_json::{push_comma, push_whole};

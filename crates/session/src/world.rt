@@ -2,21 +2,21 @@
 
 ghost use Rattle.std.specs.Prelude.{◌≡◌, ◌+◌, ◌*◌, ◌^◌, ◌<◌, ◌≤◌, [], ◌∷◌, ◌++◌, IfOk, OnOk, replicate, vec_len};
 ghost use Rattle.elem.specs.Facts.{greatest_whole};
-ghost use Rattle.effects.specs.Limits.{IsWithinLimits};
+ghost use Rattle.board_commands.specs.Limits.{IsWithinLimits};
 ghost use Rattle.session_text.specs.Facts.{IsAmong, IsEventWithinLimits};
-ghost use Rattle.session.specs.Standing.{IsWorldAfter, IsNoted, SeatsStandFor, WorldStandsFor};
-ghost use Rattle.session.specs.Worlds.{after_event, delivered, fresh, given_of, next_generator, next_word, opened, opening_elements, with_refused};
+ghost use Rattle.session.specs.inner.Standing.{IsWorldAfter, IsNoted, SeatsStandFor, WorldStandsFor};
+ghost use Rattle.drawn_words.specs.Words.{next_generator, next_word};
+ghost use Rattle.session.specs.Worlds.{after_event, delivered, fresh, given_of, opened, opening_elements, with_refused};
 
 use crate::outcome::Outcome;
 use crate::picking::all_picked;
 use crate::report::RefusedEvent;
 use crate::seat::Seat;
-use board_io::List;
-use effects::{Capture, Command};
+use board_base::List;
+use board_commands::{Capture, Command};
+use drawn_words::{draw_word, generator_of};
 use elem::Element;
 use json_text::Text;
-use rand_core::SeedableRng;
-use rand_core::utils::NextWord;
 use rand_pcg::Pcg32;
 use session_text::{Event, Pick, Session};
 use std::alloc::{AllocError, Global};
@@ -42,7 +42,7 @@ impl World {
         Ok(World {
             seats: seats_of(alloc, session.replicas, opening_elements(session))?,
             messages: Vec::new(alloc),
-            generator: Pcg32::seed_from_u64(session.seed),
+            generator: generator_of(session.seed),
             events: 0,
             refused: Vec::new(alloc),
         })
@@ -186,14 +186,13 @@ impl World {
 }
 
 /// The nonce of the next change, undo or redo at a replica: a word is drawn, and the last six bits are the replica's number.
-#[tactic(auto, unfolding(crate::specs::Worlds::next_word, crate::specs::Worlds::next_generator))]
 fn draw(generator: &mut Pcg32, at: u64) -> u64
     requires { at < 64 }
     ensures nonce { result ≡ 64 * next_word generator.old + at }
     ensures drawn { generator.new ≡ next_generator generator.old }
     ensures limit { result ≤ greatest_whole }
 {
-    64 * u64::from(generator.next_word()) + at
+    64 * draw_word(generator) + at
 }
 
 /// Adds the message of an outcome, and the refused event, if it is one.

@@ -9,21 +9,21 @@ use Rattle.elem.specs.Order.{unstamped}
 use Rattle.elem_store.specs.Updates.{element_of}
 use Rattle.delta.specs.Pairs.{Pair}
 use Rattle.view.specs.Shown.{is_live, live_elements, shown}
-use Rattle.effects.specs.declared.command.Capture.TheVariants.{Now}
-use Rattle.effects.specs.declared.command.Command.{Command}
-use Rattle.effects.specs.declared.command.Refusal.{Refusal}
-use Rattle.effects.specs.Limits.{IsWithinLimits}
-use Rattle.effects.proofs.OutcomeLaws.{given-seen}
+use Rattle.board_commands.specs.declared.command.Capture.TheVariants.{Now}
+use Rattle.board_commands.specs.declared.command.Command.{Command}
+use Rattle.effects.specs.declared.refusal.Refusal.{Refusal}
+use Rattle.board_commands.specs.Limits.{IsWithinLimits}
+use Rattle.effects.proofs.CallerLemmas.{given-seen}
 use Rattle.undoing.specs.Carrying.{taken_all}
 use Rattle.undoing.specs.Differing.{pending}
 use Rattle.undoing.specs.Steps.{Turn, step}
 use Rattle.replica.specs.Back.{Alters, IsStoredChange, changed, changed_all, AreChanges, Call, IsDone, undone_all, redone_all, AreUndos, AreRedos}
 use Rattle.replica.specs.State.{State, noted, stored_with, outcome_on, after_outcome, after_delivery, undo_on, redo_on, after_undo_of, after_redo_of, after_undo, after_redo}
-use Rattle.replica.proofs.Delivering.{empty-stays}
+use Rattle.replica.proofs.CallerLemmas.{empty-stays}
 use Rattle.session_text.specs.declared.event.Event.{Event}
 use Rattle.session_text.specs.declared.event.Event.TheVariants.{Change, Update, Deliver, Hold, Release, Undo, Redo}
 use Rattle.session.specs.Worlds.{Seat, World, Act, fresh, delivered, holding, with_id, without_id, of_command, change_on, undo_of, redo_of, given_of, acted, seat_at, state_at, nonce_at, after_act, all_picked, after_event, after_events}
-use Rattle.given_elements.specs.Written.{IsWrittenCommand}
+use Rattle.board_commands.specs.Written.{IsWrittenCommand}
 use Rattle.session_laws.specs.Turning.{KeepsAway, IsChangeAt, IsUndoAt, IsRedoAt, AreChangesAt, AreUndosAt, AreRedosAt}
 use Rattle.session_laws.proofs.SoundStates.{IsKept, AreGiven, command-given}
 use Rattle.session_laws.proofs.SoundWorlds.{IsKeptWorld, IsKeptEvent, seat-kept, nonce-small, event-kept}

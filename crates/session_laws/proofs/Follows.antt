@@ -4,35 +4,31 @@ use Rattle.std.specs.Option.{option_map}
 use Rattle.std.proofs.lemmas.Bool.{cases_Bool, false≢true, cond_both, cond-true, cond-false}
 use Rattle.std.proofs.lemmas.Option.{none-some, same_Some}
 use Rattle.std.proofs.lemmas.List.Elements.{All-head, All-tail}
-use Rattle.json_text.proofs.Collapsed.{bytes_eq-true, bytes_eq-same}
+use Rattle.json_text.proofs.CallerLemmas.{bytes_eq-true, bytes_eq-same}
 use Rattle.frac_keys.specs.Rising.{are_rising}
 use Rattle.elem.specs.ElementValue.{ElementValue}
 use Rattle.elem.specs.Facts.{IsElement}
 use Rattle.elem.specs.Order.{unstamped, has_id}
 use Rattle.elem.specs.Said.{HasValidTexts, AreElements}
 use Rattle.elem_store.specs.Updates.{Taking, element_of, ids_of, is_taken, takings}
-use Rattle.elem_store.proofs.Rising.{same_elements}
+use Rattle.elem_store.proofs.CallerLemmas.{same_elements}
 use Rattle.delta.specs.Headers.{scalar_of}
-use Rattle.first_texts.specs.FirstOccurrences.{first_occurrences}
+use Rattle.json_text.specs.FirstOccurrences.{first_occurrences}
 use Rattle.delta.specs.Joined.{are_same, joined, stays, is_gained}
 use Rattle.delta.specs.Pairs.{Pair}
 use Rattle.delta.specs.Parts.{scalars_same}
 use Rattle.delta.specs.Undone.{undone_scalar, undone_list}
-use Rattle.delta.proofs.JoinLaws.{are_same-exact, are_same-same}
+use Rattle.delta.proofs.CallerLemmas.{are_same-exact, are_same-same, same-unstamped}
 use Rattle.elem.specs.Listings.{same_listing_entry-exact, same_listing_entry-same, same_listing_entry}
-use Rattle.delta.proofs.PartLaws.{same-unstamped}
 use Rattle.undoing.specs.Carrying.{with_put, taken, taken_all, followed, carried_over, carried, carried_all}
 use Rattle.undoing.specs.Differing.{same_kind}
 use Rattle.undoing.specs.Entries.{IsOfElements}
 use Rattle.undoing.specs.Undoing.{undone_in, undone}
-use Rattle.undoing.proofs.DifferingLaws.{same_kind-true, found-is}
-use Rattle.undoing.proofs.TakenLaws.{put-each, put-elements, taken_all-rising, carried_all-rising, carried-elements, carried-rising}
-use Rattle.undoing.proofs.UndoneLaws.{undone-undoes, undone-element}
-use Rattle.snapshot.proofs.PlanLaws.{takings-more}
+use Rattle.undoing.proofs.CallerLemmas.{same_kind-true, found-is, put-each, put-elements, taken_all-rising, carried_all-rising, carried-elements, carried-rising, undone-undoes, undone-element}
+use Rattle.snapshot.proofs.CallerLemmas.{takings-more}
 use Rattle.replica.specs.Back.{IsCaptured}
 use Rattle.replica.specs.State.{State, carried_with}
-use Rattle.replica.proofs.Agreeing.{same-bare}
-use Rattle.replica.proofs.Leading.{SameAs, bare_of}
+use Rattle.replica.proofs.CallerLemmas.{same-bare, SameAs, bare_of}
 use Rattle.session_laws.proofs.SoundStates.{IsKept}
 
 -- an element as its type keeps it

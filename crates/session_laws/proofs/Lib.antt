@@ -1,7 +1,15 @@
 pub mod AtReplica
 pub mod Follows
+pub mod Leaving
 pub mod NothingPending
 pub mod Showing
 pub mod SoundStates
 pub mod SoundWorlds
 pub mod Turned
+pub mod Seats
+pub mod Telling
+pub mod Entries
+pub mod Giving
+pub mod Ties
+pub mod Owning
+pub mod CallerLemmas

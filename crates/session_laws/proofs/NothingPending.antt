@@ -9,13 +9,13 @@ use Rattle.elem.specs.Order.{unstamped}
 use Rattle.elem.specs.Said.{HasValidTexts, AreElements}
 use Rattle.delta.specs.Pairs.{Pair}
 use Rattle.reconcile.specs.Ids.{is_held, free_elements}
-use Rattle.effects.specs.declared.command.Capture.{Capture}
-use Rattle.effects.specs.declared.command.Capture.TheVariants.{Now, Later, Never}
-use Rattle.effects.specs.declared.command.Command.{Command}
-use Rattle.effects.specs.declared.command.Refusal.{Refusal}
+use Rattle.board_commands.specs.declared.command.Capture.{Capture}
+use Rattle.board_commands.specs.declared.command.Capture.TheVariants.{Now, Later, Never}
+use Rattle.board_commands.specs.declared.command.Command.{Command}
+use Rattle.effects.specs.declared.refusal.Refusal.{Refusal}
 use Rattle.undoing.specs.Differing.{pending}
 use Rattle.undoing.specs.Steps.{Turn}
-use Rattle.replica.specs.Back.{IsCaptured}
+use Rattle.replica.specs.Back.{HasNothingPending, IsCaptured}
 use Rattle.replica.specs.State.{State, noted, captured, stored_with, outcome_on, after_outcome, after_delivery, undo_on, redo_on, after_undo_of, after_redo_of}
 use Rattle.session_text.specs.Facts.{IsSession}
 use Rattle.session_text.specs.declared.event.Event.{Event}
@@ -24,8 +24,9 @@ use Rattle.session_text.specs.declared.session.Session.{Session}
 use Rattle.session.specs.Worlds.{Seat, World, fresh, delivered, holding, with_id, without_id, change_on, undo_of, redo_of, acted, seat_at, state_at, nonce_at, all_picked, after_event, after_events, opening_elements, opened, world_after}
 use Rattle.session_laws.specs.Turning.{IsLaterAt}
 use Rattle.session_laws.proofs.SoundStates.{IsKept, kept-nothing, command-given}
-use Rattle.session_laws.proofs.SoundWorlds.{IsKeptWorld, IsKeptEvent, seat-kept, nonce-small, picked-elements, event-kept, opening-are, opened-kept, cut}
+use Rattle.session_laws.proofs.SoundWorlds.{IsKeptWorld, IsKeptEvent, seat-kept, nonce-small, picked-elements, event-kept, opening-are, opened-kept, world-kept, cut}
 use Rattle.session_laws.proofs.AtReplica.{own-put, other-put}
+use Rattle.replica.proofs.CallerLemmas.{captured-none}
 use Rattle.session_laws.proofs.Follows.{carried-captured}
 
 -- ---- a state
@@ -127,6 +128,11 @@ module _ (session : Session) (is : IsSession session) (at : ℕ) (among : at < s
       let s : Seat = delivered (opening_elements session) fresh in
       subst (λ (seat : Seat). IsCaptured seat.state) (sym (replicated-at session.replicas s at among)) (delivered-still (opening_elements session) fresh kept-nothing (opening-are session is) refl)
 
-  pub nothing-pending : (count : ℕ) → AllByRecursion (λ (event : Event). IsLaterAt at event → ⊥) (take count session.events) → IsCaptured (state_at (world_after session count) at)
-  nothing-pending count soon =
+  pub all-captured : (count : ℕ) → AllByRecursion (λ (event : Event). IsLaterAt at event → ⊥) (take count session.events) → IsCaptured (state_at (world_after session count) at)
+  all-captured count soon =
       events-still session.replicas is.most at among (take count session.events) (opened session) (opened-kept session is) (cut session is count).0 soon opened-still
+
+  pub nothing-pending : (count : ℕ) → AllByRecursion (λ (event : Event). IsLaterAt at event → ⊥) (take count session.events) → HasNothingPending (state_at (world_after session count) at)
+  nothing-pending count soon =
+      captured-none (state_at (world_after session count) at) (seat-kept session.replicas (world_after session count) (world-kept session is count) at among).state.stored_rise
+      (all-captured count soon)

@@ -7,14 +7,16 @@ use Rattle.elem.specs.Said.{HasValidTexts}
 use Rattle.elem_store.specs.Updates.{HaveSameUpdates}
 use Rattle.scene_file.specs.Scenes.{scene_text}
 use Rattle.view.specs.Settled.{AreSettled}
-use Rattle.view.specs.Shown.{live_elements, shown, HaveRisingKeys}
-use Rattle.view.proofs.Kept.{IsKept, AreKept, kept-keys, live-kept}
-use Rattle.view.proofs.ShownLaws.{HaveDistinctIds-rising, live_elements-rise, shown-settled, shown-keys}
+use Rattle.index_repair.specs.Keyed.{HaveRisingKeys}
+use Rattle.view.specs.Shown.{live_elements, shown}
+use Rattle.elem.proofs.CallerLemmas.{IsKept, AreKept}
+use Rattle.index_repair.proofs.CallerLemmas.{kept-keys}
+use Rattle.view.proofs.CallerLemmas.{live-kept, HaveDistinctIds-rising, live_elements-rise, shown-settled, shown-keys}
 use Rattle.session_text.specs.Facts.{IsSession}
 use Rattle.session_text.specs.declared.session.Session.{Session}
 use Rattle.session.specs.Reports.{shown_at}
 use Rattle.session.specs.Worlds.{Seat, head_of, world_after}
-use Rattle.session.proofs.TakenLaws.{same-stored}
+use Rattle.session.proofs.CallerLemmas.{same-stored}
 use Rattle.session_laws.proofs.SoundWorlds.{states-sound, taken-elements}
 
 module _ (session : Session) (is : IsSession session) (count : ℕ) where

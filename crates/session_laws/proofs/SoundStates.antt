@@ -9,35 +9,29 @@ use Rattle.elem.specs.Facts.{IsElement, greatest_whole}
 use Rattle.elem.specs.Said.{HasValidTexts, AreElements}
 use Rattle.elem.specs.Order.{has_id}
 use Rattle.elem_store.specs.Updates.{element_of, ids_of, is_taken, takings}
-use Rattle.elem_store.proofs.Ids.{same_id, of_same}
-use Rattle.elem_store.proofs.Lists.{find-Some, filter-Contains, Contains-cases, Contains-head, Contains-cons}
-use Rattle.elem_store.proofs.Rising.{member}
-use Rattle.elem_store.proofs.StoreLaws.{AreStored-itself, ids-stay}
+use Rattle.elem_store.proofs.CallerLemmas.{same_id, of_same, find-Some, filter-Contains, Contains-cases, Contains-head, Contains-cons, member, AreStored-itself, ids-stay}
 use Rattle.delta.specs.Pairs.{Pair, pair_with, pairs_from, exchanged}
-use Rattle.delta.proofs.RisingIds.{Contains-map}
+use Rattle.delta.proofs.CallerLemmas.{Contains-map}
 use Rattle.view.specs.Shown.{live_elements, shown}
 use Rattle.reconcile.specs.Ids.{is_held, free_elements}
-use Rattle.effects.specs.declared.command.Capture.{Capture}
-use Rattle.effects.specs.declared.command.Capture.TheVariants.{Now, Later, Never}
-use Rattle.effects.specs.declared.command.Command.{Command}
-use Rattle.effects.specs.declared.command.Refusal.{Refusal}
-use Rattle.effects.specs.Limits.{IsWithinLimits}
-use Rattle.effects.proofs.OutcomeLaws.{absent, given-rise, given-taken, given-kind}
+use Rattle.board_commands.specs.declared.command.Capture.{Capture}
+use Rattle.board_commands.specs.declared.command.Capture.TheVariants.{Now, Later, Never}
+use Rattle.board_commands.specs.declared.command.Command.{Command}
+use Rattle.effects.specs.declared.refusal.Refusal.{Refusal}
+use Rattle.board_commands.specs.Limits.{IsWithinLimits}
+use Rattle.effects.proofs.CallerLemmas.{absent, given-rise, given-taken, given-kind}
 use Rattle.undoing.specs.Carrying.{taken_all}
 use Rattle.undoing.specs.Differing.{same_kind, is_changed, pending}
 use Rattle.undoing.specs.Entries.{IsEntry, AreEntries}
 use Rattle.undoing.specs.Steps.{given, Sought, sought, is_seen, Turn, made, step}
-use Rattle.undoing.proofs.DifferingLaws.{same_kind-true, found-is, pending-entry}
-use Rattle.undoing.proofs.StepLaws.{given-each, step-turn, step-sound}
-use Rattle.undoing.proofs.TakenLaws.{taken_all-stored, taken_all-elements, taken_all-rising, takings-elements, carried_all-elements, carried_all-rising}
-use Rattle.undoing.proofs.UndoneLaws.{undone-stamp}
+use Rattle.undoing.proofs.CallerLemmas.{same_kind-true, found-is, pending-entry, given-each, step-turn, step-sound, taken_all-stored, taken_all-elements, taken_all-rising, takings-elements, carried_all-elements, carried_all-rising, undone-stamp}
 use Rattle.snapshot.specs.Carried.{AreOfStoredKinds}
-use Rattle.snapshot.proofs.StoredLaws.{kinds-carried_all, kinds-stored}
+use Rattle.snapshot.proofs.CallerLemmas.{kinds-carried_all, kinds-stored}
 use Rattle.replica.specs.Sound.{IsSoundState}
 use Rattle.replica.specs.State.{State, nothing, noted, captured, stored_with, carried_with, outcome_on, after_given, after_outcome, after_change, after_delivery, undo_on, redo_on, after_undo_of, after_redo_of, after_undo, after_redo}
-use Rattle.replica.proofs.TakenAt.{taken-at, taken-else}
-use Rattle.given_elements.specs.Written.{IsWrittenCommand}
-use Rattle.given_elements.proofs.GivenLaws.{board-given}
+use Rattle.replica.proofs.CallerLemmas.{taken-at, taken-else}
+use Rattle.board_commands.specs.Written.{IsWrittenCommand}
+use Rattle.given_elements.proofs.CallerLemmas.{board-given}
 
 -- something is stored of the id
 abbrev pub IsStoredIn : List ElementValue → List ℕ → Type 0

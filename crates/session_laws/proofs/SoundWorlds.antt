@@ -1,19 +1,16 @@
 -- What holds of the world of a session after every event: its states are sound, and all updates in it are elements.
-use Rattle.std.proofs.Common.{◌≡◌, ◌≤◌, ◌<◌, ◌-◌, ◌*◌, ◌/◌, ◌%◌, ◌^◌, ℕ, zero, suc, not, List, [], ◌∷◌, ◌++◌, length, take, drop, get_or, set, option_to_list, slice_get, Option, Some, None, IfSome, Result, Ok, Err, Contains, bit_xor, refl, sym, ◌∙◌, subst, length-set, take-append-drop, mod-lt, div-le_self, arith}
-use Rattle.std.specs.Int.{w32, rotate_right}
+use Rattle.std.proofs.Common.{◌≡◌, ◌≤◌, ◌<◌, ◌-◌, ℕ, zero, suc, not, List, [], ◌∷◌, ◌++◌, length, take, drop, get_or, set, option_to_list, slice_get, Option, Some, None, IfSome, Result, Ok, Err, Contains, refl, sym, ◌∙◌, subst, length-set, take-append-drop, arith}
 use Rattle.std.specs.List.{All, AllByRecursion}
 use Rattle.std.specs.Option.{option_map_or}
-use Rattle.std.proofs.lemmas.Nat.{or_lt}
 use Rattle.std.proofs.lemmas.List.{length-replicate}
 use Rattle.std.proofs.lemmas.List.Elements.{All-nil, All-cons, All-head, All-tail, All-append, All-push, All-set, All-get_or, All-replicate, All-contains, All-filter}
-use Rattle.rand_pcg.specs.Lcg.{Lcg}
 use Rattle.elem.specs.ElementValue.{ElementValue}
 use Rattle.elem.specs.Facts.{IsElement, greatest_whole}
 use Rattle.elem.specs.Said.{HasValidTexts, AreElements}
-use Rattle.effects.specs.declared.command.Capture.{Capture}
-use Rattle.effects.specs.declared.command.Command.{Command}
-use Rattle.effects.specs.declared.command.Refusal.{Refusal}
-use Rattle.effects.specs.Limits.{IsWithinLimits}
+use Rattle.board_commands.specs.declared.command.Capture.{Capture}
+use Rattle.board_commands.specs.declared.command.Command.{Command}
+use Rattle.effects.specs.declared.refusal.Refusal.{Refusal}
+use Rattle.board_commands.specs.Limits.{IsWithinLimits}
 use Rattle.undoing.specs.Steps.{Turn}
 use Rattle.reconcile.specs.Ids.{is_held, free_elements}
 use Rattle.replica.specs.Sound.{IsSoundState}
@@ -25,8 +22,9 @@ use Rattle.session_text.specs.declared.event.Event.TheVariants.{Change, Update, 
 use Rattle.session_text.specs.declared.event.Pick.{Pick}
 use Rattle.session_text.specs.declared.event.Pick.TheVariants.{All as Whole, One}
 use Rattle.session_text.specs.declared.session.Session.{Session}
-use Rattle.session.specs.Worlds.{Seat, World, Act, fresh, delivered, holding, with_id, without_id, of_command, of_step, change_on, undo_of, redo_of, given_of, acted, seat_at, state_at, next_word, nonce_at, after_act, after_seat, picked, all_picked, after_event, after_events, opening_elements, opened, world_after}
-use Rattle.given_elements.specs.Written.{IsWrittenCommand}
+use Rattle.drawn_words.proofs.CallerLemmas.{word-below}
+use Rattle.session.specs.Worlds.{Seat, World, Act, fresh, delivered, holding, with_id, without_id, of_command, of_step, change_on, undo_of, redo_of, given_of, acted, seat_at, state_at, nonce_at, after_act, after_seat, picked, all_picked, after_event, after_events, opening_elements, opened, world_after}
+use Rattle.board_commands.specs.Written.{IsWrittenCommand}
 use Rattle.session_laws.proofs.SoundStates.{IsKept, kept-sound, kept-nothing, change-kept, command-given, delivery-kept, undo-kept, redo-kept, undo-turn, redo-turn}
 
 -- an element as its type keeps it
@@ -34,17 +32,6 @@ abbrev Is : ElementValue → Type 0
 Is e = IsElement e × HasValidTexts e
 
 -- ---- nonces
-rotated-below : (n by : ℕ) → n < 2 ^ 32 → rotate_right w32 n by < 2 ^ 32
-rotated-below n by below =
-    or_lt 32 (n / 2 ^ (by % 32)) ((n * 2 ^ ((32 - by % 32) % 32)) % 2 ^ 32)
-    (let d = div-le_self n (2 ^ (by % 32)) in omega arith) (mod-lt (n * 2 ^ ((32 - by % 32) % 32)) (omega arith))
-
-word-below : (generator : Lcg) → next_word generator < 2 ^ 32
-unfolding next_word
-word-below generator =
-    rotated-below (bit_xor (generator.state / 2 ^ 18) generator.state / 2 ^ 27 % 2 ^ 32) (generator.state / 2 ^ 59)
-    (mod-lt (bit_xor (generator.state / 2 ^ 18) generator.state / 2 ^ 27) (omega arith))
-
 pub nonce-small : (w : World) (at : ℕ) → at < 64 → nonce_at w at ≤ greatest_whole
 nonce-small w at below = let word = word-below w.generator in omega arith
 

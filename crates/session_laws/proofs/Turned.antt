@@ -6,10 +6,10 @@ use Rattle.elem.specs.ElementValue.{ElementValue}
 use Rattle.elem.specs.Order.{unstamped}
 use Rattle.delta.specs.Pairs.{Pair}
 use Rattle.undoing.specs.Differing.{pending}
-use Rattle.replica.specs.Back.{IsAs, IsCaptured, changed, changed_all, AreChanges, undone_all, redone_all, AreUndos, AreRedos}
+use Rattle.replica.specs.Back.{IsAs, HasNothingPending, IsCaptured, IsFound, changed, changed_all, AreChanges, undone_all, redone_all, AreUndos, AreRedos}
 use Rattle.replica.specs.Sound.{IsSoundState}
-use Rattle.replica.specs.State.{State, noted, stored_with, undo_on, redo_on}
-use Rattle.replica.proofs.Moving.{undone-all, undo-is_found, redone-is, redo-is_found}
+use Rattle.replica.specs.State.{State, noted, captured, stored_with, undo_on, redo_on}
+use Rattle.replica.proofs.CallerLemmas.{captured-none, undone-all, undo-is_found, redone-is, redo-is_found, step-found}
 use Rattle.session_text.specs.Facts.{IsSession}
 use Rattle.session_text.specs.declared.event.Event.{Event}
 use Rattle.session_text.specs.declared.session.Session.{Session}
@@ -63,12 +63,14 @@ module _ (replicas : ℕ) (few : replicas ≤ 64) (w : World) (kept : IsKeptWorl
   abbrev after : List Event → World
   after events = after_events events w
 
-  captured-then : (changes : List Event) (n : ℕ) → AllByRecursion (IsKeptEvent replicas) changes → AreChangesAt at changes w n → 1 ≤ n → IsCaptured (state_at (after changes) at)
+  captured-then : (changes : List Event) (n : ℕ) → AllByRecursion (IsKeptEvent replicas) changes → AreChangesAt at changes w n → 1 ≤ n
+      → IsCaptured (state_at (after changes) at) × HasNothingPending (state_at (after changes) at)
   captured-then changes n all are some =
       let lead = changes-lead replicas few at among changes w n all kept are in
-      subst IsCaptured (sym lead.comes) (all-captured lead.givens (unheld (state_at w at)) (omega (arith, lead.many)))
+      let own = subst IsCaptured (sym lead.comes) (all-captured lead.givens (unheld (state_at w at)) (omega (arith, lead.many))) in
+      (own, captured-none (state_at (after changes) at) (seat-kept replicas (after changes) (events-kept replicas few changes w all kept) at among).state.stored_rise own)
 
-  module _ (still : IsCaptured (state_at w at)) where
+  module _ (still : HasNothingPending (state_at w at)) where
     sound : IsSoundState (unheld (state_at w at))
     sound = unheld-sound (state_at w at) (kept-sound (state_at w at) (seat-kept replicas w kept at among).state)
 
@@ -88,8 +90,9 @@ module _ (replicas : ℕ) (few : replicas ≤ 64) (w : World) (kept : IsKeptWorl
 
     -- while changes are left, undo finds an entry
     undo-then : (changes undos : List Event) (n j : ℕ) → AllByRecursion (IsKeptEvent replicas) changes → AllByRecursion (IsKeptEvent replicas) undos
-        → AreChangesAt at changes w n → AreUndosAt at undos (after changes) j → j < n → (time nonce : ℕ) → undo_on time nonce (state_at (after_events undos (after changes)) at) ≡ None → ⊥
-    undo-then changes undos n j all all' are are' less time nonce none =
+        → AreChangesAt at changes w n → AreUndosAt at undos (after changes) j → j < n → (time nonce : ℕ)
+        → IsFound (state_at (after_events undos (after changes)) at).stored (undo_on time nonce (state_at (after_events undos (after changes)) at))
+    undo-then changes undos n j all all' are are' less time nonce =
         let s : State = unheld (state_at w at) in
         let next : World = after changes in
         let lead = changes-lead replicas few at among changes w n all kept are in
@@ -98,14 +101,17 @@ module _ (replicas : ℕ) (few : replicas ≤ 64) (w : World) (kept : IsKeptWorl
         let comes : unheld (state_at (after_events undos next) at) ≡ undone_all lead'.calls (changed_all lead.givens s) = lead'.comes ∙ ap (undone_all lead'.calls) lead.comes in
         let many = lead.many in
         let many' = lead'.many in
+        let t : State = state_at (after_events undos next) at in
+        step-found t.stored time nonce (captured t).undo (captured t).redo (λ none.
         undo-is_found s lead.givens sound still lead.changes lead'.calls (omega arith) done (omega arith) time nonce
-        (ap (undo_on time nonce) (sym comes) ∙ unheld-undo_on time nonce (state_at (after_events undos next) at) ∙ none)
+        (ap (undo_on time nonce) (sym comes) ∙ unheld-undo_on time nonce t ∙ none))
 
     -- while undos are left, redo does
     redo-then : (changes undos redos : List Event) (n j k : ℕ) → AllByRecursion (IsKeptEvent replicas) changes → AllByRecursion (IsKeptEvent replicas) undos → AllByRecursion (IsKeptEvent replicas) redos
         → AreChangesAt at changes w n → AreUndosAt at undos (after changes) j → AreRedosAt at redos (after_events undos (after changes)) k → j ≤ n → k < j
-        → (time nonce : ℕ) → redo_on time nonce (state_at (after_events redos (after_events undos (after changes))) at) ≡ None → ⊥
-    redo-then changes undos redos n j k all all-2 all-3 are are-2 are-3 some less time nonce none =
+        → (time nonce : ℕ)
+        → IsFound (state_at (after_events redos (after_events undos (after changes))) at).stored (redo_on time nonce (state_at (after_events redos (after_events undos (after changes))) at))
+    redo-then changes undos redos n j k all all-2 all-3 are are-2 are-3 some less time nonce =
         let s : State = unheld (state_at w at) in
         let w-2 : World = after changes in
         let w-3 : World = after_events undos w-2 in
@@ -122,8 +128,10 @@ module _ (replicas : ℕ) (few : replicas ≤ 64) (w : World) (kept : IsKeptWorl
         let many = lead.many in
         let many-2 = lead-2.many in
         let many-3 = lead-3.many in
+        let t : State = state_at (after_events redos w-3) at in
+        step-found t.stored time nonce (captured t).redo (captured t).undo (λ none.
         redo-is_found s lead.givens sound still lead.changes lead-2.calls (omega arith) undone lead-3.calls (omega arith) redone (omega arith) time nonce
-        (ap (redo_on time nonce) (sym comes-3) ∙ unheld-redo_on time nonce (state_at (after_events redos w-3) at) ∙ none)
+        (ap (redo_on time nonce) (sym comes-3) ∙ unheld-redo_on time nonce t ∙ none))
 
     again-then : (again others undos redos : List Event) (r l : ℕ) → AllByRecursion (IsKeptEvent replicas) again → AllByRecursion (IsKeptEvent replicas) others
         → AllByRecursion (IsKeptEvent replicas) undos → AllByRecursion (IsKeptEvent replicas) redos
@@ -175,34 +183,37 @@ module _ (session : Session) (is : IsSession session) (count at : ℕ) (among : 
   parts events rest here =
       all-parts (IsKeptEvent session.replicas) events rest (subst (AllByRecursion (IsKeptEvent session.replicas)) here (rest-kept session is count))
 
-  pub captured-after : (changes rest : List Event) (n : ℕ) → drop count session.events ≡ changes ++ rest → AreChangesAt at changes now n → 1 ≤ n → IsCaptured (state_at (after_events changes now) at)
+  pub captured-after : (changes rest : List Event) (n : ℕ) → drop count session.events ≡ changes ++ rest → AreChangesAt at changes now n → 1 ≤ n
+      → IsCaptured (state_at (after_events changes now) at) × HasNothingPending (state_at (after_events changes now) at)
   captured-after changes rest n here are some =
       captured-then session.replicas is.most now (world-kept session is count) at among changes n (parts changes rest here).0 are some
 
-  pub back-after : (changes undos rest : List Event) (n : ℕ) → drop count session.events ≡ changes ++ undos ++ rest → IsCaptured (state_at now at)
+  pub back-after : (changes undos rest : List Event) (n : ℕ) → drop count session.events ≡ changes ++ undos ++ rest → HasNothingPending (state_at now at)
       → AreChangesAt at changes now n → AreUndosAt at undos (after_events changes now) n → IsAs (state_at now at) (state_at (after_events undos (after_events changes now)) at)
   back-after changes undos rest n here still are are' =
       let both = parts (changes ++ undos) rest here in
       let own = all-parts (IsKeptEvent session.replicas) changes undos both.0 in
       back-then session.replicas is.most now (world-kept session is count) at among still changes undos n own.0 own.1 are are'
 
-  pub undo-after : (changes undos rest : List Event) (n j : ℕ) → drop count session.events ≡ changes ++ undos ++ rest → IsCaptured (state_at now at)
-      → AreChangesAt at changes now n → AreUndosAt at undos (after_events changes now) j → j < n → (time nonce : ℕ) → undo_on time nonce (state_at (after_events undos (after_events changes now)) at) ≡ None → ⊥
+  pub undo-after : (changes undos rest : List Event) (n j : ℕ) → drop count session.events ≡ changes ++ undos ++ rest → HasNothingPending (state_at now at)
+      → AreChangesAt at changes now n → AreUndosAt at undos (after_events changes now) j → j < n → (time nonce : ℕ)
+      → IsFound (state_at (after_events undos (after_events changes now)) at).stored (undo_on time nonce (state_at (after_events undos (after_events changes now)) at))
   undo-after changes undos rest n j here still are are' less time nonce =
       let both = parts (changes ++ undos) rest here in
       let own = all-parts (IsKeptEvent session.replicas) changes undos both.0 in
       undo-then session.replicas is.most now (world-kept session is count) at among still changes undos n j own.0 own.1 are are' less time nonce
 
-  pub redo-after : (changes undos redos rest : List Event) (n j k : ℕ) → drop count session.events ≡ changes ++ undos ++ redos ++ rest → IsCaptured (state_at now at)
+  pub redo-after : (changes undos redos rest : List Event) (n j k : ℕ) → drop count session.events ≡ changes ++ undos ++ redos ++ rest → HasNothingPending (state_at now at)
       → AreChangesAt at changes now n → AreUndosAt at undos (after_events changes now) j → AreRedosAt at redos (after_events undos (after_events changes now)) k → j ≤ n → k < j
-      → (time nonce : ℕ) → redo_on time nonce (state_at (after_events redos (after_events undos (after_events changes now))) at) ≡ None → ⊥
+      → (time nonce : ℕ)
+      → IsFound (state_at (after_events redos (after_events undos (after_events changes now))) at).stored (redo_on time nonce (state_at (after_events redos (after_events undos (after_events changes now))) at))
   redo-after changes undos redos rest n j k here still are are-2 are-3 some less time nonce =
       let three = parts (changes ++ undos ++ redos) rest here in
       let two = all-parts (IsKeptEvent session.replicas) (changes ++ undos) redos three.0 in
       let one = all-parts (IsKeptEvent session.replicas) changes undos two.0 in
       redo-then session.replicas is.most now (world-kept session is count) at among still changes undos redos n j k one.0 one.1 two.1 are are-2 are-3 some less time nonce
 
-  pub again-after : (again others undos redos rest : List Event) (r l : ℕ) → drop count session.events ≡ again ++ others ++ undos ++ redos ++ rest → IsCaptured (state_at now at)
+  pub again-after : (again others undos redos rest : List Event) (r l : ℕ) → drop count session.events ≡ again ++ others ++ undos ++ redos ++ rest → HasNothingPending (state_at now at)
       → AreChangesAt at again now r → AreChangesAt at others (after_events again now) l → AreUndosAt at undos (after_events others (after_events again now)) (r + l)
       → AreRedosAt at redos (after_events undos (after_events others (after_events again now))) r
       → IsAs (state_at (after_events again now) at) (state_at (after_events redos (after_events undos (after_events others (after_events again now)))) at)

@@ -3,8 +3,8 @@
 use Rattle.std.specs.Prelude.{◌≡◌, ◌≢◌, ◌⊎◌, ℕ, zero, suc, List, [], ◌∷◌, Some, Ok}
 use Rattle.elem_store.specs.Updates.{takings}
 use Rattle.reconcile.specs.Ids.{free_elements}
-use Rattle.effects.specs.declared.command.Capture.TheVariants.{Now, Later}
-use Rattle.effects.specs.declared.command.Command.{Command}
+use Rattle.board_commands.specs.declared.command.Capture.TheVariants.{Now, Later}
+use Rattle.board_commands.specs.declared.command.Command.{Command}
 use Rattle.undoing.specs.Steps.{Turn}
 use Rattle.replica.specs.State.{undo_on, redo_on}
 use Rattle.session_text.specs.declared.event.Event.{Event}

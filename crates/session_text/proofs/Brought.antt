@@ -7,23 +7,21 @@ use Rattle.json_text.specs.Compact.{Member as Pair}
 use Rattle.json_text.specs.Members.{pairs}
 use Rattle.json_text.specs.declared.text.Member.{Member}
 use Rattle.scene_json.specs.Named.{value_at}
-use Rattle.scene_json.proofs.Lookups.{rising_distinct}
+use Rattle.scene_json.proofs.CallerLemmas.{rising_distinct}
 use Rattle.index_repair.specs.Repair.{repaired}
 use Rattle.elem.specs.ElementValue.{ElementValue}
 use Rattle.elem.specs.Facts.{IsElement, names}
 use Rattle.elem.specs.Forms.{find_in}
 use Rattle.elem.specs.Said.{HasValidTexts, AreElements}
 use Rattle.elem.specs.Texts.{element_text}
-use Rattle.elem.proofs.FormsOnce.{names-rise}
+use Rattle.elem.proofs.CallerLemmas.{names-rise}
 use Rattle.elem_read.specs.Elements.{AreRead}
 use Rattle.elem_read.specs.Reading.{IsWholeElement}
-use Rattle.elem_read.proofs.Keeping.{found-has, found-self}
-use Rattle.elem_read.proofs.ReadElements.{All-whole}
-use Rattle.elem_read.proofs.Whole.{IsSound-read}
-use Rattle.view.specs.Shown.{index_of, keyed}
-use Rattle.view.proofs.Kept.{keyed-elements}
-use Rattle.effects.specs.declared.command.Command.{Command}
-use Rattle.effects.specs.declared.command.Side.{Side}
+use Rattle.elem_read.proofs.CallerLemmas.{found-has, found-self, All-whole, IsSound-read}
+use Rattle.index_repair.specs.Keyed.{index_of, keyed}
+use Rattle.index_repair.proofs.CallerLemmas.{keyed-elements}
+use Rattle.board_commands.specs.declared.command.Command.{Command}
+use Rattle.board_commands.specs.declared.command.Side.{Side}
 use Rattle.scene_file.specs.Reading.{value_unless_null, loaded}
 use Rattle.scene_file.specs.declared.scene.Scene.{Scene as Board}
 use Rattle.session_text.specs.Commands.{EndOf, IdsAnd, CommandNamed}
@@ -40,7 +38,7 @@ use Rattle.session_text.specs.declared.header.Header.{Header}
 use Rattle.session_text.specs.declared.name.MemberName.{MemberName}
 use Rattle.session_text.specs.declared.name.MemberName.TheVariants as named
 use Rattle.session_text.proofs.Readings.{then-ok, gives-ok}
-use Rattle.given_elements.specs.Written.{IsWrittenCommand}
+use Rattle.board_commands.specs.Written.{IsWrittenCommand}
 
 -- ---- elements
 read-elements : (values : List (List ℕ)) (elements : List ElementValue) → AreRead values elements → AreElements elements

@@ -8,22 +8,18 @@ use Rattle.json_text.specs.Parts.{AreMembers}
 use Rattle.json_text.specs.Value.{IsCompact}
 use Rattle.json_text.specs.declared.text.Member.{Member}
 use Rattle.scene_json.specs.Named.{value_at}
-use Rattle.json_text.proofs.Collapsed.{bytes_eq-true, bytes_eq-same}
-use Rattle.json_text.proofs.CompactLaws.{Value-deeper}
-use Rattle.json_text.proofs.Forms.{StartsWith, quote-starts, array-starts, object-starts, array-or-not, object-or-not, nests-or-not}
-use Rattle.json_text.proofs.Strings.{heads-differ}
-use Rattle.scene_json.proofs.Decimals.{digit_of_decimal}
-use Rattle.first_texts.specs.FirstOccurrences.{first_texts}
+use Rattle.json_text.proofs.CallerLemmas.{bytes_eq-true, bytes_eq-same, Value-deeper, StartsWith, quote-starts, array-starts, object-starts, array-or-not, object-or-not, nests-or-not, heads-differ}
+use Rattle.scene_json.proofs.CallerLemmas.{digit_of_decimal}
+use Rattle.json_text.specs.FirstOccurrences.{first_texts}
 use Rattle.elem.specs.Facts.{greatest_whole}
 use Rattle.elem.specs.Forms.{find_in, IsText, IsWholeNumber, IsObject, AreTexts, AreOthers}
-use Rattle.elem.proofs.FormsOnce.{text-once, whole-once, texts-once, members-once, others-once}
-use Rattle.elem.proofs.Once.{array-once}
-use Rattle.elem_read.proofs.Decided.{Decided, Fits, fits-in, text-or-not, texts-or-not, whole-or-not, others-exist}
-use Rattle.effects.specs.declared.command.Spot.{Spot}
-use Rattle.effects.specs.declared.command.Spot.TheVariants as spots
+use Rattle.elem.proofs.CallerLemmas.{text-once, whole-once, texts-once, members-once, others-once, array-once}
+use Rattle.elem_read.proofs.CallerLemmas.{Decided, Fits, fits-in, text-or-not, texts-or-not, whole-or-not, others-exist}
+use Rattle.board_commands.specs.declared.command.Spot.{Spot}
+use Rattle.board_commands.specs.declared.command.Spot.TheVariants as spots
 use Rattle.session_text.specs.Forms.{IsFrom, IsThere, IsArray, HasObject, IsShallow, AreIds, IsCapture, IsSide, IsSpotAfter, IsSpot, IsRest, IsPair, IsPick, ArePicks, HasPicks, capture_text, side_text}
-use Rattle.effects.specs.declared.command.Capture.{Capture}
-use Rattle.effects.specs.declared.command.Capture.TheVariants as captures
+use Rattle.board_commands.specs.declared.command.Capture.{Capture}
+use Rattle.board_commands.specs.declared.command.Capture.TheVariants as captures
 use Rattle.session_text.specs.declared.event.Pick.{Pick}
 use Rattle.session_text.specs.declared.event.Pick.TheVariants as chosen
 use Rattle.session_text.proofs.Words.{AreTold, word-once, word-or-not, all_captures, captures-told, all_sides, sides-told}

@@ -7,19 +7,19 @@ use Rattle.json_text.specs.Members.{pairs}
 use Rattle.json_text.specs.Value.{IsCompact}
 use Rattle.json_text.specs.declared.text.Member.{Member}
 use Rattle.scene_json.specs.Named.{value_at}
-use Rattle.scene_json.proofs.Lookups.{rising_distinct}
+use Rattle.scene_json.proofs.CallerLemmas.{rising_distinct}
 use Rattle.elem.specs.Facts.{greatest_whole, names, AllNest}
 use Rattle.elem.specs.Forms.{find_in, IsObject, AreOthers}
-use Rattle.elem.proofs.FormsOnce.{names-rise}
-use Rattle.elem_read.proofs.Keeping.{found-has, found-self, object-nests}
-use Rattle.effects.specs.Limits.{IsWithinLimits}
-use Rattle.effects.specs.Limits as limits
-use Rattle.effects.specs.declared.command.Command.{Command}
-use Rattle.effects.specs.declared.command.Command.TheVariants as commands
+use Rattle.elem.proofs.CallerLemmas.{names-rise}
+use Rattle.elem_read.proofs.CallerLemmas.{found-has, found-self, object-nests}
+use Rattle.board_commands.specs.Limits.{IsWithinLimits}
+use Rattle.board_commands.specs.Limits as limits
+use Rattle.board_commands.specs.declared.command.Command.{Command}
+use Rattle.board_commands.specs.declared.command.Command.TheVariants as commands
 use Rattle.scene_file.specs.Reading.{value_unless_null}
 use Rattle.scene_file.specs.Whole.{HaveKeys}
 use Rattle.scene_file.specs.declared.scene.Scene.{Scene as Board}
-use Rattle.scene_file.proofs.Sound.{loaded-keys}
+use Rattle.scene_file.proofs.CallerLemmas.{loaded-keys}
 use Rattle.session_text.specs.Commands.{CommandNamed, CommandOf}
 use Rattle.session_text.specs.Events.{HeaderOf, SceneOf, TimeOf, HeldOf, CommandIn, EventNamed, HeaderText, EventText, header}
 use Rattle.session_text.specs.Facts.{IsAmong, IsEventWithinLimits, IsOfMade, PicksMade, PickMade, IsSession}

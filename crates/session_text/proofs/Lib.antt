@@ -13,3 +13,4 @@ pub mod SessionsOne
 pub mod TakenTexts
 pub mod Values
 pub mod Words
+pub mod CallerLemmas

@@ -1,8 +1,8 @@
 -- What is read, or the first fault, of one reading after the other.
 use Rattle.std.proofs.Common.{◌≡◌, ◌⊎◌, inl, inr, Result, Ok, Err, refl, sym, ap, subst, ◌∙◌}
-use Rattle.board_io.specs.declared.stop.Stop.{Stop}
-use Rattle.board_io.specs.declared.stop.Stop.TheVariants.{Fault, Memory}
-use Rattle.elem_read.proofs.Decided.{Decided}
+use Rattle.board_base.specs.declared.stop.Stop.{Stop}
+use Rattle.board_base.specs.declared.stop.Stop.TheVariants.{Fault, Memory}
+use Rattle.elem_read.proofs.CallerLemmas.{Decided}
 use Rattle.session_text.specs.Reads.{Or, Gives, Then, Answers, IsReadResult}
 use Rattle.session_text.specs.Reads.Then.{goes_on, ends}
 use Rattle.session_text.specs.declared.fault.TextFault.{TextFault}

@@ -5,8 +5,8 @@ use Rattle.json_text.specs.Parts.{AreMembers}
 use Rattle.json_text.specs.Value.{IsCompact}
 use Rattle.scene_json.specs.Named.{value_at}
 use Rattle.elem.specs.Forms.{IsText, IsWholeNumber, IsObject}
-use Rattle.elem.proofs.FormsOnce.{text-once, whole-once, members-once}
-use Rattle.elem_read.proofs.Decided.{Decided, Fits, fits-in, text-or-not, whole-or-not}
+use Rattle.elem.proofs.CallerLemmas.{text-once, whole-once, members-once}
+use Rattle.elem_read.proofs.CallerLemmas.{Decided, Fits, fits-in, text-or-not, whole-or-not}
 use Rattle.scene_file.specs.Reading as scene_reading
 use Rattle.session_text.specs.Commands.{asked_text, IsAsked, TextOf, ElementOf, IdsOf, IdsAnd, EndOf, CommandNamed, CommandOf}
 use Rattle.session_text.specs.Events.{HeaderOf, happening_text, IsHappening, TimeOf, HeldOf, CommandIn, ElementsIn, EventNamed, EventOf, HeaderText, EventText}

@@ -6,11 +6,11 @@ use Rattle.json_text.specs.declared.text.Member.{Member}
 use Rattle.scene_json.specs.Named.{value_at}
 use Rattle.elem.specs.ElementValue.{ElementValue}
 use Rattle.elem.specs.Forms.{IsText}
-use Rattle.effects.specs.declared.command.Capture.{Capture}
-use Rattle.effects.specs.declared.command.Command.{Command}
-use Rattle.effects.specs.declared.command.Command.TheVariants as commands
-use Rattle.effects.specs.declared.command.Side.{Side}
-use Rattle.effects.specs.declared.command.Spot.{Spot}
+use Rattle.board_commands.specs.declared.command.Capture.{Capture}
+use Rattle.board_commands.specs.declared.command.Command.{Command}
+use Rattle.board_commands.specs.declared.command.Command.TheVariants as commands
+use Rattle.board_commands.specs.declared.command.Side.{Side}
+use Rattle.board_commands.specs.declared.command.Spot.{Spot}
 use Rattle.session_text.specs.Commands.{ElementOf, CommandOf}
 use Rattle.session_text.specs.Events.{TimeOf, CommandIn, EventOf}
 use Rattle.session_text.specs.Forms.{IsFrom, IsShallow, AreIds, IsCapture, IsSide, IsSpot, IsRest, HasPicks}

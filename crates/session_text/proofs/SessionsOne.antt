@@ -5,11 +5,10 @@ use Rattle.json_text.specs.Characters.{is_blank}
 use Rattle.json_text.specs.Value.{IsCompact, Stands}
 use Rattle.json_reader.specs.Faults.{IsFirstFault}
 use Rattle.json_reader.specs.declared.fault.JsonFault.{JsonFault}
-use Rattle.json_text.proofs.CompactLaws.{Value-compact}
-use Rattle.json_text.proofs.Reading.{Stands-once}
-use Rattle.json_reader.proofs.Outcomes.{value-or-fault}
-use Rattle.json_reader.proofs.FirstFaults as json
-use Rattle.scene_file.proofs.Blanks.{Stands-no_blank, Stands-behind}
+use Rattle.json_text.proofs.CallerLemmas.{Value-compact, Stands-once}
+use Rattle.json_reader.proofs.CallerLemmas.{value-or-fault}
+use Rattle.json_reader.proofs.CallerLemmas as json
+use Rattle.scene_file.proofs.CallerLemmas.{Stands-no_blank, Stands-behind}
 use Rattle.session_text.specs.Events.{HeaderText, EventText, header}
 use Rattle.session_text.specs.Sessions.{most_events, StandsAs, IsTextFaultAt, messages_of, made_after, EventsLead, LeadTo, IsSessionOf, HasFaultyEvent, HasTooMany, IsSessionFault}
 use Rattle.session_text.specs.declared.event.Event.{Event}

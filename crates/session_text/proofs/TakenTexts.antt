@@ -1,6 +1,6 @@
 -- What is kept of a session so far while its texts are taken.
 use Rattle.std.proofs.Common.{◌≡◌, ℕ, ◌+◌, ◌≤◌, List, [], ◌∷◌, ◌++◌, false, Option, Some, None, Result, Ok, Err, OnOk, OnErr, length, sym, ap, subst, ◌∙◌, arith}
-use Rattle.board_io.specs.declared.stop.Stop.{Stop}
+use Rattle.board_base.specs.declared.stop.Stop.{Stop}
 use Rattle.session_text.specs.Events.{HeaderText, EventText}
 use Rattle.session_text.specs.Facts.{IsSession}
 use Rattle.session_text.specs.Sessions.{most_events, messages_of, made_after}

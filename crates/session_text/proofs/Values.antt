@@ -6,24 +6,19 @@ use Rattle.json_text.specs.Parts.{AreMembers}
 use Rattle.json_text.specs.Tree.{null_word}
 use Rattle.json_text.specs.Value.{IsCompact, Stands}
 use Rattle.scene_json.specs.Named.{value_at}
-use Rattle.json_text.proofs.Reading.{Stands-once}
+use Rattle.json_text.proofs.CallerLemmas.{Stands-once}
 use Rattle.elem.specs.ElementValue.{ElementValue}
 use Rattle.elem_read.specs.Elements.{AreRead, IsFirstFaulty}
 use Rattle.elem_read.specs.Reading.{IsSelection, IsElementIn, IsFaultIn}
 use Rattle.elem_read.specs.declared.fault.ElemFault.{ElemFault}
 use Rattle.elem_read.specs.declared.fault.ElemFault.TheVariants.{Kind}
-use Rattle.elem_read.proofs.Decided.{Fits, fits-in}
-use Rattle.elem_read.proofs.Read.{read-exists}
-use Rattle.elem_read.proofs.ReadElements.{read-once, faulty-once, faultless, read-or-faulty}
-use Rattle.elem_read.proofs.Unique.{element-once, element-faultless, element-kept, fault-dropped}
-use Rattle.elem_read.proofs.Unique as elements
+use Rattle.elem_read.proofs.CallerLemmas.{Fits, fits-in, read-exists, read-once, faulty-once, faultless, read-or-faulty, element-once, element-faultless, element-kept, fault-dropped}
+use Rattle.elem_read.proofs.CallerLemmas as elements
 use Rattle.scene_file.specs.Reading.{value_unless_null, IsSceneOf, IsSceneFault, IsSceneAt, IsSceneFaultAt}
 use Rattle.scene_file.specs.declared.fault.SceneFault.{SceneFault}
 use Rattle.scene_file.specs.declared.fault.SceneFault.TheVariants as scenes
 use Rattle.scene_file.specs.declared.scene.Scene.{Scene as Board}
-use Rattle.scene_file.proofs.Existing.{scene-or-fault}
-use Rattle.scene_file.proofs.Once.{scene-once, fault-once, fault-none}
-use Rattle.scene_file.proofs.Values.{behind}
+use Rattle.scene_file.proofs.CallerLemmas.{scene-or-fault, scene-once, fault-once, fault-none, behind}
 use Rattle.session_text.specs.Commands.{IsDrawnAs}
 use Rattle.session_text.specs.Events.{SceneOf, AreDrawnAs}
 use Rattle.session_text.specs.declared.fault.TextFault.{TextFault}

@@ -1,18 +1,18 @@
 -- Things that are told by words.
 use Rattle.std.proofs.Common.{◌≡◌, ◌⊎◌, inl, inr, ℕ, List, [], ◌∷◌, Option, Some, None, bytes_eq, if◌then◌else◌, true, false, refl, sym, ap, ◌∙◌}
 use Rattle.std.proofs.lemmas.Bool.{cases_Bool}
-use Rattle.json_text.proofs.Collapsed.{bytes_eq-true}
+use Rattle.json_text.proofs.CallerLemmas.{bytes_eq-true}
 use Rattle.json_text.specs.Characters.{quote}
-use Rattle.effects.specs.declared.command.Side.{Side}
-use Rattle.effects.specs.declared.command.Side.TheVariants as sides
-use Rattle.elem_read.proofs.Decided.{Decided}
+use Rattle.board_commands.specs.declared.command.Side.{Side}
+use Rattle.board_commands.specs.declared.command.Side.TheVariants as sides
+use Rattle.elem_read.proofs.CallerLemmas.{Decided}
 use Rattle.session_text.specs.Commands.{asked_text}
 use Rattle.session_text.specs.Events.{happening_text}
 use Rattle.session_text.specs.Forms.{capture_text, side_text}
 use Rattle.session_text.specs.declared.command.Asked.{Asked}
 use Rattle.session_text.specs.declared.command.Asked.TheVariants as asked
-use Rattle.effects.specs.declared.command.Capture.{Capture}
-use Rattle.effects.specs.declared.command.Capture.TheVariants as captures
+use Rattle.board_commands.specs.declared.command.Capture.{Capture}
+use Rattle.board_commands.specs.declared.command.Capture.TheVariants as captures
 use Rattle.session_text.specs.declared.happening.Happening.{Happening}
 use Rattle.session_text.specs.declared.happening.Happening.TheVariants as happenings
 

@@ -7,9 +7,9 @@ use Rattle.elem.specs.Forms.{IsText}
 use Rattle.elem_read.specs.Reading.{IsElementIn, IsSelection, IsFaultIn}
 use Rattle.elem_read.specs.declared.fault.ElemFault.{ElemFault}
 use Rattle.elem_read.specs.declared.fault.ElemFault.TheVariants.{Kind}
-use Rattle.effects.specs.declared.command.Command.{Command}
-use Rattle.effects.specs.declared.command.Command.TheVariants as commands
-use Rattle.effects.specs.declared.command.Side.{Side}
+use Rattle.board_commands.specs.declared.command.Command.{Command}
+use Rattle.board_commands.specs.declared.command.Command.TheVariants as commands
+use Rattle.board_commands.specs.declared.command.Side.{Side}
 use Rattle.session_text.specs.Forms.{IsThere, IsShallow, AreIds, IsSide, IsSpot, IsRest}
 use Rattle.session_text.specs.Reads.{Reading, MemberOf, Gives, Then}
 use Rattle.session_text.specs.declared.command.Asked.{Asked}

@@ -6,7 +6,7 @@ use Rattle.elem.specs.ElementValue.{ElementValue}
 use Rattle.elem.specs.Forms.{IsText, IsWholeNumber}
 use Rattle.elem_read.specs.Elements.{AreRead, IsFirstFaulty}
 use Rattle.elem_read.specs.declared.fault.ElemFault.{ElemFault}
-use Rattle.effects.specs.declared.command.Command.{Command}
+use Rattle.board_commands.specs.declared.command.Command.{Command}
 use Rattle.scene_file.specs.Reading.{value_unless_null, IsSceneOf, IsSceneFault}
 use Rattle.scene_file.specs.declared.scene.Scene.{Scene as Board}
 use Rattle.scene_file.specs.declared.fault.SceneFault.{SceneFault}

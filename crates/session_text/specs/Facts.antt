@@ -3,8 +3,8 @@ use Rattle.std.specs.Prelude.{ℕ, ◌+◌, ◌<◌, ◌≤◌, List, [], ◌∷
 use Rattle.std.specs.List.{AllByRecursion}
 use Rattle.elem.specs.Facts.{greatest_whole}
 use Rattle.elem.specs.Said.{AreElements}
-use Rattle.effects.specs.Limits.{IsWithinLimits}
-use Rattle.given_elements.specs.Written.{IsWrittenCommand}
+use Rattle.board_commands.specs.Limits.{IsWithinLimits}
+use Rattle.board_commands.specs.Written.{IsWrittenCommand}
 use Rattle.scene_file.specs.Whole.{HaveKeys}
 use Rattle.scene_file.specs.declared.scene.Scene.{Scene}
 use Rattle.session_text.specs.Sessions.{most_events, messages_of}

@@ -7,14 +7,14 @@ use Rattle.json_text.specs.Compact.{Member as Pair, array_text}
 use Rattle.json_text.specs.Value.{IsCompact}
 use Rattle.json_text.specs.declared.text.Member.{Member}
 use Rattle.scene_json.specs.Named.{value_at}
-use Rattle.first_texts.specs.FirstOccurrences.{first_texts}
+use Rattle.json_text.specs.FirstOccurrences.{first_texts}
 use Rattle.elem.specs.Forms.{find_in, IsText, IsWholeNumber, IsObject, AreTexts, AreOthers}
-use Rattle.effects.specs.declared.command.Side.{Side}
-use Rattle.effects.specs.declared.command.Side.TheVariants as sides
-use Rattle.effects.specs.declared.command.Spot.{Spot}
-use Rattle.effects.specs.declared.command.Spot.TheVariants as spots
-use Rattle.effects.specs.declared.command.Capture.{Capture}
-use Rattle.effects.specs.declared.command.Capture.TheVariants as captures
+use Rattle.board_commands.specs.declared.command.Side.{Side}
+use Rattle.board_commands.specs.declared.command.Side.TheVariants as sides
+use Rattle.board_commands.specs.declared.command.Spot.{Spot}
+use Rattle.board_commands.specs.declared.command.Spot.TheVariants as spots
+use Rattle.board_commands.specs.declared.command.Capture.{Capture}
+use Rattle.board_commands.specs.declared.command.Capture.TheVariants as captures
 use Rattle.session_text.specs.declared.event.Pick.{Pick}
 use Rattle.session_text.specs.declared.event.Pick.TheVariants as chosen
 

@@ -9,8 +9,8 @@ ghost use Rattle.session_text.specs.declared.name.MemberName.TheVariants as name
 use crate::fault::TextFault;
 use crate::fields::{ids, rest, shallow, side, spot, text, value};
 use crate::name::MemberName;
-use board_io::{List, Stop};
-use effects::{Command, Side};
+use board_base::{List, Stop};
+use board_commands::{Command, Side};
 use elem::Element;
 use elem_read::{ElemFault, read_element};
 use json_text::{Member, Raw, Text};

@@ -1,7 +1,7 @@
 //! The events of a session.
 
-use board_io::List;
-use effects::{Capture, Command};
+use board_base::List;
+use board_commands::{Capture, Command};
 use elem::Element;
 use json_text::Text;
 

@@ -11,10 +11,9 @@ ghost use Rattle.session_text.specs.declared.name.MemberName.TheVariants as name
 
 use crate::fault::TextFault;
 use crate::name::MemberName;
-use board_io::{List, Stop};
-use effects::{Capture, Side, Spot};
-use first_texts::first_occurrences;
-use json_text::{Member, Raw, Text};
+use board_base::{List, Stop};
+use board_commands::{Capture, Side, Spot};
+use json_text::{Member, Raw, Text, first_occurrences};
 use scene_json::{
     has_value, items, members, nests_at_most, shaped, text_named, texts_of, value_named,
     whole_named,

@@ -9,7 +9,7 @@ ghost use Rattle.session_text.specs.Reads.{IsReadResult};
 use crate::fault::TextFault;
 use crate::fields::{number_from, object, whole};
 use crate::name::MemberName;
-use board_io::{List, Stop};
+use board_base::{List, Stop};
 use json_text::{Member, Raw};
 use scene_file::{Scene, scene_of};
 use scene_json::{is_null, value_named};

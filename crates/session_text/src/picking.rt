@@ -10,7 +10,7 @@ ghost use Rattle.session_text.specs.declared.name.MemberName.TheVariants as name
 use crate::event::Pick;
 use crate::fault::TextFault;
 use crate::name::MemberName;
-use board_io::{List, Stop};
+use board_base::{List, Stop};
 use json_text::{Member, Raw};
 use scene_json::{items, shaped, value_named, whole_of};
 use std::alloc::{AllocError, Global};

@@ -10,7 +10,7 @@ ghost use Rattle.session_text.specs.declared.fault.SessionFault.{SessionFault};
 use crate::fault::{SessionFault, TextFault};
 use crate::session::Session;
 use crate::taking::SessionFeed;
-use board_io::Stop;
+use board_base::Stop;
 use json_reader::scan;
 use json_text::skip_space;
 use std::alloc::Global;

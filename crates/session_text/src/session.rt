@@ -1,7 +1,7 @@
 //! A session.
 
 use crate::event::Event;
-use board_io::List;
+use board_base::List;
 use scene_file::Scene;
 
 /// A recorded session: replicas that begin with one scene, and what happened then.

@@ -15,7 +15,7 @@ use crate::fault::TextFault;
 use crate::happening::read_event;
 use crate::header::{Header, read_header};
 use crate::session::Session;
-use board_io::{List, Stop};
+use board_base::{List, Stop};
 use json_text::Raw;
 use std::alloc::Global;
 use std::marker::Model;

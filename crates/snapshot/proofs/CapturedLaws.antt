@@ -22,11 +22,7 @@ use Rattle.delta.specs.Pairs.{Pair}
 use Rattle.delta.specs.Parts.{PartStandsFor}
 use Rattle.elem_store.specs.Places.{IsAt, IsGapFor}
 use Rattle.elem_store.specs.Updates.{element_of, ids_of}
-use Rattle.elem_store.proofs.Edits.{ids-set, is_taken-gap, HasTaken-insert}
-use Rattle.elem_store.proofs.Ids.{same_id, of_same}
-use Rattle.elem_store.proofs.Lists.{find-Some}
-use Rattle.elem_store.proofs.Placed.{some_within}
-use Rattle.elem_store.proofs.Rising.{member, earlier_less, less-less}
+use Rattle.elem_store.proofs.CallerLemmas.{ids-set, is_taken-gap, HasTaken-insert, same_id, of_same, find-Some, some_within, member, earlier_less, less-less}
 use Rattle.undoing.specs.Carrying.{with_put}
 use Rattle.undoing.specs.Differing.{same_kind}
 use Rattle.undoing.specs.Undoing.{undone, undone_in}

@@ -16,13 +16,10 @@ use Rattle.delta.specs.Headers.{scalar_of}
 use Rattle.delta.specs.Pairs.{Pair}
 use Rattle.delta.specs.Parts.{PartStandsFor, inverse}
 use Rattle.delta.specs.Undone.{IsUndone}
-use Rattle.delta.proofs.ChangeLaws.{names-inverted}
-use Rattle.delta.proofs.PartLaws.{inverse-twice, turned, change-inverted, scalar-turned, groups-turned, bound-turned, same-unstamped, undone-from}
-use Rattle.delta.proofs.RestLaws.{risen, rises, list_any-each, each-list_any}
+use Rattle.delta.proofs.CallerLemmas.{names-inverted, inverse-twice, turned, change-inverted, scalar-turned, groups-turned, bound-turned, same-unstamped, undone-from, risen, rises, list_any-each, each-list_any}
 use Rattle.undoing.specs.Differing.{same_kind}
 use Rattle.undoing.specs.Undoing.{undone_in, undone}
-use Rattle.undoing.proofs.DifferingLaws.{same_kind-same, same_kind-true}
-use Rattle.undoing.proofs.UndoneLaws.{members-rising, members-each, undone_in-undoes}
+use Rattle.undoing.proofs.CallerLemmas.{same_kind-same, same_kind-true, members-rising, members-each, undone_in-undoes}
 
 undone-here : (pair : Pair) (now : ElementValue) → same_kind pair.after.kind now.kind ≡ true → undone pair now ≡ undone_in pair now
 unfolding undone

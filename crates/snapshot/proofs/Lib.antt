@@ -5,3 +5,4 @@ pub mod PendingLaws
 pub mod PlanLaws
 pub mod StoredLaws
 pub mod TouchedLaws
+pub mod CallerLemmas

@@ -7,9 +7,8 @@ use Rattle.frac_keys.specs.Rising.{are_rising}
 use Rattle.elem.specs.ElementValue.{ElementValue}
 use Rattle.delta.specs.Pairs.{Pair, pair_with}
 use Rattle.elem_store.specs.Updates.{element_of, ids_of}
-use Rattle.elem_store.proofs.Placed.{some_within}
-use Rattle.elem_store.proofs.Rising.{earlier_less}
-use Rattle.delta.proofs.RisingIds.{Contains-map}
+use Rattle.elem_store.proofs.CallerLemmas.{some_within, earlier_less}
+use Rattle.delta.proofs.CallerLemmas.{Contains-map}
 use Rattle.snapshot.specs.Pending.{pairs_since}
 
 module _ (snapshot store : List ElementValue) (i : ℕ) (e : ElementValue) (at : slice_get store i ≡ Some e) where

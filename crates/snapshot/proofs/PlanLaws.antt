@@ -8,19 +8,15 @@ use Rattle.frac_keys.specs.Rising.{are_rising}
 use Rattle.elem.specs.ElementValue.{ElementValue}
 use Rattle.elem.specs.Order.{unstamped, has_id}
 use Rattle.elem_store.specs.Updates.{element_of, ids_of, is_newer, is_taken, takings, Taking}
-use Rattle.elem_store.proofs.Lists.{find-Some}
-use Rattle.elem_store.proofs.Rising.{member}
-use Rattle.elem_store.proofs.StoreLaws.{AreStored-itself, AreStored-push, takings-stored}
+use Rattle.elem_store.proofs.CallerLemmas.{find-Some, member, AreStored-itself, AreStored-push, takings-stored}
 use Rattle.delta.specs.Delta.{Delta}
 use Rattle.delta.specs.Pairs.{Pair, pair_with, IsUnchanged, EntryStandsFor, IsSamePair, HasSamePairs}
 use Rattle.delta.specs.Parts.{counted}
-use Rattle.delta.proofs.PairLaws.{entry-unstamped}
-use Rattle.delta.proofs.Placing.{none-earlier}
-use Rattle.delta.proofs.RisingIds.{Contains-map, Contains-to_map, rising-front}
+use Rattle.delta.proofs.CallerLemmas.{entry-unstamped, none-earlier, Contains-map, Contains-to_map, rising-front}
 use Rattle.undoing.specs.Carrying.{with_put, with_all_put, taken, taken_all, followed, carried_over, carried_all}
 use Rattle.undoing.specs.Differing.{same_kind}
 use Rattle.undoing.specs.Undoing.{undone}
-use Rattle.undoing.proofs.TakenLaws.{taken-has}
+use Rattle.undoing.proofs.CallerLemmas.{taken-has}
 use Rattle.snapshot.specs.Carried.{carried_to, with_made}
 use Rattle.snapshot.specs.Pending.{pairs_since}
 use Rattle.snapshot.proofs.PutLaws.{rises, put-below, put-there, all-rise, all-each, all-append, all-below, all-cover, taken_all-put}

@@ -8,9 +8,8 @@ use Rattle.frac_keys.specs.Rising.{rise_between, are_rising}
 use Rattle.elem.specs.ElementValue.{ElementValue}
 use Rattle.elem.specs.Order.{has_id}
 use Rattle.elem_store.specs.Updates.{element_of, ids_of, is_newer, is_taken}
-use Rattle.elem_store.proofs.Ids.{same_id, of_other}
-use Rattle.elem_store.proofs.Rising.{above, less-other, none_above, same_elements}
-use Rattle.delta.proofs.Placing.{rising-put}
+use Rattle.elem_store.proofs.CallerLemmas.{same_id, of_other, above, less-other, none_above, same_elements}
+use Rattle.delta.proofs.CallerLemmas.{rising-put}
 use Rattle.undoing.specs.Carrying.{with_put, with_all_put, taken_all}
 use Rattle.snapshot.specs.Carried.{HasPut}
 

@@ -3,18 +3,17 @@ use Rattle.std.proofs.Common.{◌≡◌, ℕ, Bool, true, false, cond, List, [],
 use Rattle.std.specs.Option.{option_map}
 use Rattle.std.proofs.lemmas.Bool.{cases_Bool, cond-true, cond-false, false≢true}
 use Rattle.std.proofs.lemmas.Option.{none-some, same_Some}
-use Rattle.json_text.proofs.Collapsed.{bytes_eq-true, bytes_eq-same}
+use Rattle.json_text.proofs.CallerLemmas.{bytes_eq-true, bytes_eq-same}
 use Rattle.frac_keys.specs.Rising.{are_rising}
 use Rattle.elem.specs.declared.kind.Kind.{Kind}
 use Rattle.elem.specs.ElementValue.{ElementValue}
 use Rattle.elem.specs.Texts.{kind_name}
 use Rattle.elem.specs.Order.{has_id}
 use Rattle.elem_store.specs.Updates.{element_of, ids_of, is_taken, takings, Taking}
-use Rattle.elem_store.proofs.Ids.{same_id, of_itself}
-use Rattle.elem_store.proofs.Lists.{Contains-cases, filter-Contains}
+use Rattle.elem_store.proofs.CallerLemmas.{same_id, of_itself, Contains-cases, filter-Contains}
 use Rattle.delta.specs.Delta.{Delta}
 use Rattle.delta.specs.Pairs.{Pair, pair_with, IsPartOf, EntryStandsFor}
-use Rattle.delta.proofs.RisingIds.{Contains-map}
+use Rattle.delta.proofs.CallerLemmas.{Contains-map}
 use Rattle.undoing.specs.Carrying.{with_put, carried, carried_all, carried_over, taken, taken_all}
 use Rattle.undoing.specs.Differing.{same_kind, is_changed, pending}
 use Rattle.undoing.specs.Undoing.{undone, undone_in}

@@ -1,18 +1,17 @@
 -- Ids that are touched: they alone may be stored otherwise than a snapshot has them.
-use Rattle.std.proofs.Common.{◌≡◌, ℕ, Bool, true, false, cond, ◌||◌, ◌⊎◌, List, [], ◌∷◌, ◌++◌, Option, Some, None, bytes_eq, nat_cmp, refl, sym, ap, ◌∙◌, inl, inr}
+use Rattle.std.proofs.Common.{◌≡◌, ℕ, zero, suc, Bool, true, false, cond, take, ◌||◌, ◌⊎◌, List, [], ◌∷◌, ◌++◌, Option, Some, None, bytes_eq, nat_cmp, refl, sym, ap, ◌∙◌, inl, inr}
 use Rattle.std.specs.BTreeMap.{is_at}
 use Rattle.std.specs.Cmp.Lexicographic.{slice_cmp, texts_ties, nat_list_eq_equiv}
 use Rattle.std.specs.List.{list_any}
 use Rattle.std.specs.Option.{option_or}
 use Rattle.std.proofs.lemmas.Bool.{cases_Bool, cond-true, cond-false, false≢true}
 use Rattle.std.proofs.lemmas.Option.{none-some}
-use Rattle.json_text.proofs.Collapsed.{bytes_eq-true}
+use Rattle.json_text.proofs.CallerLemmas.{bytes_eq-true}
 use Rattle.frac_keys.specs.Rising.{are_rising}
 use Rattle.elem.specs.ElementValue.{ElementValue}
 use Rattle.elem.specs.Order.{has_id}
 use Rattle.elem_store.specs.Updates.{element_of, ids_of, is_taken, takings, Taking}
-use Rattle.elem_store.proofs.Ids.{same_id}
-use Rattle.elem_store.proofs.Rising.{same_elements}
+use Rattle.elem_store.proofs.CallerLemmas.{same_id, same_elements}
 use Rattle.undoing.specs.Carrying.{with_put, with_all_put, taken, taken_all, carried, carried_over, carried_all}
 use Rattle.snapshot.specs.Carried.{carried_to, with_made}
 use Rattle.snapshot.specs.Touched.{is_among, AreUntouched, StillTouches, IsTouched, HasTouched, HasPutStored}
@@ -34,7 +33,14 @@ neither false c h = (refl, h)
 pub touched-id : (old : List (List ℕ)) (id : List ℕ) (new : List (List ℕ))
     → ((q : List ℕ) → list_any (is_at (slice_cmp nat_cmp q)) new ≡ cond (is_at (slice_cmp nat_cmp id) q) true (list_any (is_at (slice_cmp nat_cmp q)) old))
     → IsTouched old id new
-touched-id old id new updates = record { still = λ q f. (both q f).1; own = λ q f. (both q f).0 }
+touched-id old id new updates = record {
+  still = λ q f. (both q f).1;
+  own = λ q f. (both q f).0;
+  only = λ q f g.
+      sym (among-ordered q new) ∙ updates q
+      ∙ ap (λ own. cond own true (list_any (is_at (slice_cmp nat_cmp q)) old)) (of-ordered id q ∙ g)
+      ∙ among-ordered q old ∙ f;
+}
   where
     both : (q : List ℕ) → is_among new q ≡ false → (bytes_eq q id ≡ false) × (is_among old q ≡ false)
     both q f =
@@ -55,13 +61,28 @@ none-push (x ∷ xs) e id n f =
     let h = none-tail x xs id n in
     cond-false (has_id id x) (Some x) (element_of (xs ++ e ∷ []) id) h.0 ∙ none-push xs e id h.1 f
 
+pub none-split : (xs : List ElementValue) (e : ElementValue) (id : List ℕ) → element_of (xs ++ e ∷ []) id ≡ None → (element_of xs id ≡ None) × (has_id id e ≡ false)
+none-split [] e id n = (refl, (none-tail e [] id n).0)
+none-split (x ∷ xs) e id n =
+    let h = none-tail x (xs ++ e ∷ []) id n in
+    let own = none-split xs e id h.1 in
+    (cond-false (has_id id x) (Some x) (element_of xs id) h.0 ∙ own.0, own.1)
+
+pub none-take : (count : ℕ) (xs : List ElementValue) (id : List ℕ) → element_of xs id ≡ None → element_of (take count xs) id ≡ None
+none-take zero xs id n = refl
+none-take (suc count) [] id n = refl
+none-take (suc count) (x ∷ xs) id n =
+    let h = none-tail x xs id n in
+    cond-false (has_id id x) (Some x) (element_of (take count xs) id) h.0 ∙ none-take count xs id h.1
+
 pub touched-none : (ids : List (List ℕ)) → HasTouched ids [] ids
-touched-none ids = record { still = λ id f. f; listed = λ id f. refl }
+touched-none ids = record { still = λ id f. f; listed = λ id f. refl; only = λ id f n. f }
 
 pub touched-more : (old mid new : List (List ℕ)) (list : List ElementValue) (e : ElementValue) → HasTouched old list mid → IsTouched mid e.id new → HasTouched old (list ++ e ∷ []) new
 touched-more old mid new list e h t = record {
   still = λ id f. h.still id (t.still id f);
   listed = λ id f. none-push list e id (h.listed id (t.still id f)) (t.own id f);
+  only = λ id f n. let own = none-split list e id n in t.only id (h.only id f own.0) own.1;
 }
 
 -- ---- what was stored since

@@ -18,7 +18,7 @@ use crate::captured::{put_all, put_copies};
 use crate::carrying::{carry, carrying};
 use crate::pending::{copies_of, differing, ids_of, parts_since, parts_to};
 use crate::touched::Touched;
-use board_io::List;
+use board_base::List;
 use delta::Entry;
 use elem::Element;
 use elem_store::Store;

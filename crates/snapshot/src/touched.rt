@@ -1,7 +1,7 @@
 //! The ids of elements that were stored since the last capture.
 
 ghost use Rattle.std.specs.Prelude.{◌≡◌, [], OnOk};
-ghost use Rattle.snapshot.specs.Touched.{IsTouched, HasTouched, StillTouches};
+ghost use Rattle.snapshot.specs.Touched.{IsTouched, HasTouched, StillTouches, TouchesNoOther, TouchesOnly};
 
 use elem::Element;
 use json_text::Text;
@@ -33,10 +33,11 @@ impl Touched {
         }
     }
 
-    /// Adds the ids of elements. For want of memory some of them may be added, and none goes.
+    /// Adds the ids of elements. For want of memory some of them may be added; none goes, and no other one comes.
     pub fn touch(&mut self, list: &[Element]) -> Result<(), AllocError>
         ensures touched { OnOk result (HasTouched self.old list.now self.new) }
         ensures kept { StillTouches self.old self.new }
+        ensures only { TouchesOnly self.old list.now self.new }
     {
         touch_all(&mut self.ids, list)
     }
@@ -53,6 +54,7 @@ impl Touched {
 fn touch_all(ids: &mut BTreeSet<Text>, list: &[Element]) -> Result<(), AllocError>
     ensures touched { OnOk result (HasTouched ids.old.keys list.now ids.new.keys) }
     ensures kept { StillTouches ids.old.keys ids.new.keys }
+    ensures only { TouchesOnly ids.old.keys list.now ids.new.keys }
 {
     for e in list {
         touch_id(ids, &e.id)?;
@@ -64,6 +66,7 @@ fn touch_all(ids: &mut BTreeSet<Text>, list: &[Element]) -> Result<(), AllocErro
 fn touch_id(ids: &mut BTreeSet<Text>, id: &Text) -> Result<(), AllocError>
     ensures touched { OnOk result (IsTouched ids.old.keys id.now ids.new.keys) }
     ensures kept { StillTouches ids.old.keys ids.new.keys }
+    ensures only { TouchesNoOther ids.old.keys id.now ids.new.keys }
 {
     ids.insert(id.try_clone()?)?;
     Ok(())

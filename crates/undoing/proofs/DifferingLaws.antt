@@ -2,7 +2,7 @@
 use Rattle.std.proofs.Common.{◌≡◌, ◌≢◌, ℕ, Bool, true, false, cond, not, ◌&&◌, List, [], ◌∷◌, map, filter, Option, Some, None, Contains, bytes_eq, refl, sym, ap, ◌∙◌, subst, lit≤}
 use Rattle.std.proofs.lemmas.Bool.{false≢true, true_from_ne_false, not-false, and_parts, and_from}
 use Rattle.std.proofs.lemmas.List.Elements.{All-contains}
-use Rattle.json_text.proofs.Collapsed.{bytes_eq-true, bytes_eq-same}
+use Rattle.json_text.proofs.CallerLemmas.{bytes_eq-true, bytes_eq-same}
 use Rattle.frac_keys.specs.Rising.{ends_rise, rise_between, are_rising}
 use Rattle.elem.specs.declared.kind.Kind.{Kind}
 use Rattle.elem.specs.ElementValue.{ElementValue}
@@ -10,16 +10,13 @@ use Rattle.elem.specs.Facts.{IsKind, IsElement}
 use Rattle.elem.specs.Order.{unstamped, has_id}
 use Rattle.elem.specs.Said.{HasValidTexts, AreElements}
 use Rattle.elem.specs.Texts.{kind_name, element_text}
-use Rattle.elem.proofs.FormsOnce.{kind_of_name-once}
-use Rattle.elem.proofs.Saying.{text-of-one}
-use Rattle.elem.proofs.Sorting.{bytes_less-trans}
+use Rattle.elem.proofs.CallerLemmas.{kind_of_name-once, text-of-one, bytes_less-trans, element_with_stamp, texts_with_stamp, element_with_deleted, texts_with_deleted}
 use Rattle.elem_store.specs.Updates.{element_of, ids_of}
-use Rattle.elem_store.proofs.Ids.{same_id}
-use Rattle.elem_store.proofs.Lists.{Contains-filter, filter-Contains, find-Some}
+use Rattle.elem_store.proofs.CallerLemmas.{same_id, Contains-filter, filter-Contains, find-Some}
 use Rattle.delta.specs.Delta.{Delta}
 use Rattle.delta.specs.Pairs.{Pair, pair_with, pairs_from, IsChanged, IsUnchanged, EntryStandsFor}
 use Rattle.delta.specs.Parts.{counted}
-use Rattle.delta.proofs.RisingIds.{Contains-map}
+use Rattle.delta.proofs.CallerLemmas.{Contains-map}
 use Rattle.undoing.specs.Differing.{same_kind, differ, is_changed, pending}
 use Rattle.undoing.specs.Entries.{IsOfElements, pair_ids, IsEntry}
 
@@ -32,35 +29,10 @@ same_kind-true a b is is' h = kind_of_name-once a b is is' (bytes_eq-true (kind_
 
 -- ---- elements without their stamps
 unstamped-is : (e : ElementValue) → IsElement e → IsElement (unstamped e)
-unstamped-is e is = record {
-  named = is.named;
-  version = lit≤ tt;
-  nonce = lit≤ tt;
-  updated = lit≤ tt;
-  kind = is.kind;
-  container = is.container;
-  start_binding = is.start_binding;
-  end_binding = is.end_binding;
-  file = is.file;
-  rise = is.rise;
-  free = is.free;
-  nest = is.nest;
-}
+unstamped-is e is = element_with_stamp e 0 0 0 (lit≤ tt) (lit≤ tt) (lit≤ tt) is
 
 unstamped-written : (e : ElementValue) → HasValidTexts e → HasValidTexts (unstamped e)
-unstamped-written e w = record {
-  id = w.id;
-  kind = w.kind;
-  index = w.index;
-  groups = w.groups;
-  frame = w.frame;
-  bound = w.bound;
-  container = w.container;
-  start_binding = w.start_binding;
-  end_binding = w.end_binding;
-  file = w.file;
-  rest = w.rest;
-}
+unstamped-written e w = texts_with_stamp e 0 0 0 w
 
 pub differ-same : (a b : ElementValue) → unstamped a ≡ unstamped b → differ a b ≡ false
 unfolding differ
@@ -104,35 +76,10 @@ changed-is pair of changed =
 -- ---- what has changed since a snapshot
 -- a deleted element is one too
 deleted-is : (e : ElementValue) → IsElement e → IsElement (record e { deleted = true })
-deleted-is e is = record {
-  named = is.named;
-  version = is.version;
-  nonce = is.nonce;
-  updated = is.updated;
-  kind = is.kind;
-  container = is.container;
-  start_binding = is.start_binding;
-  end_binding = is.end_binding;
-  file = is.file;
-  rise = is.rise;
-  free = is.free;
-  nest = is.nest;
-}
+deleted-is e is = element_with_deleted e true is
 
 deleted-written : (e : ElementValue) → HasValidTexts e → HasValidTexts (record e { deleted = true })
-deleted-written e w = record {
-  id = w.id;
-  kind = w.kind;
-  index = w.index;
-  groups = w.groups;
-  frame = w.frame;
-  bound = w.bound;
-  container = w.container;
-  start_binding = w.start_binding;
-  end_binding = w.end_binding;
-  file = w.file;
-  rest = w.rest;
-}
+deleted-written e w = texts_with_deleted e true w
 
 -- an element of this id that is found is an element of the list, and of the id
 pub found-is : (elements : List ElementValue) (id : List ℕ) (e : ElementValue) → AreElements elements → element_of elements id ≡ Some e → (IsElement e × HasValidTexts e) × (e.id ≡ id)

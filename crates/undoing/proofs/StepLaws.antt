@@ -11,11 +11,11 @@ use Rattle.elem.specs.ElementValue.{ElementValue}
 use Rattle.elem.specs.Facts.{IsElement, greatest_whole}
 use Rattle.elem.specs.Order.{unstamped}
 use Rattle.elem.specs.Said.{HasValidTexts, AreElements}
-use Rattle.elem.proofs.Sorting.{bytes_less-same, bytes_less-asym}
+use Rattle.elem.proofs.CallerLemmas.{bytes_less-same, bytes_less-asym, element_with_stamp, texts_with_stamp}
 use Rattle.elem_store.specs.Updates.{element_of, ids_of, is_taken, is_newer}
-use Rattle.elem_store.proofs.Lists.{Contains-head, Contains-cons, Contains-cases, find-Some, is_some-find, list_any-false}
+use Rattle.elem_store.proofs.CallerLemmas.{Contains-head, Contains-cons, Contains-cases, find-Some, is_some-find, list_any-false}
 use Rattle.delta.specs.Pairs.{Pair, IsChanged, pair_with, exchanged}
-use Rattle.delta.proofs.RisingIds.{Contains-map, later_greater}
+use Rattle.delta.proofs.CallerLemmas.{Contains-map, later_greater}
 use Rattle.undoing.specs.Differing.{differ}
 use Rattle.undoing.specs.Entries.{IsOfElements, pair_ids, IsEntry, AreEntries, IsGiven, IsFullId, IsSoundTurn}
 use Rattle.undoing.specs.Steps.{Reverted, reverted, changes, is_full, is_seen, stamped, given_of, given, full_id, Sought, sought, Turn, made, turn_of, turn_unless, step}
@@ -192,35 +192,10 @@ module _ (stored : List ElementValue) where
         (found-least (λ (p : Pair). p.after.id) is_full_pair pairs of.0 full.pair rise of.1 full.among (full-passes other full))
 
 stamped-is : (time nonce : ℕ) (e : ElementValue) → time ≤ greatest_whole → nonce ≤ greatest_whole → e.version + 1 ≤ greatest_whole → IsElement e → IsElement (stamped time nonce e)
-stamped-is time nonce e t n v is = record {
-  named = is.named;
-  version = v;
-  nonce = n;
-  updated = t;
-  kind = is.kind;
-  container = is.container;
-  start_binding = is.start_binding;
-  end_binding = is.end_binding;
-  file = is.file;
-  rise = is.rise;
-  free = is.free;
-  nest = is.nest;
-}
+stamped-is time nonce e t n v is = element_with_stamp e (e.version + 1) nonce time v n t is
 
 stamped-written : (time nonce : ℕ) (e : ElementValue) → HasValidTexts e → HasValidTexts (stamped time nonce e)
-stamped-written time nonce e w = record {
-  id = w.id;
-  kind = w.kind;
-  index = w.index;
-  groups = w.groups;
-  frame = w.frame;
-  bound = w.bound;
-  container = w.container;
-  start_binding = w.start_binding;
-  end_binding = w.end_binding;
-  file = w.file;
-  rest = w.rest;
-}
+stamped-written time nonce e w = texts_with_stamp e (e.version + 1) nonce time w
 
 module _ (stored : List ElementValue) (time nonce : ℕ) (pairs : List Pair) (are : AreElements stored) (entry : IsEntry pairs)
     (in_time : time ≤ greatest_whole) (in_nonce : nonce ≤ greatest_whole) (free : full_id stored pairs ≡ None) where

@@ -8,13 +8,9 @@ use Rattle.elem.specs.Facts.{IsElement}
 use Rattle.elem.specs.Said.{HasValidTexts, AreElements}
 use Rattle.elem.specs.Order.{has_id}
 use Rattle.elem_store.specs.Updates.{Taking, stored_of, element_of, ids_of, is_newer, is_taken, takings, AreStored, HasTaken}
-use Rattle.elem_store.proofs.BestUpdates.{IsBestOf-stored}
-use Rattle.elem_store.proofs.Edits.{HasTaken-not}
-use Rattle.elem_store.proofs.Lists.{find-Some}
-use Rattle.elem_store.proofs.Rising.{same_elements}
-use Rattle.elem_store.proofs.StoreLaws.{AreStored-push, store-unique}
+use Rattle.elem_store.proofs.CallerLemmas.{IsBestOf-stored, HasTaken-not, find-Some, same_elements, AreStored-push, store-unique}
 use Rattle.delta.specs.Pairs.{Pair}
-use Rattle.delta.proofs.Placing.{item-put, rising-put, each-put}
+use Rattle.delta.proofs.CallerLemmas.{item-put, rising-put, each-put}
 use Rattle.undoing.specs.Carrying.{with_put, taken, taken_all, followed, carried_over, carried, carried_all}
 use Rattle.undoing.specs.Differing.{same_kind}
 use Rattle.undoing.specs.Entries.{IsTakingOfElements}

@@ -7,7 +7,7 @@ use Rattle.std.proofs.lemmas.Option.{none-some, same_Some}
 use Rattle.json_text.specs.Members.{pairs}
 use Rattle.json_text.specs.Value.{IsCompact}
 use Rattle.json_text.specs.declared.text.Member.{Member}
-use Rattle.json_text.proofs.Collapsed.{bytes_eq-true, bytes_eq-same}
+use Rattle.json_text.proofs.CallerLemmas.{bytes_eq-true, bytes_eq-same}
 use Rattle.frac_keys.specs.Keys.{is_key}
 use Rattle.frac_keys.specs.Rising.{are_rising}
 use Rattle.elem.specs.declared.kind.Kind.{Kind}
@@ -18,22 +18,18 @@ use Rattle.elem.specs.Facts.{IsElement, IsBinding, is_header, names}
 use Rattle.elem.specs.Order.{unstamped}
 use Rattle.elem.specs.Said.{HasValidTexts, IsBindingText}
 use Rattle.elem.specs.Texts.{truth_text, text_or_null, binding_text}
-use Rattle.elem.proofs.Distinct.{AllByRecursion-append}
-use Rattle.elem.proofs.Sorting.{IsRising, AllByRecursion-map}
+use Rattle.elem.proofs.CallerLemmas.{AllByRecursion-append, IsRising, AllByRecursion-map}
 use Rattle.delta.specs.Applied.{IsApplied, KeepsStamp}
 use Rattle.delta.specs.Delta.{Delta}
 use Rattle.delta.specs.Headers.{own_header, header_named, value_named, scalar_at, scalar_of}
 use Rattle.elem.specs.Listings.{same_listing_entry}
-use Rattle.first_texts.specs.FirstOccurrences.{first_occurrences}
+use Rattle.json_text.specs.FirstOccurrences.{first_occurrences}
 use Rattle.delta.specs.Joined.{are_same, joined, stays, is_gained}
 use Rattle.delta.specs.Pairs.{Pair}
 use Rattle.delta.specs.Parts.{PartStandsFor, scalars_same, inverse}
 use Rattle.delta.specs.Rest.{made, with_value}
 use Rattle.delta.specs.Undone.{undone_scalar, undone_list, Undoes, IsUndone}
-use Rattle.delta.proofs.ChangeLaws.{names-inverted}
-use Rattle.delta.proofs.PartLaws.{inverse-twice, turned, change-inverted, scalar-turned, groups-turned, bound-turned, same-unstamped, undone-from}
-use Rattle.delta.proofs.RestLaws.{risen, rises, each-with_value, rising-with_value, named-with_value, list_any-each, each-list_any}
-use Rattle.delta.proofs.ToldLaws.{not-named}
+use Rattle.delta.proofs.CallerLemmas.{names-inverted, inverse-twice, turned, change-inverted, scalar-turned, groups-turned, bound-turned, same-unstamped, undone-from, risen, rises, each-with_value, rising-with_value, named-with_value, list_any-each, each-list_any, not-named}
 use Rattle.undoing.specs.Differing.{same_kind}
 use Rattle.undoing.specs.Entries.{IsOfElements}
 use Rattle.undoing.specs.Undoing.{undone_header, undone_member, undone_members, undone_in, undone}
@@ -242,7 +238,7 @@ names-each P [] h = tt
 names-each P (m ∷ ms) h = (h.0, names-each P ms h.1)
 
 -- elements are the same that are so but for their stamps, which are the same
-restamped : (a b : ElementValue) → unstamped a ≡ unstamped b → a.version ≡ b.version → a.nonce ≡ b.nonce → a.updated ≡ b.updated → a ≡ b
+pub restamped : (a b : ElementValue) → unstamped a ≡ unstamped b → a.version ≡ b.version → a.nonce ≡ b.nonce → a.updated ≡ b.updated → a ≡ b
 restamped a b same version nonce updated = λ i. let e : ElementValue = same i in record e { version = version i; nonce = nonce i; updated = updated i }
 
 -- ---- of elements of one kind

@@ -16,7 +16,7 @@ use Rattle.std.proofs.lemmas.List.Sorted.{IsPermutation-refl, IsPermutation-sym,
 use Rattle.std.proofs.lemmas.Map.Keys.{IsDistinct-IsPermutation, sorted_head, sorted_tail, sorted_from_all_adjacent, apart_from_distinct, Less-from_sorted}
 use Rattle.elem.specs.ElementValue.{ElementValue}
 use Rattle.elem_store.specs.Updates.{ids_of}
-use Rattle.elem_store.proofs.Lists.{Contains-head, Contains-cons, Contains-cases}
+use Rattle.elem_store.proofs.CallerLemmas.{Contains-head, Contains-cons, Contains-cases}
 use Rattle.elem.specs.Order.{HaveDistinctIds}
 use Rattle.view.specs.Shown.{with_element, in_order}
 

@@ -1,16 +1,12 @@
--- What is shown, and what keys are repaired of, keeps what holds of every element.
-use Rattle.std.proofs.Common.{◌≡◌, ℕ, Bool, true, false, not, List, [], ◌∷◌, ◌++◌, bytes_eq, map, filter, Option, Some, None, IfSome, find, if◌then◌else◌, refl, IsUtf8}
-use Rattle.std.specs.List.{All, AllByRecursion, list_all}
+-- What is shown keeps what holds of every element.
+use Rattle.std.proofs.Common.{ℕ, Bool, true, false, not, List, [], ◌∷◌, ◌++◌, bytes_eq, map, filter, Option, Some, None, IfSome, find, if◌then◌else◌, IsUtf8}
+use Rattle.std.specs.List.{All, AllByRecursion}
 use Rattle.std.specs.Option.{option_map, option_or}
 use Rattle.std.proofs.ByRecursion.{All-append, All-map, All-weaker, all_kept_by}
-use Rattle.std.proofs.lemmas.Bool.{and_from, and_parts}
 use Rattle.std.proofs.lemmas.List.Elements.{All-from_recursion, recursion_from_All}
 use Rattle.std.proofs.lemmas.List.Sorted.{All-permutation}
-use Rattle.frac_keys.specs.Keys.{is_key}
-use Rattle.frac_keys.specs.Rising.{is_key_or_none}
 use Rattle.index_repair.specs.Repair.{repaired}
-use Rattle.index_repair.proofs.RepairLaws.{AreRepaired-from}
-use Rattle.first_texts.specs.FirstOccurrences as texts
+use Rattle.json_text.specs.FirstOccurrences as texts
 use Rattle.elem.specs.declared.parts.BoundRef.{BoundRef}
 use Rattle.elem.specs.ElementValue.{ElementValue}
 use Rattle.elem.specs.Facts.{IsElement}
@@ -24,16 +20,11 @@ use Rattle.links.specs.Texts.{is_text_entry, listed_text, first_text, text_of, k
 use Rattle.frames_groups.specs.Frames.{has_frame, keeps_frame, framed, without_frame, frames_settled}
 use Rattle.frames_groups.specs.Groups.{grouped}
 use Rattle.view.specs.Settled.{settled}
-use Rattle.view.specs.Shown.{is_live, live_elements, in_scene_order, index_of, with_index, keyed, placed, shown, HaveKeysOrNone}
+use Rattle.elem.proofs.CallerLemmas as parts
+use Rattle.elem.proofs.CallerLemmas.{IsKept, AreKept, kept-from, kept-to, HasText}
+use Rattle.index_repair.proofs.CallerLemmas.{repaired-kept}
+use Rattle.view.specs.Shown.{is_live, live_elements, in_scene_order, placed, shown}
 use Rattle.view.proofs.SceneOrder.{IsPermutation-in_scene_order}
-
--- what the type of elements keeps
-pub record IsKept (e : ElementValue) : Type 0 where
-  pub element : IsElement e
-  pub written : HasValidTexts e
-
-abbrev pub AreKept : List ElementValue → Type 0
-AreKept es = AllByRecursion IsKept es
 
 -- ---- lists and options
 map-all : {X Y : Type 0} (P : X → Type 0) (Q : Y → Type 0) (f : X → Y) (xs : List X) → ((x : X) → P x → Q (f x)) → AllByRecursion P xs → AllByRecursion Q (map f xs)
@@ -56,58 +47,6 @@ if-some P true o is = is
 if-some P false o is = tt
 
 -- ---- keys
-pub kept-keys : (es : List ElementValue) → AreKept es → HaveKeysOrNone es
-kept-keys [] all = refl
-kept-keys (e ∷ es) all = and_from (is_key_or_none e.index) (list_all is_key_or_none (map index_of es)) (by e.index all.0.written.index) (kept-keys es all.1)
-  where
-    by : (key : Option (List ℕ)) → IfSome key (λ k. is_key k ≡ true) → is_key_or_none key ≡ true
-    by None is = refl
-    by (Some key) is = is
-
-with_index-kept : (e : ElementValue) (key : List ℕ) → is_key key ≡ true → IsKept e → IsKept (with_index e key)
-with_index-kept e key is kept =
-    let a = kept.element in
-    let w = kept.written in
-    record {
-      element = record {
-        named = a.named;
-        version = a.version;
-        nonce = a.nonce;
-        updated = a.updated;
-        kind = a.kind;
-        container = a.container;
-        start_binding = a.start_binding;
-        end_binding = a.end_binding;
-        file = a.file;
-        rise = a.rise;
-        free = a.free;
-        nest = a.nest;
-      };
-      written = record {
-        id = w.id;
-        kind = w.kind;
-        index = is;
-        groups = w.groups;
-        frame = w.frame;
-        bound = w.bound;
-        container = w.container;
-        start_binding = w.start_binding;
-        end_binding = w.end_binding;
-        file = w.file;
-        rest = w.rest;
-      };
-    }
-
-keyed-kept : (es : List ElementValue) (keys : List (List ℕ)) → list_all is_key keys ≡ true → AreKept es → AreKept (keyed es keys)
-keyed-kept [] keys are all = tt
-keyed-kept (e ∷ es) [] are all = tt
-keyed-kept (e ∷ es) (key ∷ keys) are all =
-    let parts = and_parts (is_key key) (list_all is_key keys) are in
-    (with_index-kept e key parts.0 all.0, keyed-kept es keys parts.1 all.1)
-
-pub repaired-kept : (es : List ElementValue) → AreKept es → AreKept (keyed es (repaired (map index_of es)))
-repaired-kept es all = keyed-kept es (repaired (map index_of es)) (AreRepaired-from (map index_of es) (repaired (map index_of es)) refl (kept-keys es all)).new_keys all
-
 ordered-kept : (es : List ElementValue) → AreKept es → AreKept (in_scene_order es)
 ordered-kept es all = recursion_from_All IsKept (in_scene_order es) (All-permutation IsKept es (in_scene_order es) (IsPermutation-in_scene_order es) (All-from_recursion IsKept es all))
 
@@ -118,42 +57,11 @@ placed-kept live all = repaired-kept (in_scene_order live) (ordered-kept live al
 -- ---- texts
 container-kept : (list : List ElementValue) (e : ElementValue) → IsKept e → IsKept (with_settled_container list e)
 container-kept list e kept =
-    let a = kept.element in
-    let w = kept.written in
-    record {
-      element = record {
-        named = a.named;
-        version = a.version;
-        nonce = a.nonce;
-        updated = a.updated;
-        kind = a.kind;
-        container = if-some _ (keeps_container list e) e.container a.container;
-        start_binding = a.start_binding;
-        end_binding = a.end_binding;
-        file = a.file;
-        rise = a.rise;
-        free = a.free;
-        nest = a.nest;
-      };
-      written = record {
-        id = w.id;
-        kind = w.kind;
-        index = w.index;
-        groups = w.groups;
-        frame = w.frame;
-        bound = w.bound;
-        container = if-some IsUtf8 (keeps_container list e) e.container w.container;
-        start_binding = w.start_binding;
-        end_binding = w.end_binding;
-        file = w.file;
-        rest = w.rest;
-      };
-    }
+    parts.with_container e kept (if keeps_container list e then e.container else None)
+    (if-some _ (keeps_container list e) e.container kept.element.container)
+    (if-some IsUtf8 (keeps_container list e) e.container kept.written.container)
 
 -- ---- arrows
-abbrev HasText : BoundRef → Type 0
-HasText entry = IsUtf8 entry.id
-
 first-all : (entries : List BoundRef) → AllByRecursion HasText entries → AllByRecursion HasText (first_entries entries)
 first-all [] all = tt
 first-all (entry ∷ entries) all = (all.0, all_kept_by (λ other. not (same_listing_entry entry other)) HasText (first_entries entries) (first-all entries all.1))
@@ -184,72 +92,20 @@ links-kept : (list : List ElementValue) (e : ElementValue) → AreKept list → 
 links-kept list e all kept =
     let a = kept.element in
     let w = kept.written in
-    record {
-      element = record {
-        named = a.named;
-        version = a.version;
-        nonce = a.nonce;
-        updated = a.updated;
-        kind = a.kind;
-        container = a.container;
-        start_binding = if-some _ (names_target list (target_of e.start_binding)) e.start_binding a.start_binding;
-        end_binding = if-some _ (names_target list (target_of e.end_binding)) e.end_binding a.end_binding;
-        file = a.file;
-        rise = a.rise;
-        free = a.free;
-        nest = a.nest;
-      };
-      written = record {
-        id = w.id;
-        kind = w.kind;
-        index = w.index;
-        groups = w.groups;
-        frame = w.frame;
-        bound = listing-written list e all kept;
-        container = w.container;
-        start_binding = if-some IsBindingText (names_target list (target_of e.start_binding)) e.start_binding w.start_binding;
-        end_binding = if-some IsBindingText (names_target list (target_of e.end_binding)) e.end_binding w.end_binding;
-        file = w.file;
-        rest = w.rest;
-      };
-    }
+    let starts = names_target list (target_of e.start_binding) in
+    let ends = names_target list (target_of e.end_binding) in
+    parts.with_parts e kept e.deleted e.index e.groups e.frame (listing list e) e.container
+    (if starts then e.start_binding else None) (if ends then e.end_binding else None)
+    w.index w.groups w.frame (listing-written list e all kept) a.container w.container
+    (if-some _ starts e.start_binding a.start_binding) (if-some IsBindingText starts e.start_binding w.start_binding)
+    (if-some _ ends e.end_binding a.end_binding) (if-some IsBindingText ends e.end_binding w.end_binding)
 
 -- ---- frames and groups
 frame-kept : (names_frame : List ℕ → Bool) (e : ElementValue) → IsKept e → IsKept (framed names_frame e)
 frame-kept names_frame e kept =
-    let a = kept.element in
-    let w = kept.written in
     elim (keeps_frame names_frame e) as (λ (b : Bool). IsKept (if b then e else without_frame e)) [
       | true ↦ kept
-      | false ↦ record {
-        element = record {
-          named = a.named;
-          version = a.version;
-          nonce = a.nonce;
-          updated = a.updated;
-          kind = a.kind;
-          container = a.container;
-          start_binding = a.start_binding;
-          end_binding = a.end_binding;
-          file = a.file;
-          rise = a.rise;
-          free = a.free;
-          nest = a.nest;
-        };
-        written = record {
-          id = w.id;
-          kind = w.kind;
-          index = w.index;
-          groups = w.groups;
-          frame = tt;
-          bound = w.bound;
-          container = w.container;
-          start_binding = w.start_binding;
-          end_binding = w.end_binding;
-          file = w.file;
-          rest = w.rest;
-        };
-      }
+      | false ↦ parts.with_frame e kept None tt
     ]
 
 groups-written : (groups : List (List ℕ)) → AllByRecursion IsUtf8 groups → AllByRecursion IsUtf8 (texts.first_texts groups)
@@ -257,38 +113,7 @@ groups-written [] all = tt
 groups-written (group ∷ groups) all = (all.0, all_kept_by (texts.is_other bytes_eq group) IsUtf8 (texts.first_texts groups) (groups-written groups all.1))
 
 group-kept : (e : ElementValue) → IsKept e → IsKept (grouped e)
-group-kept e kept =
-    let a = kept.element in
-    let w = kept.written in
-    record {
-      element = record {
-        named = a.named;
-        version = a.version;
-        nonce = a.nonce;
-        updated = a.updated;
-        kind = a.kind;
-        container = a.container;
-        start_binding = a.start_binding;
-        end_binding = a.end_binding;
-        file = a.file;
-        rise = a.rise;
-        free = a.free;
-        nest = a.nest;
-      };
-      written = record {
-        id = w.id;
-        kind = w.kind;
-        index = w.index;
-        groups = groups-written e.groups w.groups;
-        frame = w.frame;
-        bound = w.bound;
-        container = w.container;
-        start_binding = w.start_binding;
-        end_binding = w.end_binding;
-        file = w.file;
-        rest = w.rest;
-      };
-    }
+group-kept e kept = parts.with_groups e kept (texts.first_texts e.groups) (groups-written e.groups kept.written.groups)
 
 -- ---- all of it
 settled-kept : (es : List ElementValue) → AreKept es → AreKept (settled es)
@@ -307,14 +132,5 @@ pub live-kept : (stored : List ElementValue) → AreKept stored → AreKept (liv
 live-kept stored all = all_kept_by is_live IsKept stored all
 
 -- ---- as laws say it
-kept-from : (es : List ElementValue) → All (λ e. IsElement e × HasValidTexts e) es → AreKept es
-kept-from es all = All-weaker (λ e. IsElement e × HasValidTexts e) IsKept (λ e h. record { element = h.0; written = h.1 }) es (recursion_from_All _ es all)
-
-kept-to : (es : List ElementValue) → AreKept es → All (λ e. IsElement e × HasValidTexts e) es
-kept-to es all = All-from_recursion _ es (All-weaker IsKept (λ e. IsElement e × HasValidTexts e) (λ e h. (h.element, h.written)) es all)
-
 pub shown-elements : (live : List ElementValue) → All (λ e. IsElement e × HasValidTexts e) live → All (λ e. IsElement e × HasValidTexts e) (shown live)
 shown-elements live all = kept-to (shown live) (shown-kept live (kept-from live all))
-
-pub keyed-elements : (es : List ElementValue) → All (λ e. IsElement e × HasValidTexts e) es → All (λ e. IsElement e × HasValidTexts e) (keyed es (repaired (map index_of es)))
-keyed-elements es all = kept-to (keyed es (repaired (map index_of es))) (repaired-kept es (kept-from es all))

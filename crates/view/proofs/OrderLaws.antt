@@ -8,7 +8,8 @@ use Rattle.std.specs.declared.cmp.Ordering.TheVariants.{Less, Equal, Greater}
 use Rattle.std.proofs.lemmas.List.Sorted.{ranks_by}
 use Rattle.frac_keys.specs.Keys.{bytes_less}
 use Rattle.elem.specs.ElementValue.{ElementValue}
-use Rattle.view.specs.Shown.{comes_before, place_less, index_of}
+use Rattle.index_repair.specs.Keyed.{index_of}
+use Rattle.view.specs.Shown.{comes_before, place_less}
 
 -- indices in order, none last
 abbrev pub index_cmp : Option (List ℕ) → Option (List ℕ) → Ordering

@@ -14,10 +14,9 @@ use Rattle.frac_keys.specs.Rising.{are_rising}
 use Rattle.elem.specs.ElementValue.{ElementValue}
 use Rattle.elem.specs.Order.{has_id}
 use Rattle.elem_store.specs.Updates.{element_of, ids_of}
-use Rattle.elem_store.proofs.Ids.{same_id}
-use Rattle.elem_store.proofs.Lists.{find-Some}
-use Rattle.elem_store.proofs.Rising.{member, earlier_less}
-use Rattle.view.specs.Shown.{is_live, live_elements, in_scene_order, in_id_order, shown, as_stored, all_as_stored, HaveKeysOrNone}
+use Rattle.elem_store.proofs.CallerLemmas.{same_id, find-Some, member, earlier_less}
+use Rattle.index_repair.specs.Keyed.{HaveKeysOrNone}
+use Rattle.view.specs.Shown.{is_live, live_elements, in_scene_order, in_id_order, shown, as_stored, all_as_stored}
 use Rattle.view.proofs.InOrder.{IsElementOrder, HaveDistinctIds-permuted, in_order-only}
 use Rattle.view.proofs.SceneOrder.{IsPermutation-in_scene_order}
 use Rattle.view.proofs.ShownLaws.{HaveDistinctIds-rising, live_elements-rise, shown-is}

@@ -6,7 +6,7 @@ use Rattle.std.specs.List.Sorted.{IsPermutation, IsSortedBy}
 use Rattle.elem.specs.ElementValue.{ElementValue}
 use Rattle.elem.specs.Order.{HaveDistinctIds}
 use Rattle.view.specs.Shown.{comes_before, in_scene_order, IsSceneOrder}
-use Rattle.view.specs.Spots.{element_at, elements_of}
+use Rattle.view.specs.inner.Spots.{element_at, elements_of}
 use Rattle.view.specs.declared.order.Spot.{Spot}
 use Rattle.view.proofs.InOrder.{IsElementOrder, IsPermutation-in_order, AllPairs-in_order, in_order-only}
 use Rattle.view.proofs.OrderLaws.{place_cmp, place_cmp-total, comes_before-cmp, comes_before-order, tied-ids}

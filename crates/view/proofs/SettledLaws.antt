@@ -4,17 +4,12 @@ use Rattle.std.specs.List.{IsDistinct}
 use Rattle.elem.specs.ElementValue.{ElementValue}
 use Rattle.frames_groups.specs.Frames.{without_frame, frames_settled, NameFrames}
 use Rattle.frames_groups.specs.Groups.{without_groups, groups_settled, HaveDistinctGroups}
-use Rattle.frames_groups.proofs.FrameLaws.{frames_settled-settled, frames_settled-others, NameFrames-settled}
-use Rattle.frames_groups.proofs.GroupLaws.{groups_settled-settled, groups_settled-others, settled-either, NameFrames-grouped, HaveDistinctGroups-settled}
+use Rattle.frames_groups.proofs.CallerLemmas.{frames_settled-settled, frames_settled-others, NameFrames-settled, groups_settled-settled, groups_settled-others, settled-either, NameFrames-grouped, HaveDistinctGroups-settled}
 use Rattle.elem.specs.Order.{HaveDistinctIds}
 use Rattle.links.specs.Names.{id_of}
 use Rattle.links.specs.Settled.{settled_links, unlinked, unplaced, ArrowsAgree, TextsAgree, HaveOneText, NameTargets}
 use Rattle.links.specs.Texts.{settled_texts}
-use Rattle.links.proofs.ArrowLaws.{ArrowsAgree-settled, TextsAgree-settled, HaveOneText-settled, NameTargets-settled}
-use Rattle.links.proofs.Members.{map-map}
-use Rattle.links.proofs.SettledLaws.{distinct-texts, links-again, unlinked-links}
-use Rattle.links.proofs.TextLaws.{settled_texts-again}
-use Rattle.links.proofs.UnplacedLaws.{links-unplaced}
+use Rattle.links.proofs.CallerLemmas.{ArrowsAgree-settled, TextsAgree-settled, HaveOneText-settled, NameTargets-settled, map-map, distinct-texts, links-again, unlinked-links, settled_texts-again, links-unplaced}
 use Rattle.view.specs.Settled.{settled, unsettled, AreSettled}
 
 -- what is the same of two lists is the same of them when less of it is looked at

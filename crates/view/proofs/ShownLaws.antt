@@ -15,16 +15,16 @@ use Rattle.std.proofs.lemmas.List.Sums.{AllPass-from_list_all, list_all-from_All
 use Rattle.std.proofs.lemmas.List.Sorted.{IsPermutation-refl, IsPermutation-sym, IsPermutation-map, All-permutation}
 use Rattle.frac_keys.specs.Keys.{bytes_less}
 use Rattle.frac_keys.specs.Rising.{ends_rise, is_key_or_none, lies_between, rise_between, are_rising}
-use Rattle.frac_keys.proofs.KeysLaws.{AreBetween, lies_between-risen, rise_between-ends}
+use Rattle.frac_keys.proofs.CallerLemmas.{AreBetween, lies_between-risen, rise_between-ends}
 use Rattle.index_repair.specs.Repair.{repaired}
-use Rattle.index_repair.proofs.RepairLaws.{repaired-law, repaired-rising}
+use Rattle.index_repair.proofs.CallerLemmas.{keyed-rising, repaired-law}
 use Rattle.elem.specs.ElementValue.{ElementValue}
 use Rattle.elem_store.specs.Updates.{ids_of}
-use Rattle.elem_store.proofs.Lists.{Contains-filter, filter-Contains}
-use Rattle.elem_store.proofs.Rising.{less-other}
+use Rattle.elem_store.proofs.CallerLemmas.{Contains-filter, filter-Contains, less-other}
 use Rattle.elem.specs.Order.{HaveDistinctIds}
-use Rattle.view.specs.Shown.{is_live, live_elements, place_less, comes_before, in_scene_order, AreInSceneOrder, IsSceneOrder, index_of, keyed, placed, shown, bare, HaveKeysOrNone, HaveRisingKeys, without_index, IsView}
-use Rattle.links.proofs.Members.{map-map}
+use Rattle.index_repair.specs.Keyed.{index_of, keyed, HaveKeysOrNone, HaveRisingKeys}
+use Rattle.view.specs.Shown.{is_live, live_elements, place_less, comes_before, in_scene_order, AreInSceneOrder, IsSceneOrder, placed, shown, bare, without_index, IsView}
+use Rattle.links.proofs.CallerLemmas.{map-map}
 use Rattle.view.specs.Settled.{settled, unsettled, AreSettled}
 use Rattle.view.proofs.SettledLaws.{map-less, unsettled-settled, settled-are, settled-again}
 use Rattle.view.proofs.InOrder.{in_order-only, in_order-same, in_order-permuted, HaveDistinctIds-permuted}
@@ -94,15 +94,6 @@ live-keyed (e ∷ es) (key ∷ keys) h =
     let p = and_parts (is_live e) (list_all is_live es) h in
     and_from (is_live e) (list_all is_live (keyed es keys)) p.0 (live-keyed es keys p.1)
 
--- the keys that elements have already change nothing
-with_own_key : (e : ElementValue) (key : List ℕ) → e.index ≡ Some key → record e { index = Some key } ≡ e
-with_own_key e key h = ap (λ index. record e { index = index }) (sym h)
-
-keyed-own : (es : List ElementValue) (keys : List (List ℕ)) → map index_of es ≡ map Some keys → keyed es keys ≡ es
-keyed-own [] keys h = refl
-keyed-own (e ∷ es) [] h = cc
-keyed-own (e ∷ es) (key ∷ keys) h = ap₂ (λ f fs. f ∷ fs) (with_own_key e key (cc)) (keyed-own es keys (cc))
-
 -- ---- elements whose keys rise are in scene order
 list_all-permuted : {X : Type 0} (p : X → Bool) (xs ys : List X) → IsPermutation xs ys → list_all p xs ≡ true → list_all p ys ≡ true
 list_all-permuted p xs ys moved h = list_all-from_AllPass p ys (All-permutation (λ x. p x ≡ true) xs ys moved (AllPass-from_list_all p xs h))
@@ -167,9 +158,6 @@ unfolding placed
 placed-permuted live others apart moved = ap (λ ordered. keyed ordered (repaired (map index_of ordered))) (in_order-permuted scene_order live others apart moved)
 
 -- ---- elements that are placed stay in their places
-pub keyed-rising : (es : List ElementValue) → HaveRisingKeys es → keyed es (repaired (map index_of es)) ≡ es
-keyed-rising es h = ap (keyed es) (ap repaired h.each ∙ repaired-rising h.keys h.rise) ∙ keyed-own es h.keys h.each
-
 placed-rising : (es : List ElementValue) → HaveDistinctIds es → HaveRisingKeys es → placed es ≡ es
 unfolding placed
 placed-rising es apart h =

@@ -11,7 +11,7 @@ use Rattle.std.proofs.lemmas.Slice.Eq.{bytes_eq-Decides}
 use Rattle.elem.specs.ElementValue.{ElementValue}
 use Rattle.elem.specs.Order.{HaveDistinctIds}
 use Rattle.elem_store.specs.Updates.{ids_of}
-use Rattle.view.specs.Spots.{elements_of, indices_of, AreSpotsIn, IsSpotIn}
+use Rattle.view.specs.inner.Spots.{elements_of, indices_of, AreSpotsIn, IsSpotIn}
 use Rattle.view.specs.declared.order.Spot.{Spot}
 
 pub stored-at : (stored : List ElementValue) (spots : List Spot) → AreSpotsIn stored spots → filter_map (slice_get stored) (indices_of spots) ≡ elements_of spots

@@ -9,17 +9,13 @@ use Rattle.elem.specs.Order.{has_id, HaveDistinctIds}
 use Rattle.elem_store.specs.Updates.{element_of}
 use Rattle.frames_groups.specs.Frames.{is_frame, is_frame_of, has_frame, keeps_frame, without_frame, framed, frames_settled}
 use Rattle.frames_groups.specs.Groups.{grouped, groups_settled}
-use Rattle.frames_groups.proofs.FrameLaws.{framed-among}
+use Rattle.frames_groups.proofs.CallerLemmas.{framed-among}
 use Rattle.links.specs.Arrows.{with_settled_links}
 use Rattle.links.specs.Names.{is_id}
 use Rattle.links.specs.Settled.{settled_links, unlinked, unplaced}
 use Rattle.links.specs.Steps.{names_id, is_within}
 use Rattle.links.specs.Texts.{with_settled_container, settled_texts}
-use Rattle.links.proofs.Members.{bytes_eq-refl, find-map, find-Some, map-map}
-use Rattle.links.proofs.Near.{near-all, links-alone, found-settled, step-to, within-own, within-more, within-step}
-use Rattle.links.proofs.SettledLaws.{unlinked-links}
-use Rattle.links.proofs.Tabled.{list_any-map}
-use Rattle.links.proofs.UnplacedLaws.{links-unplaced}
+use Rattle.links.proofs.CallerLemmas.{bytes_eq-refl, find-map, find-Some, map-map, near-all, links-alone, found-settled, step-to, within-own, within-more, within-step, unlinked-links, list_any-map, links-unplaced}
 use Rattle.view.specs.Settled.{settled}
 use Rattle.view.specs.Shown.{without_index}
 use Rattle.view.specs.Steps.{settled_of, settled_but_for_key, AreAlikeNear, HasAllNear}

@@ -1,4 +1,4 @@
 pub mod Settled
 pub mod Shown
-pub mod Spots
 pub mod Steps
+pub mod inner

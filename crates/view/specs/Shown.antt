@@ -3,7 +3,8 @@ use Rattle.std.specs.Prelude.{◌≡◌, ℕ, List, [], ◌∷◌, Bool, true, f
 use Rattle.std.specs.List.{list_all}
 use Rattle.std.specs.Option.{unwrap_or}
 use Rattle.frac_keys.specs.Keys.{bytes_less}
-use Rattle.frac_keys.specs.Rising.{are_rising, is_key_or_none}
+use Rattle.frac_keys.specs.Rising.{are_rising}
+use Rattle.index_repair.specs.Keyed.{index_of, keyed, HaveKeysOrNone}
 use Rattle.index_repair.specs.Repair.{repaired}
 use Rattle.elem.specs.ElementValue.{ElementValue}
 use Rattle.elem_store.specs.Updates.{element_of, ids_of}
@@ -55,19 +56,6 @@ pub record IsSceneOrder (elements ordered : List ElementValue) : Type 0 where
   pub in_order : AreInSceneOrder ordered
   pub only : (others : List ElementValue) → IsPermutation elements others → AreInSceneOrder others → others ≡ ordered
 
--- the index of an element, and the element with a key as its index
-abbrev pub index_of : ElementValue → Option (List ℕ)
-index_of e = e.index
-
-abbrev pub with_index : ElementValue → List ℕ → ElementValue
-with_index e key = record e { index = Some key }
-
--- each element with its key
-abbrev pub keyed : List ElementValue → List (List ℕ) → List ElementValue
-keyed [] keys = []
-keyed (e ∷ elements) [] = []
-keyed (e ∷ elements) (key ∷ keys) = with_index e key ∷ keyed elements keys
-
 -- the live elements in scene order, with repaired keys
 unfoldable pub placed : List ElementValue → List ElementValue
 placed live = let ordered = in_scene_order live in keyed ordered (repaired (map index_of ordered))
@@ -75,16 +63,6 @@ placed live = let ordered = in_scene_order live in keyed ordered (repaired (map 
 -- what a board shows of its live elements: they are placed, and then their links, frames and groups are settled
 unfoldable pub shown : List ElementValue → List ElementValue
 shown live = settled (placed live)
-
--- each index is a key, if it is there
-abbrev pub HaveKeysOrNone : List ElementValue → Type 0
-HaveKeysOrNone elements = list_all is_key_or_none (map index_of elements) ≡ true
-
--- Each element has a key, and each key is less than the next.
-pub record HaveRisingKeys (elements : List ElementValue) : Type 0 where
-  pub keys : List (List ℕ)
-  pub each : map index_of elements ≡ map Some keys
-  pub rise : are_rising keys ≡ true
 
 -- the element without its key, and without that and what settling may change
 abbrev pub without_index : ElementValue → ElementValue

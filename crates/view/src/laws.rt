@@ -7,10 +7,10 @@ ghost use Rattle.elem.specs.ElementValue.{ElementValue};
 ghost use Rattle.elem.specs.Facts.{IsElement};
 ghost use Rattle.elem.specs.Order.{unstamped, HaveDistinctIds};
 ghost use Rattle.elem.specs.Said.{HasValidTexts};
-ghost use Rattle.index_repair.specs.Repair.{repaired};
 ghost use Rattle.elem_store.specs.Updates.{ids_of};
 ghost use Rattle.view.specs.Settled.{AreSettled};
-ghost use Rattle.view.specs.Shown.{is_live, live_elements, in_scene_order, IsSceneOrder, HaveKeysOrNone, HaveRisingKeys, index_of, keyed, shown};
+ghost use Rattle.index_repair.specs.Keyed.{HaveKeysOrNone, HaveRisingKeys};
+ghost use Rattle.view.specs.Shown.{is_live, live_elements, in_scene_order, IsSceneOrder, shown};
 
 /// The scene order is the one permutation in which each element comes before those behind it.
 pub fn scene_order_is_unique()
@@ -54,11 +54,8 @@ pub fn stamps_play_no_part()
         → map unstamped live ≡ map unstamped others → map unstamped (shown live) ≡ map unstamped (shown others) }
 {}
 
-/// What holds of every element holds of what is shown of elements, and of elements with repaired keys.
+/// What holds of every element holds of what is shown of elements.
 pub fn shown_elements_are_elements()
-    ensures shown { (live : List ElementValue)
+    ensures { (live : List ElementValue)
         → All (λ e. IsElement e × HasValidTexts e) live → All (λ e. IsElement e × HasValidTexts e) (shown live) }
-    ensures keyed { (elements : List ElementValue)
-        → All (λ e. IsElement e × HasValidTexts e) elements
-        → All (λ e. IsElement e × HasValidTexts e) (keyed elements (repaired (map index_of elements))) }
 {}

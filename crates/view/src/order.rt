@@ -4,7 +4,7 @@ ghost use Rattle.std.specs.Prelude.{◌≡◌, true, false, OnOk, IsPermutation}
 ghost use Rattle.std.specs.Ordering.{is_lt};
 ghost use Rattle.elem.specs.Order.{HaveDistinctIds};
 ghost use Rattle.view.specs.Shown.{comes_before, in_scene_order, AreInSceneOrder};
-ghost use Rattle.view.specs.Spots.{elements_of};
+ghost use Rattle.view.specs.inner.Spots.{elements_of};
 
 use elem::Element;
 use std::alloc::AllocError;

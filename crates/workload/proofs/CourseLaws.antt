@@ -5,11 +5,11 @@ use Rattle.std.specs.List.{AllByRecursion}
 use Rattle.std.proofs.Math.Nat.{mod-lt}
 use Rattle.std.proofs.lemmas.List.{map-append}
 use Rattle.elem.specs.Facts.{greatest_whole}
-use Rattle.effects.specs.declared.command.Side.TheVariants as sides
+use Rattle.board_commands.specs.declared.command.Side.TheVariants as sides
 use Rattle.session_text.specs.Sessions as sessions
 use Rattle.session_text.specs.Sessions.{made_after}
 use Rattle.session_text.specs.declared.event.Event.{Event}
-use Rattle.session_text.proofs.SessionsOne.{made-more}
+use Rattle.session_text.proofs.CallerLemmas.{made-more}
 use Rattle.rand_pcg.specs.Lcg.{Lcg}
 use Rattle.workload.specs.Deeds.{most_drilled, row_of, order_of, deed_of, messages_of, course}
 use Rattle.workload.specs.Draws.{drawn, IsDrawn}

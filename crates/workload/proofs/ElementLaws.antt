@@ -11,15 +11,12 @@ use Rattle.json_text.specs.Compact.{Member as Pair, array_text, object_text}
 use Rattle.json_text.specs.Parts.{AreMembers}
 use Rattle.json_text.specs.Value.{IsCompact}
 use Rattle.scene_json.specs.Named.{HaveRisingNames}
-use Rattle.json_text.proofs.Collapsed.{bytes_eq-same}
-use Rattle.json_text.proofs.CompactLaws.{Value-deeper, object-compact}
-use Rattle.scene_json.proofs.Lookups.{rising_from, rising_none}
+use Rattle.json_text.proofs.CallerLemmas.{bytes_eq-same, Value-deeper, object-compact}
+use Rattle.scene_json.proofs.CallerLemmas.{rising_from, rising_none}
 use Rattle.restore_table.specs.Merged.{merged}
 use Rattle.restore_table.specs.Restored.{AreRestored}
 use Rattle.restore_table.specs.Table.{defaults}
-use Rattle.restore_table.proofs.Merging.{merged-rise}
-use Rattle.restore_table.proofs.RestoredLaws.{restored-from}
-use Rattle.restore_table.proofs.Rows.{defaults-rise}
+use Rattle.restore_table.proofs.CallerLemmas.{merged-rise, restored-from, defaults-rise}
 use Rattle.elem.specs.ElementValue.{ElementValue}
 use Rattle.elem.specs.Facts.{is_header, IsKind}
 use Rattle.elem.specs.Forms.{find_in, IsTextOrNull, IsBindingOrNull, AreOthers}
@@ -27,10 +24,9 @@ use Rattle.elem.specs.Said.{IsOwn, Says, is_named}
 use Rattle.elem.specs.Texts.{kind_name}
 use Rattle.elem.specs.declared.kind.Kind.{Kind}
 use Rattle.elem.specs.declared.kind.Kind.TheVariants as kinds
-use Rattle.elem.proofs.FormsOnce.{text-once}
-use Rattle.elem.proofs.Saying.{literal, AreMembers-deeper}
+use Rattle.elem.proofs.CallerLemmas.{text-once, literal, AreMembers-deeper}
 use Rattle.elem_read.specs.Reading.{IsElementIn}
-use Rattle.elem_read.proofs.Others.{kept, kept-others}
+use Rattle.elem_read.proofs.CallerLemmas.{kept, kept-others}
 use Rattle.workload.specs.Elements.{numbered_element, member_of, plain_rest}
 use Rattle.workload.specs.Texts.{id_text, kind_of, numbered_element_members, numbered_element_text}
 use Rattle.workload.proofs.IdLaws.{id-utf8, id-compact, word-compact}

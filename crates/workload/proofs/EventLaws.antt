@@ -9,17 +9,17 @@ use Rattle.json_text.specs.Compact.{Member as Pair, object_text}
 use Rattle.json_text.specs.Parts.{AreMembers}
 use Rattle.json_text.specs.Tree.{null_word}
 use Rattle.json_text.specs.Value.{IsCompact}
-use Rattle.json_text.proofs.CompactLaws.{Value-deeper, array-compact, decimal_nests, literal-compact, object-compact}
+use Rattle.json_text.proofs.CallerLemmas.{Value-deeper, array-compact, decimal_nests, literal-compact, object-compact}
 use Rattle.elem.specs.Facts.{greatest_whole}
-use Rattle.elem.proofs.Saying.{literal, AreMembers-deeper}
-use Rattle.effects.specs.declared.command.Capture.{Capture}
-use Rattle.effects.specs.declared.command.Capture.TheVariants as captures
+use Rattle.elem.proofs.CallerLemmas.{literal, AreMembers-deeper}
+use Rattle.board_commands.specs.declared.command.Capture.{Capture}
+use Rattle.board_commands.specs.declared.command.Capture.TheVariants as captures
 use Rattle.session_text.specs.Events.{EventOf, EventText, HeaderText, header}
 use Rattle.session_text.specs.Forms.{IsFrom, ArePicks, capture_text}
 use Rattle.session_text.specs.Reads.Then.{goes_on}
 use Rattle.session_text.specs.declared.event.Event.{Event}
 use Rattle.session_text.specs.declared.event.Pick.TheVariants.{All}
-use Rattle.session_text.proofs.Said.{change-said, undo-said, redo-said, deliver-said}
+use Rattle.session_text.proofs.CallerLemmas.{change-said, undo-said, redo-said, deliver-said}
 use Rattle.workload.specs.Drills.{command_of, delivery, event_of}
 use Rattle.workload.specs.Texts.{change_members, step_members, delivery_members, delivery_text, deed_text, session_header_members, session_header_text, order_members}
 use Rattle.workload.specs.declared.deed.Deed.{Deed}

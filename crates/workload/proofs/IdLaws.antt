@@ -7,8 +7,8 @@ use Rattle.std.proofs.lemmas.List.{get_or_past}
 use Rattle.std.proofs.lemmas.Str.{IsUtf8-from_ascii}
 use Rattle.json_text.specs.Characters.{quote}
 use Rattle.json_text.specs.Value.{IsCompact}
-use Rattle.json_text.proofs.CompactLaws.{decimal_nests, quote-compact}
-use Rattle.scene_json.proofs.Decimals.{digit_of_decimal}
+use Rattle.json_text.proofs.CallerLemmas.{decimal_nests, quote-compact}
+use Rattle.scene_json.proofs.CallerLemmas.{digit_of_decimal}
 use Rattle.workload.specs.Texts.{numbered_id, id_text}
 
 id-ascii : (number : ℕ) → number < 2 ^ 64 → IsAscii (numbered_id number)

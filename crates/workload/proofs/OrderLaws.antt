@@ -6,17 +6,17 @@ use Rattle.json_text.specs.Characters.{quote}
 use Rattle.json_text.specs.Compact.{Member as Pair, array_text, object_text}
 use Rattle.json_text.specs.Parts.{AreMembers}
 use Rattle.json_text.specs.Value.{IsCompact}
-use Rattle.json_text.proofs.CompactLaws.{Value-deeper, array-compact, decimal_nests, object-compact}
-use Rattle.first_texts.specs.FirstOccurrences.{first_texts}
+use Rattle.json_text.proofs.CallerLemmas.{Value-deeper, array-compact, decimal_nests, object-compact}
+use Rattle.json_text.specs.FirstOccurrences.{first_texts}
 use Rattle.elem.specs.Forms.{IsText}
-use Rattle.elem.proofs.Saying.{literal, AreMembers-deeper}
-use Rattle.effects.specs.declared.command.Side.{Side}
-use Rattle.effects.specs.declared.command.Side.TheVariants as sides
-use Rattle.effects.specs.declared.command.Spot.TheVariants as spots
+use Rattle.elem.proofs.CallerLemmas.{literal, AreMembers-deeper}
+use Rattle.board_commands.specs.declared.command.Side.{Side}
+use Rattle.board_commands.specs.declared.command.Side.TheVariants as sides
+use Rattle.board_commands.specs.declared.command.Spot.TheVariants as spots
 use Rattle.session_text.specs.Commands.{CommandOf}
 use Rattle.session_text.specs.Forms.{IsSpotAfter, IsRest, AreIds, HasObject, side_text}
 use Rattle.session_text.specs.Reads.Then.{goes_on}
-use Rattle.session_text.proofs.Said.{create-said, set-said, delete-said, place-said, bind-said, label-said, frame-said, group-said}
+use Rattle.session_text.proofs.CallerLemmas.{create-said, set-said, delete-said, place-said, bind-said, label-said, frame-said, group-said}
 use Rattle.workload.specs.Drills.{command_of}
 use Rattle.workload.specs.Elements.{numbered_element}
 use Rattle.workload.specs.Texts.{numbered_id, id_text, numbered_element_text, order_members, order_text}

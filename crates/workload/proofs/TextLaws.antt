@@ -5,10 +5,10 @@ use Rattle.std.specs.List.{join_with_byte}
 use Rattle.std.proofs.lemmas.Bool.Decides.{nat_tests}
 use Rattle.json_text.specs.Characters.{quote, quoted_byte}
 use Rattle.json_text.specs.Compact.{member_text, array_text, object_text}
-use Rattle.scene_json.proofs.Decimals.{digit_of_decimal}
+use Rattle.scene_json.proofs.CallerLemmas.{digit_of_decimal}
 use Rattle.elem.specs.Texts.{kind_name}
-use Rattle.effects.specs.declared.command.Capture.{Capture}
-use Rattle.effects.specs.declared.command.Side.{Side}
+use Rattle.board_commands.specs.declared.command.Capture.{Capture}
+use Rattle.board_commands.specs.declared.command.Side.{Side}
 use Rattle.session_text.specs.Forms.{capture_text, side_text}
 use Rattle.workload.specs.Texts.{id_text, kind_of, numbered_element_text, set_members, order_text, change_members, step_members, delivery_text, session_header_text}
 use Rattle.workload.specs.declared.deed.Order.{Order}

@@ -1,10 +1,10 @@
 -- What happens in a drill, one event after the other. This project's own.
 use Rattle.std.specs.Prelude.{ℕ, zero, suc, ◌+◌, ◌*◌, ◌-◌, ◌%◌, List, [], ◌∷◌, ◌++◌, ◌==◌, nat_le, if◌then◌else◌}
 use Rattle.rand_pcg.specs.Lcg.{Lcg}
-use Rattle.effects.specs.declared.command.Capture.{Capture}
-use Rattle.effects.specs.declared.command.Capture.TheVariants as captures
-use Rattle.effects.specs.declared.command.Side.TheVariants as sides
-use Rattle.session.specs.Worlds.{generator_of}
+use Rattle.board_commands.specs.declared.command.Capture.{Capture}
+use Rattle.board_commands.specs.declared.command.Capture.TheVariants as captures
+use Rattle.board_commands.specs.declared.command.Side.TheVariants as sides
+use Rattle.drawn_words.specs.Words.{generator_of}
 use Rattle.workload.specs.Draws.{drawn, after_draws}
 use Rattle.workload.specs.declared.deed.Deed.{Deed}
 use Rattle.workload.specs.declared.deed.Deed.TheVariants.{Change, Undo, Redo, Deliver}

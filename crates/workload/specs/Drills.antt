@@ -1,9 +1,9 @@
 -- The session that a drill is. This project's own.
 use Rattle.std.specs.Prelude.{ℕ, List, [], ◌∷◌, ◌++◌, None, map, codes, decimal}
-use Rattle.first_texts.specs.FirstOccurrences.{first_texts}
-use Rattle.effects.specs.declared.command.Command.{Command}
-use Rattle.effects.specs.declared.command.Command.TheVariants as commands
-use Rattle.effects.specs.declared.command.Spot.TheVariants as spots
+use Rattle.json_text.specs.FirstOccurrences.{first_texts}
+use Rattle.board_commands.specs.declared.command.Command.{Command}
+use Rattle.board_commands.specs.declared.command.Command.TheVariants as commands
+use Rattle.board_commands.specs.declared.command.Spot.TheVariants as spots
 use Rattle.session_text.specs.declared.event.Event.{Event}
 use Rattle.session_text.specs.declared.event.Event.TheVariants as events
 use Rattle.session_text.specs.declared.event.Pick.TheVariants.{All}

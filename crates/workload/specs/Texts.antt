@@ -6,7 +6,7 @@ use Rattle.json_text.specs.Compact.{Member as Pair, array_text, object_text}
 use Rattle.elem.specs.Texts.{kind_name}
 use Rattle.elem.specs.declared.kind.Kind.{Kind}
 use Rattle.elem.specs.declared.kind.Kind.TheVariants as kinds
-use Rattle.effects.specs.declared.command.Capture.{Capture}
+use Rattle.board_commands.specs.declared.command.Capture.{Capture}
 use Rattle.session_text.specs.Forms.{capture_text, side_text}
 use Rattle.workload.specs.Deeds.{course}
 use Rattle.workload.specs.declared.deed.Deed.{Deed}

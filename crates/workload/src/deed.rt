@@ -5,7 +5,7 @@ ghost use Rattle.workload.specs.Deeds as deeds;
 ghost use Rattle.workload.specs.Draws.{IsDrawn};
 
 use crate::draws::Draws;
-use effects::{Capture, Side};
+use board_commands::{Capture, Side};
 
 /// A command of a drill. Elements are told by their numbers.
 #[derive(Clone, Copy)]

@@ -1,10 +1,10 @@
 //! What is drawn for the events.
 
 ghost use Rattle.std.specs.Prelude.{◌≡◌, ◌<◌, ◌%◌};
-ghost use Rattle.session.specs.Worlds.{next_generator, next_word};
+ghost use Rattle.drawn_words.specs.Words.{next_generator, next_word};
 ghost use Rattle.workload.specs.Draws.{IsDrawn, after_draws, drawn};
 
-use rand_core::utils::NextWord;
+use drawn_words::draw_word;
 use rand_pcg::Pcg32;
 
 /// What is drawn for an event.
@@ -44,12 +44,11 @@ pub(crate) fn draw_all(generator: &mut Pcg32) -> Draws
 }
 
 /// Draws a number below the limit.
-#[tactic(auto, unfolding(session::specs::Worlds::next_word, session::specs::Worlds::next_generator))]
 fn draw(generator: &mut Pcg32, limit: u64) -> u64
     requires { 0 < limit }
     ensures number { result ≡ next_word generator.old % limit }
     ensures below { result < limit }
     ensures after { generator.new ≡ next_generator generator.old }
 {
-    u64::from(generator.next_word()) % limit
+    draw_word(generator) % limit
 }

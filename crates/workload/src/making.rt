@@ -9,9 +9,8 @@ ghost use Rattle.workload.specs.Texts.{deed_text, drill_text, last_texts, line};
 use crate::deed::{deed_of, messages_of};
 use crate::draws::draw_all;
 use crate::texts::{push_deed, push_delivery, push_header};
-use board_io::Bytes;
-use rand_core::SeedableRng;
-use rand_pcg::Pcg32;
+use board_base::Bytes;
+use drawn_words::generator_of;
 use std::alloc::{AllocError, Global};
 
 /// The text of a session: four replicas, so many events that are drawn from the seed, and then a delivery of all messages to each
@@ -36,7 +35,7 @@ fn push_events(out: &mut Vec<u8>, seed: u64, events: u64) -> Result<u64, AllocEr
     ensures lines { OnOk result (out.new.items ≡ out.old.items ++ flat_map line (map deed_text (course seed events).deeds)) }
     ensures made { IfOk result (λ made. made ≡ (course seed events).made) }
 {
-    let mut generator = Pcg32::seed_from_u64(seed);
+    let mut generator = generator_of(seed);
     let mut made = 0;
     for number in 0..events {
         let draws = draw_all(&mut generator);

@@ -10,7 +10,7 @@ ghost use Rattle.workload.specs.Texts as texts;
 ghost use Rattle.workload.specs.declared.deed.Order.TheVariants as orders;
 
 use crate::deed::{Deed, Order};
-use effects::{Capture, Side};
+use board_commands::{Capture, Side};
 use json_text::push_quoted;
 use scene_json::{push_comma, push_whole};
 use std::alloc::AllocError;

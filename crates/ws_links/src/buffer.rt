@@ -3,6 +3,8 @@
 ghost use Rattle.std.specs.Prelude.{◌≤◌, vec_len};
 
 use std::alloc::{AllocError, Global};
+use websocket::error::Error;
+use websocket::protocol::{FrameStatus, NoMask, Step, WebSocketContext};
 
 /// Bytes in the order in which they came, of which the first ones have left.
 #[derive(Drop)]
@@ -25,8 +27,22 @@ impl Buffer {
         &self.bytes[self.left..]
     }
 
-    pub(crate) fn len(&self) -> usize {
-        self.bytes.len() - self.left
+    /// The protocol reads the frame that comes first, and unmasks it in its place. What it answers is added to the reply.
+    pub(crate) fn read_frame(
+        &mut self,
+        protocol: &mut WebSocketContext,
+        reply: &mut Vec<u8>,
+    ) -> Result<FrameStatus<Step>, Error> {
+        protocol.read(&mut self.bytes[self.left..], reply, &mut NoMask)
+    }
+
+    pub(crate) fn is_empty(&self) -> bool {
+        self.left == self.bytes.len()
+    }
+
+    /// How many bytes of memory it holds.
+    pub(crate) fn held(&self) -> usize {
+        self.bytes.capacity()
     }
 
     /// Room for so many bytes more.

@@ -1,114 +1,164 @@
 //! A handshake that isn't whole yet.
 
-use crate::link::{config, read_in, stop_of};
-use crate::origin::LocalOrigin;
-use crate::stream::MemoryStream;
-use board_io::{Failed, Stop};
+use crate::handshake::{Answer, UNAVAILABLE, answer_to};
+use crate::quiet::seconds_between;
+use crate::signal::{Signal, may_go_on};
 use mio::net::TcpStream;
 use std::alloc::{AllocError, Global};
-use std::io::Write;
-use std::time::{Clock, Instant};
-use tungstenite::handshake::server::start;
-use tungstenite::{Error, HandshakeError, MidHandshake, NoMask, ServerHandshake, WebSocket};
+use std::io::{ErrorKind, Read, Write};
+use std::time::Instant;
 
 /// How many seconds a handshake may take.
 const PATIENCE: u64 = 10;
 
-/// What a page of another host is answered.
-const FORBIDDEN: &[u8] =
-    b"HTTP/1.1 403 Forbidden\r\nContent-Length: 0\r\nConnection: close\r\n\r\n";
+/// How many bytes are read at once.
+const PIECE: usize = 4096;
 
 /// A connection whose handshake isn't whole.
 #[derive(Drop)]
 pub(crate) struct Greeting {
-    // None once the handshake is whole or has failed.
-    waiting: Option<Waiting>,
-    since: Option<Instant>,
-}
-
-#[derive(Drop)]
-struct Waiting {
+    alloc: Global,
+    pub(crate) token: usize,
     socket: TcpStream,
-    handshake: MidHandshake<ServerHandshake<MemoryStream, LocalOrigin>>,
+    head: Vec<u8>,
+    since: Option<Instant>,
+    // When a byte came last, or it began.
+    heard: Option<Instant>,
+    reads: bool,
+    ends: bool,
+    is_over: bool,
 }
 
 /// A connection whose handshake is whole.
 #[derive(Drop)]
 pub(crate) struct Greeted {
+    pub(crate) token: usize,
     pub(crate) socket: TcpStream,
-    pub(crate) protocol: WebSocket<MemoryStream, NoMask>,
+    /// What came behind the handshake.
+    pub(crate) rest: Vec<u8>,
+    /// The peer sends no more.
+    pub(crate) ends: bool,
 }
 
 impl Greeting {
-    pub(crate) fn new(alloc: Global, clock: &impl Clock, socket: TcpStream) -> Greeting {
-        let stream = MemoryStream::new(alloc);
+    pub(crate) fn new(
+        alloc: Global,
+        token: usize,
+        socket: TcpStream,
+        now: Option<Instant>,
+    ) -> Greeting {
         Greeting {
-            waiting: Some(Waiting {
-                socket,
-                handshake: start(alloc, stream, LocalOrigin, Some(config())),
-            }),
-            since: Instant::now(clock).ok(),
+            alloc,
+            token,
+            socket,
+            head: Vec::new(alloc),
+            since: now,
+            heard: now,
+            reads: true,
+            ends: false,
+            is_over: false,
         }
     }
 
-    /// Whether it is whole, or has failed.
+    /// The system told what the socket is ready for.
+    pub(crate) fn wake(&mut self, signal: Signal) {
+        self.reads = self.reads || signal.reads;
+        self.ends = self.ends || signal.ends;
+    }
+
+    /// Whether there may be something to read.
+    pub(crate) fn wants_turn(&self) -> bool {
+        self.reads || self.is_over
+    }
+
+    /// Whether it has failed or was refused.
     pub(crate) fn is_over(&self) -> bool {
-        self.waiting.is_none()
+        self.is_over
     }
 
-    /// Reads once, and gives the connection where the handshake is whole by then. One that takes too long is over.
-    pub(crate) fn go_on(
-        &mut self,
-        clock: &impl Clock,
-        piece: &mut [u8],
-    ) -> Result<Option<Greeted>, AllocError> {
-        let Some(mut waiting) = self.waiting.take() else {
+    /// Whether it takes too long.
+    pub(crate) fn is_late(&self, now: Option<Instant>) -> bool {
+        seconds_between(self.since, now) >= PATIENCE
+    }
+
+    /// When a byte came last.
+    pub(crate) fn heard(&self) -> Option<Instant> {
+        self.heard
+    }
+
+    /// It gives way to another.
+    pub(crate) fn give_way(&mut self) {
+        self.refuse(UNAVAILABLE);
+    }
+
+    fn refuse(&mut self, reply: &[u8]) {
+        let mut socket = &self.socket;
+        let _ = socket.write(reply);
+        self.is_over = true;
+    }
+
+    /// Reads once, and tells whether the handshake is whole by then: how many bytes it has.
+    pub(crate) fn go_on(&mut self, now: Option<Instant>) -> Result<Option<usize>, AllocError> {
+        if self.is_over || !self.reads || !self.read(now)? {
             return Ok(None);
-        };
-        if self.is_late(clock) {
-            return Ok(None);
         }
-        match read_in(&waiting.socket, waiting.handshake.get_mut(), piece) {
-            Ok(true) => self.take_step(waiting),
-            Ok(false) => {
-                self.waiting = Some(waiting);
+        match answer_to(self.alloc, &self.head)? {
+            Answer::Wait => Ok(None),
+            Answer::Welcome(reply, count) => {
+                let mut socket = &self.socket;
+                if socket.write(&reply).is_ok_and(|sent| sent == reply.len()) {
+                    return Ok(Some(count));
+                }
+                self.is_over = true;
                 Ok(None)
             }
-            Err(Stop::Fault(Failed)) => Ok(None),
-            Err(Stop::Memory) => {
-                self.waiting = Some(waiting);
-                Err(AllocError)
+            Answer::Refuse(reply) => {
+                self.refuse(reply);
+                Ok(None)
             }
-        }
-    }
-
-    fn is_late(&self, clock: &impl Clock) -> bool {
-        match self.since {
-            Some(since) => since
-                .elapsed(clock)
-                .is_ok_and(|time| time.as_secs() >= PATIENCE),
-            None => false,
         }
     }
 
-    /// Takes the handshake on by what was read.
-    fn take_step(&mut self, waiting: Waiting) -> Result<Option<Greeted>, AllocError> {
-        let Waiting { socket, handshake } = waiting;
-        match handshake.handshake() {
-            Ok(protocol) => Ok(Some(Greeted { socket, protocol })),
-            Err(HandshakeError::Interrupted(handshake)) => {
-                self.waiting = Some(Waiting { socket, handshake });
-                Ok(None)
+    /// Reads once, and tells whether anything came.
+    fn read(&mut self, now: Option<Instant>) -> Result<bool, AllocError> {
+        let mut piece = [0; PIECE];
+        self.head.reserve(PIECE)?;
+        let mut socket = &self.socket;
+        match socket.read(&mut piece) {
+            Ok(0) => self.is_over = true,
+            Ok(count) => {
+                self.head.extend_from_slice(&piece[..count])?;
+                self.heard = now;
+                return Ok(true);
             }
-            Err(HandshakeError::Failure(Error::Refused(_))) => {
-                let mut socket = &socket;
-                let _ = socket.write(FORBIDDEN);
-                Ok(None)
+            Err(error) if may_go_on(error.kind()) => {
+                self.reads = error.kind() == ErrorKind::Interrupted;
             }
-            Err(HandshakeError::Failure(error)) => match stop_of(&error) {
-                Stop::Memory => Err(AllocError),
-                Stop::Fault(Failed) => Ok(None),
-            },
+            Err(_) => self.is_over = true,
+        }
+        Ok(false)
+    }
+
+    /// The connection, behind a handshake of so many bytes.
+    pub(crate) fn greeted(self, count: usize) -> Greeted {
+        let Greeting {
+            alloc: _,
+            token,
+            socket,
+            head,
+            since: _,
+            heard: _,
+            reads: _,
+            ends,
+            is_over: _,
+        } = self;
+        let mut rest = head;
+        rest.drain(..count.min(rest.len()));
+        Greeted {
+            token,
+            socket,
+            rest,
+            ends,
         }
     }
 }

@@ -1,12 +1,19 @@
-//! The links of a room over WebSockets on the loopback: one loop serves all connections, and no call waits for anybody.
+//! The links of a room over WebSockets on the loopback: one loop serves all connections that are
+//! ready, and no call waits for anybody.
 #![tactic(auto)]
 
 mod buffer;
+mod door;
+mod frames;
 mod greeting;
+mod handshake;
 mod link;
-mod origin;
+mod members;
+mod outbox;
+mod quiet;
 mod server;
-mod stream;
+mod signal;
+mod waiting;
 mod ws_links;
 
 pub use ws_links::WsLinks;

@@ -1,12 +1,24 @@
 //! One link, whose handshake is whole.
 
 use crate::buffer::Buffer;
-use crate::stream::MemoryStream;
-use board_io::{Bytes, Failed, Stop};
+use crate::frames::config;
+use crate::greeting::Greeted;
+use crate::outbox::Outbox;
+use crate::quiet::seconds_between;
+use crate::signal::{Signal, may_go_on};
+use board_base::{Bytes, Stop};
+use board_ends::Failed;
 use mio::net::TcpStream;
 use std::alloc::{AllocError, Global};
-use std::io::{ErrorKind, Read, Write};
-use tungstenite::{Error, Message, NoMask, Role, WebSocket, WebSocketConfig};
+use std::io::{ErrorKind, Read};
+use std::net::Shutdown;
+use std::rc::Rc;
+use std::time::Instant;
+use websocket::error::Error;
+use websocket::protocol::{
+    CloseCode, CloseFrame, FrameStatus, Message, NoMask, Payload, Received, Role, Step,
+    WebSocketContext,
+};
 
 /// How many bytes are read from a link at once.
 pub(crate) const PIECE: usize = 65_536;
@@ -15,198 +27,328 @@ pub(crate) const PIECE: usize = 65_536;
 const FRAMES: usize = 64;
 
 /// How many unsent bytes of one link are kept before it counts as gone.
-pub(crate) const KEPT: usize = 128 << 20;
+const KEPT: usize = 128 << 20;
 
-/// A link: its socket, and the protocol over what came and what is to leave.
+/// After how many seconds without a byte a link is pinged.
+const SILENCE: u64 = 20;
+
+/// How many seconds a ping has to be answered.
+const ANSWER: u64 = 15;
+
+/// How many pings in a row may stay without an answer.
+const PINGS: u64 = 2;
+
+/// How many seconds a link that was broken off is listened to, so that its peer gets the reason.
+const FAREWELL: u64 = 5;
+
+/// A link: its socket, the protocol, what came and what is to leave.
 #[derive(Drop)]
 pub(crate) struct Link {
     alloc: Global,
     pub(crate) number: u64,
+    pub(crate) token: usize,
     socket: TcpStream,
-    protocol: WebSocket<MemoryStream, NoMask>,
-    // A message that was read, until its copy is made.
-    message: Option<Message>,
-}
-
-/// What frames and messages may be.
-pub(crate) fn config() -> WebSocketConfig {
-    WebSocketConfig::default()
-        .max_frame_size(Some(64 << 20))
-        .max_message_size(Some(64 << 20))
-        .read_buffer_size(4096)
+    protocol: WebSocketContext,
+    input: Buffer,
+    // How many bytes of fragments the protocol keeps.
+    fragments: usize,
+    // A text that was read, until its copy is made.
+    text: Option<Step>,
+    // Whether the input may hold another whole frame.
+    has_more: bool,
+    outbox: Outbox,
+    // When a byte came last, or it began.
+    heard: Option<Instant>,
+    // How many pings were sent since.
+    pings: u64,
+    reads: bool,
+    // The peer sends no more.
+    ends: bool,
+    is_ended: bool,
+    // It was broken off for a breach, and its peer may not know.
+    lingers: bool,
 }
 
 impl Link {
     pub(crate) fn new(
         alloc: Global,
         number: u64,
-        socket: TcpStream,
-        protocol: WebSocket<MemoryStream, NoMask>,
-    ) -> Link {
-        Link {
+        greeted: Greeted,
+        now: Option<Instant>,
+    ) -> Result<Link, AllocError> {
+        let Greeted {
+            token,
+            socket,
+            rest,
+            ends,
+        } = greeted;
+        let mut input = Buffer::new(alloc);
+        input.extend(&rest)?;
+        Ok(Link {
             alloc,
             number,
+            token,
             socket,
-            protocol,
-            message: None,
+            protocol: WebSocketContext::new(alloc, Role::Server, config()),
+            input,
+            fragments: 0,
+            text: None,
+            has_more: true,
+            outbox: Outbox::new(alloc),
+            heard: now,
+            pings: 0,
+            reads: true,
+            ends,
+            is_ended: false,
+            lingers: false,
+        })
+    }
+
+    /// The system told what the socket is ready for.
+    pub(crate) fn wake(&mut self, signal: Signal) {
+        self.reads = self.reads || signal.reads;
+        self.ends = self.ends || signal.ends;
+        if signal.writes {
+            self.outbox.wake();
         }
     }
 
-    /// How many bytes are kept that the socket did not take.
-    pub(crate) fn kept(&self) -> usize {
-        self.protocol.get_ref().output.len()
+    /// Whether a turn may bring something.
+    pub(crate) fn wants_turn(&self) -> bool {
+        self.is_ended || self.has_more || self.may_read() || self.outbox.wants_turn()
     }
 
-    /// Writes what is kept, and gives the next text or binary message, if one is whole. `Fault` where the link ended.
-    pub(crate) fn take_turn(&mut self, piece: &mut [u8]) -> Result<Option<Bytes>, Stop<Failed>> {
-        self.flush()?;
-        self.receive(piece)
-    }
-
-    /// Writes of what is kept as much as the socket takes.
-    fn flush(&mut self) -> Result<(), Stop<Failed>> {
-        write_out(&self.socket, self.protocol.get_mut())
-    }
-
-    /// The next text or binary message. Reads from the socket at most once.
-    fn receive(&mut self, piece: &mut [u8]) -> Result<Option<Bytes>, Stop<Failed>> {
-        if !self.has_message()? && self.may_read() {
-            if !read_in(&self.socket, self.protocol.get_mut(), piece)? {
-                return Ok(None);
-            }
-            self.has_message()?;
-        }
-        let text = match &self.message {
-            Some(Message::Text(text)) => Bytes::from_slice(self.alloc, text.as_bytes())?,
-            Some(Message::Binary(bytes)) => Bytes::from_slice(self.alloc, bytes.as_slice())?,
-            _ => return Ok(None),
-        };
-        self.message = None;
-        Ok(Some(text))
+    /// Whether more may have come.
+    pub(crate) fn reads(&self) -> bool {
+        self.reads
     }
 
     /// Whether all that came was looked at, and the peer takes what it is sent.
     fn may_read(&self) -> bool {
-        self.protocol.get_ref().input.len() == 0 && self.kept() <= KEPT
+        self.reads && !self.has_more && !self.is_full()
     }
 
-    /// Whether a text or a binary message waits, after some of the frames that came. Pings are answered by the protocol.
-    fn has_message(&mut self) -> Result<bool, Stop<Failed>> {
-        for _ in 0..FRAMES {
-            if self.message.is_some() {
-                return Ok(true);
-            }
-            match self.protocol.read() {
-                Ok(message) if message.is_close() => return self.say_goodbye(),
-                Ok(message) if message.is_text() || message.is_binary() => {
-                    self.message = Some(message);
-                }
-                Ok(_) => {}
-                Err(error) if is_passing(&error) => return Ok(false),
-                Err(error) => return Err(stop_of(&error)),
-            }
-        }
-        Ok(self.message.is_some())
+    /// How many bytes of memory it holds, what came and what is to leave.
+    pub(crate) fn held(&self) -> usize {
+        self.input
+            .held()
+            .saturating_add(self.fragments)
+            .saturating_add(self.fragments)
+            .saturating_add(self.outbox.held())
     }
 
-    /// Answers a close, as far as the socket takes it at once, and ends.
-    fn say_goodbye(&mut self) -> Result<bool, Stop<Failed>> {
-        self.protocol.flush().map_err(|error| stop_of(&error))?;
-        self.flush()?;
-        Err(Stop::Fault(Failed))
+    /// Whether it keeps too much that its peer doesn't take.
+    pub(crate) fn is_full(&self) -> bool {
+        self.outbox.held() > KEPT
     }
 
-    /// Keeps a text frame of these bytes, or a binary one where they aren't UTF-8, and writes as much as the socket takes.
-    /// For want of memory nothing is kept of it. `Fault` where the link ended.
-    pub(crate) fn send(&mut self, text: &Bytes) -> Result<(), Stop<Failed>> {
-        if !self.protocol.can_write() {
+    /// It ends at its next turn, and holds nothing any more.
+    pub(crate) fn end(&mut self) {
+        self.is_ended = true;
+        self.input = Buffer::new(self.alloc);
+        self.text = None;
+        self.protocol = WebSocketContext::new(self.alloc, Role::Server, config());
+        self.fragments = 0;
+        self.outbox = Outbox::new(self.alloc);
+    }
+
+    /// Writes what is kept, and gives the next text or binary message, if one is whole. `Fault` where the link ended.
+    pub(crate) fn take_turn(
+        &mut self,
+        now: Option<Instant>,
+        piece: &mut [u8],
+    ) -> Result<Option<Bytes>, Stop<Failed>> {
+        if self.is_ended {
             return Err(Stop::Fault(Failed));
         }
-        let frame = frame_of(self.alloc, text.as_slice())?;
-        self.protocol.get_mut().output.extend(frame.as_slice())?;
-        self.flush()
-    }
-}
-
-/// The frame of a message with these bytes. It is made aside, so that a link's own buffers stay small.
-fn frame_of(alloc: Global, bytes: &[u8]) -> Result<Buffer, Stop<Failed>> {
-    let message = match str::from_utf8(bytes) {
-        Ok(text) => Message::text(alloc, text)?,
-        Err(_) => Message::binary(alloc, bytes)?,
-    };
-    let mut aside = WebSocket::from_raw_socket(
-        alloc,
-        MemoryStream::new(alloc),
-        NoMask,
-        Role::Server,
-        Some(config()),
-    );
-    aside.send(message).map_err(|error| stop_of(&error))?;
-    Ok(aside.into_inner().output)
-}
-
-/// Writes of the output as much as the socket takes at once.
-fn write_out(socket: &TcpStream, stream: &mut MemoryStream) -> Result<(), Stop<Failed>> {
-    if stream.output.len() == 0 {
-        return Ok(());
-    }
-    let mut socket = socket;
-    match socket.write(stream.output.as_slice()) {
-        Ok(0) => Err(Stop::Fault(Failed)),
-        Ok(count) => {
-            stream.output.leave(count);
-            Ok(())
+        self.outbox.flush(&self.socket)?;
+        if let Some(text) = self.next_text()? {
+            return Ok(Some(text));
         }
-        Err(error) if may_go_on(error.kind()) => Ok(()),
-        Err(_) => Err(Stop::Fault(Failed)),
-    }
-}
-
-/// Reads once into the input, and tells whether anything came. Room is made before the bytes are taken from the socket, so
-/// that none is lost for want of memory.
-pub(crate) fn read_in(
-    socket: &TcpStream,
-    stream: &mut MemoryStream,
-    piece: &mut [u8],
-) -> Result<bool, Stop<Failed>> {
-    let mut first = [0];
-    match socket.peek(&mut first) {
-        Ok(0) => return Err(Stop::Fault(Failed)),
-        Ok(_) => {}
-        Err(error) if may_go_on(error.kind()) => return Ok(false),
-        Err(_) => return Err(Stop::Fault(Failed)),
-    }
-    stream.input.reserve(piece.len())?;
-    let mut socket = socket;
-    match socket.read(piece) {
-        Ok(0) => Err(Stop::Fault(Failed)),
-        Ok(count) => {
-            stream.input.extend(&piece[..count])?;
-            Ok(true)
+        if self.may_read() && self.read(now, piece)? {
+            return self.next_text();
         }
-        Err(error) if may_go_on(error.kind()) => Ok(false),
-        Err(_) => Err(Stop::Fault(Failed)),
+        Ok(None)
+    }
+
+    /// Reads once into the input, and tells whether anything came. Room is made before the bytes are taken from the socket,
+    /// so that none is lost for want of memory.
+    fn read(&mut self, now: Option<Instant>, piece: &mut [u8]) -> Result<bool, Stop<Failed>> {
+        self.input.reserve(piece.len())?;
+        let mut socket = &self.socket;
+        match socket.read(piece) {
+            Ok(0) => Err(Stop::Fault(Failed)),
+            Ok(count) => {
+                self.input.extend(&piece[..count])?;
+                self.reads = self.ends || count == piece.len();
+                self.heard = now;
+                self.pings = 0;
+                self.has_more = true;
+                Ok(true)
+            }
+            Err(error) if may_go_on(error.kind()) => {
+                self.reads = error.kind() == ErrorKind::Interrupted;
+                self.input.leave(0);
+                Ok(false)
+            }
+            Err(_) => Err(Stop::Fault(Failed)),
+        }
+    }
+
+    /// The next text among some of the frames that came.
+    fn next_text(&mut self) -> Result<Option<Bytes>, Stop<Failed>> {
+        for _ in 0..FRAMES {
+            if let Some(text) = self.take_text()? {
+                return Ok(Some(text));
+            }
+            if !self.has_more {
+                return Ok(None);
+            }
+            self.take_frame()?;
+        }
+        Ok(None)
+    }
+
+    /// The text that was read, copied. For want of memory it stays.
+    fn take_text(&mut self) -> Result<Option<Bytes>, AllocError> {
+        let Some(step) = &self.text else {
+            return Ok(None);
+        };
+        let text = Bytes::from_slice(self.alloc, text_of(step, self.input.as_slice()))?;
+        self.input.leave(step.consumed);
+        self.fragments = 0;
+        self.text = None;
+        Ok(Some(text))
+    }
+
+    /// Takes the next frame from the input. `Fault` where it ends the link.
+    fn take_frame(&mut self) -> Result<(), Stop<Failed>> {
+        let mut reply = Vec::new(self.alloc);
+        match self.input.read_frame(&mut self.protocol, &mut reply) {
+            Ok(FrameStatus::Partial(_)) => {
+                self.has_more = false;
+                Ok(())
+            }
+            Ok(FrameStatus::Complete(step)) => {
+                self.outbox.reply(&reply)?;
+                self.keep(step)
+            }
+            Err(error) => Err(self.break_off(error)),
+        }
+    }
+
+    /// Keeps a text, and is done with any other frame. A close was answered, and ends the link.
+    fn keep(&mut self, step: Step) -> Result<(), Stop<Failed>> {
+        match &step.message {
+            Some(Received::Text(_) | Received::Binary(_)) => {
+                self.text = Some(step);
+                return Ok(());
+            }
+            Some(Received::Close(_)) => {
+                let _ = self.outbox.flush(&self.socket);
+                return Err(Stop::Fault(Failed));
+            }
+            Some(Received::Ping(_) | Received::Pong(_)) => {}
+            None => self.fragments = self.fragments.saturating_add(step.consumed),
+        }
+        self.input.leave(step.consumed);
+        Ok(())
+    }
+
+    /// Tells the peer of its breach, and ends. Want of memory is that.
+    fn break_off(&mut self, error: Error) -> Stop<Failed> {
+        let code = match error {
+            Error::Protocol(_) => CloseCode::Protocol,
+            Error::Utf8 => CloseCode::Invalid,
+            Error::Capacity(_) => CloseCode::Size,
+            Error::OutOfMemory => return Stop::Memory,
+            Error::ConnectionClosed | Error::AlreadyClosed => return Stop::Fault(Failed),
+        };
+        self.say_goodbye(code);
+        self.end();
+        let _ = self.socket.shutdown(Shutdown::Write);
+        self.lingers = true;
+        Stop::Fault(Failed)
+    }
+
+    /// Sends a close, as far as the socket takes it at once.
+    pub(crate) fn say_goodbye(&mut self, code: CloseCode) {
+        if self.is_ended {
+            return;
+        }
+        let mut close = Vec::new(self.alloc);
+        let frame = CloseFrame { code, reason: "" };
+        let _ = self.protocol.close(Some(frame), &mut close, &mut NoMask);
+        let _ = self.outbox.reply(&close);
+        let _ = self.outbox.flush(&self.socket);
+    }
+
+    /// Whether its peer may not have got the reason why it was broken off.
+    pub(crate) fn lingers(&self) -> bool {
+        self.lingers
+    }
+
+    /// What a link that was broken off still gets is thrown away.
+    pub(crate) fn drain(&mut self, now: Option<Instant>, piece: &mut [u8]) {
+        let mut socket = &self.socket;
+        match socket.read(piece) {
+            Ok(0) => self.lingers = false,
+            Ok(_) => {}
+            Err(error) if may_go_on(error.kind()) => self.reads = false,
+            Err(_) => self.lingers = false,
+        }
+        if seconds_between(self.heard, now) >= FAREWELL {
+            self.lingers = false;
+        }
+    }
+
+    /// Pings a silent peer, and ends where it doesn't answer.
+    pub(crate) fn tend(&mut self, now: Option<Instant>) {
+        let patience = self.pings.saturating_mul(ANSWER).saturating_add(SILENCE);
+        if seconds_between(self.heard, now) < patience {
+            return;
+        }
+        if self.pings >= PINGS {
+            self.end();
+        } else if self.ping().is_ok() {
+            self.pings = self.pings.saturating_add(1);
+        }
+    }
+
+    fn ping(&mut self) -> Result<(), AllocError> {
+        let mut ping = Vec::new(self.alloc);
+        match self
+            .protocol
+            .write(Message::Ping(&[]), &mut ping, &mut NoMask)
+        {
+            Ok(()) => self.outbox.reply(&ping),
+            Err(_) => Err(AllocError),
+        }
+    }
+
+    /// Keeps the frame, and writes as much as the socket takes. For want of memory nothing is kept of it. `Fault` where the
+    /// link ended.
+    pub(crate) fn send(&mut self, frame: Rc<Vec<u8>>) -> Result<(), Stop<Failed>> {
+        if self.is_ended || self.is_full() || !self.protocol.can_write() {
+            return Err(Stop::Fault(Failed));
+        }
+        self.outbox.add(frame)?;
+        self.outbox.flush(&self.socket)
     }
 }
 
-/// Whether the protocol waits for bytes to come or to leave.
-fn is_passing(error: &Error) -> bool {
-    match error {
-        Error::Io(error) => may_go_on(error.kind()),
-        _ => false,
+/// The bytes of a text that was read from this input.
+fn text_of<'a>(step: &'a Step, input: &'a [u8]) -> &'a [u8] {
+    match &step.message {
+        Some(Received::Text(payload) | Received::Binary(payload)) => bytes_of(payload, input),
+        _ => &[],
     }
 }
 
-/// Whether a later call of a socket may go on.
-fn may_go_on(kind: ErrorKind) -> bool {
-    matches!(kind, ErrorKind::WouldBlock | ErrorKind::Interrupted)
-}
-
-/// Want of memory is that; any other error ends the link.
-pub(crate) fn stop_of(error: &Error) -> Stop<Failed> {
-    match error {
-        Error::OutOfMemory => Stop::Memory,
-        Error::Io(error) if error.kind() == ErrorKind::OutOfMemory => Stop::Memory,
-        _ => Stop::Fault(Failed),
+/// The bytes of a message.
+fn bytes_of<'a>(payload: &'a Payload, input: &'a [u8]) -> &'a [u8] {
+    match payload {
+        Payload::Input(span) => input.get(span.start..span.end).unwrap_or(&[]),
+        Payload::Assembled(bytes) => bytes.as_slice(),
     }
 }

@@ -1,45 +1,41 @@
-//! The sockets of a room: its listener, the handshakes that wait, and the links.
+//! The sockets of a room: where connections come in, the handshakes that wait, and the links.
 
-use crate::greeting::{Greeted, Greeting};
-use crate::link::{KEPT, Link, PIECE};
-use board_io::{Bytes, Failed, LinkEvent, Stop};
-use mio::net::TcpListener;
+use crate::door::Door;
+use crate::members::Members;
+use crate::quiet::{Quiet, seconds_between};
+use crate::signal::Signal;
+use crate::waiting::Waiting;
+use board_base::{Bytes, Stop};
+use board_ends::{Failed, LinkEvent};
 use std::alloc::{AllocError, Global};
-use std::io::{self, ErrorKind};
-use std::net::{Ipv4Addr, Net, SocketAddr};
-use std::thread;
-use std::time::{Clock, Duration};
+use std::net::Net;
+use std::time::{Clock, Duration, Instant};
 
-/// How many handshakes may wait.
-const WAITING: usize = 64;
+/// How many milliseconds are waited at most where nothing is ready.
+const WAIT: u64 = 100;
 
-/// How many unsent bytes of all links are kept before a link that keeps any counts as gone.
-const ALL_KEPT: usize = 1 << 30;
+/// How many times in one call what is ready is looked through.
+const ROUNDS: usize = 64;
 
-/// How many times in a row nothing happens before each further one takes its time.
-const AT_ONCE: u32 = 10_000;
-
-/// How many milliseconds it takes then.
-const REST: u64 = 1;
-
-/// No file descriptor is free, in the process and in the system.
-const NO_DESCRIPTOR: [i32; 2] = [24, 23];
+/// How many seconds pass between two looks at who is silent.
+const LOOK: u64 = 1;
 
 /// The sockets of a room.
-#[derive(Drop)]
 pub(crate) struct Server<R> {
     handle: R,
     alloc: Global,
-    listener: Option<TcpListener>,
-    // Where bytes are read into.
-    piece: Vec<u8>,
-    greetings: Vec<Greeting>,
-    // In the order of their numbers.
-    links: Vec<Link>,
-    opened: u64,
-    // The index of the link that is looked at first.
-    turn: usize,
-    idles: u32,
+    // None until it listens.
+    door: Option<Door>,
+    waiting: Waiting,
+    members: Members,
+    // The last token that was given.
+    token: usize,
+    // Whether the last event was of a link.
+    was_link: bool,
+    quiet: Quiet,
+    now: Option<Instant>,
+    // When it was looked last at who is silent.
+    looked: Option<Instant>,
 }
 
 impl<R: Net + Clock + Drop> Server<R> {
@@ -47,176 +43,157 @@ impl<R: Net + Clock + Drop> Server<R> {
         Ok(Server {
             handle,
             alloc,
-            listener: None,
-            piece: vec![in alloc; 0; PIECE]?,
-            greetings: Vec::new(alloc),
-            links: Vec::new(alloc),
-            opened: 0,
-            turn: 0,
-            idles: 0,
+            door: None,
+            waiting: Waiting::new(alloc),
+            members: Members::new(alloc)?,
+            token: 0,
+            was_link: false,
+            quiet: Quiet::new(),
+            now: None,
+            looked: None,
         })
     }
 
     /// Listens on this port of the loopback.
     pub(crate) fn listen(&mut self, port: u16) -> Result<(), Stop<Failed>> {
-        let place = SocketAddr::from((Ipv4Addr::LOCALHOST, port));
-        match TcpListener::bind(&self.handle, place) {
-            Ok(listener) => {
-                self.listener = Some(listener);
+        match &mut self.door {
+            Some(door) => door.move_to(&self.handle, port),
+            None => {
+                self.door = Some(Door::new(self.alloc, &self.handle, port)?);
                 Ok(())
             }
-            Err(error) => Err(stop_of(&error)),
         }
     }
 
-    /// The first event: of a newcomer, or of the links, beginning with the one after that served last.
+    /// The next event. Where nothing is ready it waits a while, and is Idle for each millisecond in which nothing came.
     pub(crate) fn next(&mut self) -> Result<LinkEvent, Stop<Failed>> {
-        self.accept()?;
-        let event = match self.greet()? {
-            Some(event) => Some(event),
-            None => self.serve()?,
-        };
-        match event {
-            Some(event) => {
-                self.idles = 0;
-                Ok(event)
-            }
-            None => {
-                self.rest();
-                Ok(LinkEvent::Idle)
-            }
+        if self.quiet.tell() {
+            return Ok(LinkEvent::Idle);
         }
+        self.wait(0)?;
+        for _ in 0..ROUNDS {
+            if let Some(event) = self.look()? {
+                self.quiet = Quiet::new();
+                return Ok(event);
+            }
+            if self.quiet.tell() {
+                return Ok(LinkEvent::Idle);
+            }
+            let pause = if self.wants_turn() { 0 } else { WAIT };
+            self.wait(pause)?;
+        }
+        Ok(LinkEvent::Idle)
     }
 
-    /// Lets one connection in to its handshake. Where too many wait it is closed.
-    fn accept(&mut self) -> Result<(), Stop<Failed>> {
-        let Some(listener) = &self.listener else {
+    /// Waits until a socket is ready, so many milliseconds at most.
+    fn wait(&mut self, pause: u64) -> Result<(), Stop<Failed>> {
+        let Some(door) = &mut self.door else {
             return Ok(());
         };
-        self.greetings.reserve(1)?;
-        match listener.accept() {
-            Ok((socket, _)) => {
-                if self.greetings.len() < WAITING {
-                    let _ = socket.set_nodelay(true);
-                    self.greetings
-                        .push(Greeting::new(self.alloc, &self.handle, socket))?;
-                }
-                Ok(())
-            }
-            Err(error) if is_nobody(&error) => Ok(()),
-            Err(error) => Err(stop_of(&error)),
+        door.wait(Duration::from_millis(pause))?;
+        for event in door.events() {
+            let (token, signal) = (event.token().0, Signal::of(event));
+            self.waiting.wake(token, signal);
+            self.members.wake(token, signal);
         }
+        self.now = Instant::now(&self.handle).ok();
+        self.quiet.measure(self.now);
+        Ok(())
     }
 
-    /// Takes the handshakes on, until one is whole.
-    fn greet(&mut self) -> Result<Option<LinkEvent>, Stop<Failed>> {
-        self.greetings.retain(|greeting| !greeting.is_over());
-        if self.greetings.is_empty() {
-            return Ok(None);
-        }
-        self.links.reserve(1)?;
-        for greeting in &mut self.greetings {
-            if let Some(greeted) = greeting.go_on(&self.handle, &mut self.piece)? {
-                return self.open(greeted);
-            }
-        }
-        Ok(None)
+    /// Whether more is ready.
+    fn wants_turn(&self) -> bool {
+        let has_callers = match &self.door {
+            Some(door) => door.wants_turn(),
+            None => false,
+        };
+        has_callers || self.waiting.want_turn() || self.members.want_turn()
     }
 
-    /// A link is opened.
-    fn open(&mut self, greeted: Greeted) -> Result<Option<LinkEvent>, Stop<Failed>> {
-        let number = self.opened;
-        let Greeted { socket, protocol } = greeted;
-        self.links
-            .push(Link::new(self.alloc, number, socket, protocol))?;
-        self.opened = number.saturating_add(1);
-        Ok(Some(LinkEvent::Opened(number)))
-    }
-
-    /// Writes what is kept for each link, and reads once from each, until one has an event.
-    fn serve(&mut self) -> Result<Option<LinkEvent>, Stop<Failed>> {
-        for _ in 0..self.links.len() {
-            if self.turn >= self.links.len() {
-                self.turn = 0;
-            }
-            let Some(link) = self.links.get_mut(self.turn) else {
-                return Ok(None);
-            };
-            match link.take_turn(&mut self.piece) {
-                Ok(None) => self.turn += 1,
-                Ok(Some(text)) => {
-                    let event = LinkEvent::Text(link.number, text);
-                    self.turn += 1;
-                    return Ok(Some(event));
-                }
-                Err(Stop::Fault(Failed)) => {
-                    let number = link.number;
-                    self.close(number);
-                    return Ok(Some(LinkEvent::Closed(number)));
-                }
-                Err(Stop::Memory) => return Err(Stop::Memory),
-            }
+    /// The first event of what is ready. Newcomers and links come first in turn.
+    fn look(&mut self) -> Result<Option<LinkEvent>, Stop<Failed>> {
+        self.accept()?;
+        self.tend();
+        let first = self.look_at(!self.was_link)?;
+        if first.is_some() {
+            return Ok(first);
         }
-        Ok(None)
+        self.look_at(self.was_link)
     }
 
-    /// Nothing happened: soon at once, and then after a while.
-    fn rest(&mut self) {
-        if self.idles < AT_ONCE {
-            self.idles += 1;
+    /// The first event of newcomers, or of links.
+    fn look_at(&mut self, newcomers: bool) -> Result<Option<LinkEvent>, Stop<Failed>> {
+        let event = if newcomers {
+            self.greet()?
         } else {
-            thread::sleep(&self.handle, Duration::from_millis(REST));
+            self.members.serve(self.now)?
+        };
+        if event.is_some() {
+            self.was_link = !newcomers;
         }
+        Ok(event)
+    }
+
+    /// Lets one connection in to its handshake.
+    fn accept(&mut self) -> Result<(), Stop<Failed>> {
+        let Some(door) = &mut self.door else {
+            return Ok(());
+        };
+        if !door.wants_turn() {
+            return Ok(());
+        }
+        let Some(mut socket) = door.accept()? else {
+            return Ok(());
+        };
+        self.waiting.make_room()?;
+        let _ = socket.set_nodelay(true);
+        self.token = self.token.saturating_add(1);
+        if door.watch(&mut socket, self.token).is_ok() {
+            self.waiting.add(self.token, socket, self.now)?;
+        }
+        Ok(())
+    }
+
+    /// Takes handshakes on, until one is whole.
+    fn greet(&mut self) -> Result<Option<LinkEvent>, Stop<Failed>> {
+        self.members.reserve()?;
+        match self.waiting.greet(self.now)? {
+            Some(greeted) => Ok(Some(self.members.open(greeted, self.now)?)),
+            None => Ok(None),
+        }
+    }
+
+    /// Once a second: who takes too long for a handshake is dropped, and who is silent is pinged.
+    fn tend(&mut self) {
+        if self.looked.is_some() && seconds_between(self.looked, self.now) < LOOK {
+            return;
+        }
+        self.looked = self.now;
+        self.waiting.drop_done(self.now);
+        self.members.tend(self.now);
     }
 
     /// Sends a text over a link. `Fault` where the link is gone, or keeps too much; it is closed then.
     pub(crate) fn send(&mut self, number: u64, text: &Bytes) -> Result<(), Stop<Failed>> {
-        let is_full = self.kept() > ALL_KEPT;
-        let Some(link) = self.links.iter_mut().find(|link| link.number == number) else {
-            return Err(Stop::Fault(Failed));
-        };
-        let keeps = link.kept();
-        let sent = if keeps > KEPT || (keeps > 0 && is_full) {
-            Err(Stop::Fault(Failed))
-        } else {
-            link.send(text)
-        };
-        if let Err(Stop::Fault(Failed)) = sent {
-            self.close(number);
-        }
-        sent
-    }
-
-    /// Closes a link.
-    fn close(&mut self, number: u64) {
-        self.links.retain(|link| link.number != number);
-    }
-
-    /// How many bytes are kept for all links.
-    fn kept(&self) -> usize {
-        let mut kept: usize = 0;
-        for link in &self.links {
-            kept = kept.saturating_add(link.kept());
-        }
-        kept
+        self.members.send(number, text)
     }
 }
 
-/// Whether nobody is there: no connection waits, the one that did is gone, or there is no file descriptor for it.
-fn is_nobody(error: &io::Error) -> bool {
-    matches!(
-        error.kind(),
-        ErrorKind::WouldBlock | ErrorKind::Interrupted | ErrorKind::ConnectionAborted
-    ) || error
-        .raw_os_error()
-        .is_some_and(|code| NO_DESCRIPTOR.contains(&code))
-}
-
-/// Want of memory is that; any other error is a fault of the links.
-fn stop_of(error: &io::Error) -> Stop<Failed> {
-    if error.kind() == ErrorKind::OutOfMemory {
-        Stop::Memory
-    } else {
-        Stop::Fault(Failed)
+impl<R: Drop> Drop for Server<R> {
+    /// All links are told that the room ends.
+    fn drop(self) {
+        let Server {
+            handle: _,
+            alloc: _,
+            door: _,
+            waiting: _,
+            mut members,
+            token: _,
+            was_link: _,
+            quiet: _,
+            now: _,
+            looked: _,
+        } = self;
+        members.say_goodbye();
     }
 }

@@ -3,7 +3,8 @@
 ghost use Rattle.std.specs.Prelude.{◌≡◌, None, IfOk};
 
 use crate::server::Server;
-use board_io::{Bytes, Failed, LinkError, LinkEvent, Links, SendError, Stop};
+use board_base::{Bytes, Stop};
+use board_ends::{Failed, LinkError, LinkEvent, Links, SendError};
 use std::alloc::{AllocError, Global};
 use std::marker::Model;
 use std::net::Net;
@@ -12,12 +13,13 @@ use std::time::Clock;
 /// Links over WebSockets on 127.0.0.1. They tell no content.
 ///
 /// A text or a binary message is a text of its link. Nothing waits for a peer: what a socket doesn't take is kept, and
-/// written first at later calls. The first 10,000 times in a row that nothing happens `next` says so at once; from then on
-/// it sleeps a millisecond before. A link that keeps more than 128 MiB unsent is gone, and so is one that keeps any while
-/// all keep more than 1 GiB.
+/// written first at later calls. Where nothing is ready `next` waits for it, a tenth of a second at most, and is Idle once for
+/// each millisecond in which nothing came. A link that keeps more than 128 MiB unsent is gone; all hold 1 GiB at most, and
+/// where it would be more the one that holds most ends.
 #[derive(Drop)]
 pub struct WsLinks<R> {
     port: Option<u16>,
+    listens: u64,
     faults: u64,
     gone: u64,
     server: Server<R>,
@@ -28,16 +30,17 @@ impl<R> Model for WsLinks<R> {
 
     ghost Value = { LinkCounts };
 
-    ghost view = { λ l. record { port = l.port; faults = l.faults; gone = l.gone } };
+    ghost view = { λ l. record { port = l.port; listens = l.listens; faults = l.faults; gone = l.gone } };
 }
 
 impl<R: Net + Clock + Drop> WsLinks<R> {
     /// Links without a socket. The handle is what opens sockets, and tells and takes time.
     pub fn new(alloc: Global, handle: R) -> Result<WsLinks<R>, AllocError>
-        ensures { IfOk result (λ links. links ≡ record { port = None; faults = 0; gone = 0 }) }
+        ensures { IfOk result (λ links. links ≡ record { port = None; listens = 0; faults = 0; gone = 0 }) }
     {
         Ok(WsLinks {
             port: None,
+            listens: 0,
             faults: 0,
             gone: 0,
             server: Server::new(alloc, handle)?,
@@ -46,21 +49,12 @@ impl<R: Net + Clock + Drop> WsLinks<R> {
 }
 
 impl<R: Net + Clock + Drop> Links for WsLinks<R> {
-    ghost use Rattle.std.specs.Prelude.{None};
+    ghost use Rattle.ws_links.specs.Counts.{untold_links};
 
-    ghost port = { λ l. l.port };
-
-    ghost given = { λ _. None };
-
-    ghost sent = { λ _. None };
-
-    ghost lost = { λ _. None };
-
-    ghost faults = { λ l. l.faults };
-
-    ghost gone = { λ l. l.gone };
+    ghost seen = { untold_links };
 
     fn listen(&mut self, number: u16) -> Result<(), LinkError> {
+        self.listens = self.listens.saturating_add(1);
         match self.server.listen(number) {
             Ok(()) => {
                 self.port = Some(number);

@@ -1,4 +1,4 @@
-use Rattle.frac_keys.proofs.PartLemmas.{bytes_less-lt}
+use Rattle.frac_keys.proofs.CallerLemmas.{bytes_less-lt}
 use Rattle.index_repair.proofs.is_above.Goals as goal
 
 pub returns-in-Some-clause-above : goal.returns-in-Some-clause-above

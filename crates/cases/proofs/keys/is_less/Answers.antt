@@ -1,4 +1,4 @@
-use Rattle.frac_keys.proofs.PartLemmas.{bytes_less-lt}
+use Rattle.frac_keys.proofs.CallerLemmas.{bytes_less-lt}
 use Rattle.cases.proofs.keys.is_less.Goals as goal
 
 pub returns : goal.returns

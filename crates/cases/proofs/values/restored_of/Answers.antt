@@ -1,4 +1,4 @@
-use Rattle.scene_json.proofs.Pairs.{AreMembers-distinct}
+use Rattle.scene_json.proofs.CallerLemmas.{AreMembers-distinct}
 use Rattle.cases.proofs.values.restored_of.Goals as goal
 
 pub restore-requires : goal.restore-requires

@@ -1,5 +1,5 @@
 use Rattle.std.proofs.lemmas.Result.{IfOk-weaker}
-use Rattle.session.proofs.PrintedLaws.{report-is_text}
+use Rattle.session.proofs.CallerLemmas.{report-is_text}
 use Rattle.commands.proofs.answer.replayed_text.Goals as goal
 
 pub returns : goal.returns

@@ -1,5 +1,5 @@
 use Rattle.std.proofs.Common.{◌≡◌, take}
-use Rattle.board_io.specs.Pieces.{line_text}
+use Rattle.board_base.specs.Pieces.{line_text}
 use Rattle.commands.proofs.drilling.text_of.Given as goal
 
 -- the pieces so far are appended

@@ -1,6 +1,6 @@
 use Rattle.std.proofs.Common.{◌≡◌, ◌⊎◌, inl, inr, ℕ, List, Option, Some, Result, Ok, Err, refl, sym, subst, subst₂, ◌∙◌}
-use Rattle.board_io.specs.Counts.{Rose}
-use Rattle.board_io.specs.Ends.{SourceEnd, SinkEnd}
+use Rattle.board_ends.specs.Counts.{Rose}
+use Rattle.board_ends.specs.Ends.{SourceEnd, SinkEnd}
 use Rattle.commands.specs.Answers.{IsAnswer}
 use Rattle.commands.specs.Causes.{HasCause}
 use Rattle.commands.specs.Ends.{span, EndsWith, HasLeft, WasDone}

@@ -1,7 +1,7 @@
 -- A scalar becomes that of after.
 use Rattle.std.proofs.Common.{[], ◌∷◌, sym, subst}
 use Rattle.delta.specs.Applied.{Changes}
-use Rattle.delta.specs.Kept.{IsScalarSet}
+use Rattle.delta.specs.inner.Kept.{IsScalarSet}
 use Rattle.delta.proofs.ChangeLaws.{OnOk-weaker, Changes-scalar}
 use Rattle.delta.proofs.applying.apply_change.Goals as goal
 

@@ -2,7 +2,7 @@
 use Rattle.std.proofs.Common.{◌≡◌, ap, ◌∙◌, subst, None}
 use Rattle.elem.specs.ElementValue.{ElementValue}
 use Rattle.delta.specs.Headers.{header_named}
-use Rattle.delta.specs.Kept.{IsScalarSet}
+use Rattle.delta.specs.inner.Kept.{IsScalarSet}
 use Rattle.delta.specs.Rest.{with_value}
 use Rattle.delta.proofs.ChangeLaws.{IsScalarSet-member, IsElement-rest}
 use Rattle.delta.proofs.HeaderLaws.{not-header}

@@ -1,7 +1,7 @@
 -- A header member of the kind has the name.
 use Rattle.std.proofs.Common.{◌≡◌, Some, sym, ap, ◌∙◌, subst}
 use Rattle.delta.specs.Headers.{header_named}
-use Rattle.delta.specs.Kept.{IsHeaderSet, IsScalarSet}
+use Rattle.delta.specs.inner.Kept.{IsHeaderSet, IsScalarSet}
 use Rattle.delta.proofs.ChangeLaws.{OnOk-weaker}
 use Rattle.delta.proofs.HeaderLaws.{IsScalarSet-header}
 use Rattle.delta.proofs.applying.set_scalar.Goals as goal

@@ -6,9 +6,9 @@ use Rattle.json_text.specs.Compact.{object_text}
 use Rattle.json_text.specs.Members.{pairs}
 use Rattle.json_text.specs.Value.{IsCompact}
 use Rattle.json_text.specs.declared.text.Member.{Member}
-use Rattle.json_text.proofs.CompactLaws.{Value-deeper}
+use Rattle.json_text.proofs.CallerLemmas.{Value-deeper}
 use Rattle.elem.specs.Facts.{IsBinding}
-use Rattle.elem.proofs.Sorting.{AllByRecursion-weaker}
+use Rattle.elem.proofs.CallerLemmas.{AllByRecursion-weaker}
 use Rattle.delta.specs.Rest.{with_value}
 use Rattle.delta.proofs.RestLaws.{risen, IsDistinct-rising, rising-with_value, each-with_value, sorted-with_value}
 use Rattle.delta.proofs.binding.binding_raw.Goals as goal

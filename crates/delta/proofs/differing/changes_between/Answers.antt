@@ -1,7 +1,7 @@
 -- All names of both elements are told of.
 use Rattle.std.proofs.Common.{◌++◌, ap, subst}
 use Rattle.elem.specs.Facts.{names}
-use Rattle.delta.specs.Told.{AreChangesOf}
+use Rattle.delta.specs.inner.Told.{AreChangesOf}
 use Rattle.delta.proofs.ToldLaws.{AreChangesOf-none, AreAllChanges-from, first_names, rest-free}
 use Rattle.delta.proofs.differing.changes_between.Goals as goal
 

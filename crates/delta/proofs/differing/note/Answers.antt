@@ -3,7 +3,7 @@ use Rattle.std.proofs.Common.{◌≡◌, ◌++◌, [], ◌∷◌, sym, ap, ◌�
 use Rattle.delta.specs.Facts.{IsScalar}
 use Rattle.delta.specs.Headers.{header_named, scalar_of}
 use Rattle.delta.specs.Parts.{scalar_change}
-use Rattle.delta.specs.Told.{AreChangesOf, change_between, with_change}
+use Rattle.delta.specs.inner.Told.{AreChangesOf, change_between, with_change}
 use Rattle.delta.proofs.ChangeLaws.{OnOk-weaker}
 use Rattle.delta.proofs.ToldLaws.{AreChangesOf-more, IsOf, IsOf-scalar, scalar-between}
 use Rattle.delta.proofs.differing.note.Goals as goal

@@ -1,7 +1,7 @@
 -- The change is that of the member's name.
 use Rattle.std.proofs.Common.{◌≡◌, [], codes, sym, ap, ◌∙◌, subst}
 use Rattle.delta.specs.Parts.{groups_change}
-use Rattle.delta.specs.Told.{with_change}
+use Rattle.delta.specs.inner.Told.{with_change}
 use Rattle.delta.proofs.ChangeLaws.{OnOk-weaker}
 use Rattle.delta.proofs.ToldLaws.{AreChangesOf-more, IsOf, IsOf-groups}
 use Rattle.delta.proofs.differing.note_groups.Goals as goal

@@ -3,7 +3,7 @@ use Rattle.std.proofs.Common.{◌≤◌, ◌++◌, ◌∷◌, [], length, take, 
 use Rattle.std.specs.List.{list_any}
 use Rattle.elem.specs.Facts.{names}
 use Rattle.delta.specs.Facts.{other_names}
-use Rattle.delta.specs.Told.{AreChangesOf}
+use Rattle.delta.specs.inner.Told.{AreChangesOf}
 use Rattle.delta.proofs.ToldLaws.{free-at, names-more}
 use Rattle.delta.proofs.differing.note_rest.Goals as goal
 

@@ -1,7 +1,7 @@
 -- The changes tell of the first names.
 use Rattle.std.proofs.Common.{ℕ, List, ◌++◌, take}
 use Rattle.elem.specs.Facts.{names}
-use Rattle.delta.specs.Told.{AreChangesOf}
+use Rattle.delta.specs.inner.Told.{AreChangesOf}
 use Rattle.delta.proofs.differing.note_rest.Given as goal
 
 abbrev pub invariant-loop-member : goal.invariant-loop-member

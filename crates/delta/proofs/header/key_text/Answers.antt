@@ -1,6 +1,6 @@
 -- A key is a text.
 use Rattle.std.proofs.Common.{rules}
-use Rattle.elem.proofs.KeyTexts.{IsUtf8-key}
+use Rattle.elem.proofs.CallerLemmas.{IsUtf8-key}
 use Rattle.delta.proofs.header.key_text.Goals as goal
 
 pub unwrap-requires : goal.unwrap-requires

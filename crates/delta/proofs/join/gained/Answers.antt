@@ -1,6 +1,6 @@
 -- Each item that is gained and isn't there yet comes behind those before it.
 use Rattle.std.proofs.Common.{◌≤◌, filter, length, take_all, ap, ◌∙◌, arith}
-use Rattle.first_texts.specs.FirstOccurrences.{first_occurrences}
+use Rattle.json_text.specs.FirstOccurrences.{first_occurrences}
 use Rattle.delta.specs.Joined.{is_gained}
 use Rattle.delta.proofs.JoinLaws.{gained-more}
 use Rattle.delta.proofs.join.gained.Goals as goal

@@ -1,6 +1,6 @@
 -- The items gained so far are those of the first ones, each once.
 use Rattle.std.proofs.Common.{◌≡◌, filter, take}
-use Rattle.first_texts.specs.FirstOccurrences.{first_occurrences}
+use Rattle.json_text.specs.FirstOccurrences.{first_occurrences}
 use Rattle.delta.specs.Joined.{is_gained}
 use Rattle.delta.proofs.join.gained.Given as goal
 

@@ -1,5 +1,5 @@
 -- Each command has its own effect.
-use Rattle.effects.specs.declared.command.Command.TheVariants as commands
+use Rattle.board_commands.specs.declared.command.Command.TheVariants as commands
 use Rattle.effects.proofs.PreparingLaws.{for-stored, for-view, for-all}
 use Rattle.effects.proofs.preparing.prepared.Goals as goal
 

@@ -1,6 +1,6 @@
 -- None of the ids so far is missing, and then the next one is or isn't.
 use Rattle.std.proofs.Common.{◌≡◌, ◌<◌, not, ap, ◌∙◌, length, get_or, Some, arith, rules}
-use Rattle.effects.specs.declared.command.Refusal.TheVariants.{NoElement}
+use Rattle.effects.specs.declared.refusal.Refusal.TheVariants.{NoElement}
 use Rattle.effects.specs.Changed.{OnFault}
 use Rattle.effects.specs.Refusals.{first_missing, is_live_id}
 use Rattle.effects.proofs.FirstLaws.{OnFault-weaker, first-more, first-found}

@@ -1,10 +1,10 @@
 -- The first of the ids that is missing, or else the last one.
 use Rattle.std.proofs.Common.{◌≡◌, ℕ, List, not, ap, ◌∙◌, Some, None, [], ◌∷◌, ◌++◌, rules}
 use Rattle.std.specs.Option.{option_or}
-use Rattle.board_io.specs.declared.stop.Stop.{Stop}
+use Rattle.board_base.specs.declared.stop.Stop.{Stop}
 use Rattle.elem.specs.ElementValue.{ElementValue}
-use Rattle.effects.specs.declared.command.Refusal.{Refusal}
-use Rattle.effects.specs.declared.command.Refusal.TheVariants.{NoElement}
+use Rattle.effects.specs.declared.refusal.Refusal.{Refusal}
+use Rattle.effects.specs.declared.refusal.Refusal.TheVariants.{NoElement}
 use Rattle.effects.specs.Changed.{OnFault}
 use Rattle.effects.specs.Refusals.{first_missing, is_live_id}
 use Rattle.effects.proofs.FirstLaws.{OnFault-weaker, first-append}

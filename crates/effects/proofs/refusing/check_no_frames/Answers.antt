@@ -1,7 +1,7 @@
 -- None of the ids so far is a frame's, and then the next one is or isn't.
 use Rattle.std.proofs.Common.{◌≡◌, ◌<◌, not, ap, ◌∙◌, length, get_or, sym, Some, arith, rules}
 use Rattle.frames_groups.specs.Frames.{is_frame_kind}
-use Rattle.effects.specs.declared.command.Refusal.TheVariants.{WrongKind}
+use Rattle.effects.specs.declared.refusal.Refusal.TheVariants.{WrongKind}
 use Rattle.effects.specs.Changed.{OnFault}
 use Rattle.effects.specs.Refusals.{first_frame, is_kind_of, unless_right}
 use Rattle.effects.proofs.FirstLaws.{OnFault-weaker, first-more, first-found, first-one}

@@ -2,7 +2,7 @@
 use Rattle.std.proofs.Common.{◌≡◌, Some, sym, ap, ◌∙◌, arith}
 use Rattle.elem.specs.ElementValue.{ElementValue}
 use Rattle.delta.specs.Rest.{with_value}
-use Rattle.delta.proofs.ChangeLaws.{IsElement-rest}
+use Rattle.delta.proofs.CallerLemmas.{IsElement-rest}
 use Rattle.effects.proofs.SettingLaws.{nests-more, free-header}
 use Rattle.effects.proofs.setting.with_member.Goals as goal
 

@@ -2,7 +2,7 @@ use Rattle.std.proofs.Common.{◌≡◌, true, Some, find, ◌∙◌, rules}
 use Rattle.std.specs.Option.{option_map}
 use Rattle.effects.specs.Changed.{OnFault, is_full, refusal_at}
 use Rattle.effects.specs.Prepared.{made_by}
-use Rattle.effects.specs.declared.command.Refusal.{Refusal}
+use Rattle.effects.specs.declared.refusal.Refusal.{Refusal}
 use Rattle.effects.proofs.FirstLaws.{OnFault-weaker}
 use Rattle.effects.proofs.WalkingLaws.{changes-more, full-more, full-found}
 use Rattle.effects.proofs.walking.changes_of.Goals as goal

@@ -1,7 +1,7 @@
 -- The text stands in bytes of its own.
 use Rattle.std.proofs.Common.{◌≡◌, ap, ◌∙◌, ◌++◌, sym, subst, arith}
 use Rattle.std.proofs.lemmas.Result.{IfOk-weaker}
-use Rattle.json_text.proofs.CompactLaws.{Value-deeper}
+use Rattle.json_text.proofs.CallerLemmas.{Value-deeper}
 use Rattle.json_text.specs.Members.{pairs}
 use Rattle.json_text.specs.Value.{IsCompact}
 use Rattle.elem.specs.Texts.{header_members, element_members, element_text}

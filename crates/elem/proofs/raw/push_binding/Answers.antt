@@ -5,7 +5,7 @@ use Rattle.std.specs.Str.{IsUtf8}
 use Rattle.json_text.specs.Characters.{quote}
 use Rattle.json_text.specs.Compact.{Member as Pair}
 use Rattle.json_text.specs.Members.{pairs}
-use Rattle.json_text.proofs.CompactLaws.{Value-deeper}
+use Rattle.json_text.proofs.CallerLemmas.{Value-deeper}
 use Rattle.json_text.specs.declared.text.Member.{Member}
 use Rattle.elem.specs.Facts.{IsBinding}
 use Rattle.elem.specs.Printing.{IsBegun}

@@ -3,7 +3,7 @@ use Rattle.std.proofs.Common.{◌≡◌, ℕ, ◌+◌, get_or, ◌<◌, List, []
 use Rattle.std.specs.Str.{IsUtf8}
 use Rattle.std.proofs.lemmas.List.Elements.{recursion_from_All}
 use Rattle.json_text.specs.declared.text.Member.{Member}
-use Rattle.json_text.proofs.Appending.{extends_same, extends_by, extends_then, on_err}
+use Rattle.json_text.proofs.CallerLemmas.{extends_same, extends_by, extends_then, on_err}
 use Rattle.elem.specs.declared.header.Header.{Header}
 use Rattle.elem.specs.declared.header.Header.TheVariants.{BoundElements}
 use Rattle.elem.specs.ElementValue.{ElementValue}

@@ -2,8 +2,8 @@ use Rattle.std.proofs.Common.{◌<◌, inl, inr, ◌++◌, sym, ap, ◌∙◌, s
 use Rattle.std.proofs.lemmas.List.Elements.{All-more, All-same}
 use Rattle.std.specs.List.{join_with_byte}
 use Rattle.json_text.specs.Value.{IsCompact}
-use Rattle.json_text.proofs.Appending.{extends_same, extends_by, extends_then, on_err}
-use Rattle.scene_json.proofs.Appended.{mapped-step}
+use Rattle.json_text.proofs.CallerLemmas.{extends_same, extends_by, extends_then, on_err}
+use Rattle.scene_json.proofs.CallerLemmas.{mapped-step}
 use Rattle.elem.specs.Texts.{element_text}
 use Rattle.elem.proofs.raw.push_elements_parts.Goals as goal
 

@@ -1,5 +1,5 @@
 use Rattle.std.proofs.Common.{[], ◌∷◌, ◌++◌, sym, ap, ◌∙◌, append_assoc}
-use Rattle.json_text.proofs.CompactLaws.{quote-compact}
+use Rattle.json_text.proofs.CallerLemmas.{quote-compact}
 use Rattle.elem.proofs.KeyTexts.{IsUtf8-key, quote-key}
 use Rattle.elem.proofs.values.push_key_quote.Goals as goal
 

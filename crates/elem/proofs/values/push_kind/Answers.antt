@@ -1,5 +1,5 @@
 use Rattle.std.proofs.Common.{codes, refl}
-use Rattle.json_text.proofs.CompactLaws.{quote-compact}
+use Rattle.json_text.proofs.CallerLemmas.{quote-compact}
 use Rattle.elem.proofs.values.push_kind.Goals as goal
 
 pub returns-in-Rectangle-clause-nests : goal.returns-in-Rectangle-clause-nests

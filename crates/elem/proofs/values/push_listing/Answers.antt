@@ -2,8 +2,8 @@ use Rattle.std.proofs.Common.{◌<◌, inl, inr, ap, ◌∙◌, subst, length, a
 use Rattle.std.proofs.lemmas.List.Elements.{All-more}
 use Rattle.elem.specs.Texts.{bound_text}
 use Rattle.json_text.specs.Value.{IsCompact}
-use Rattle.json_text.proofs.Appending.{extends_same, extends_by, extends_then, on_err}
-use Rattle.scene_json.proofs.Appended.{mapped-step, array-closed, mapped-compact}
+use Rattle.json_text.proofs.CallerLemmas.{extends_same, extends_by, extends_then, on_err}
+use Rattle.scene_json.proofs.CallerLemmas.{mapped-step, array-closed, mapped-compact}
 use Rattle.elem.proofs.values.push_listing.Goals as goal
 use Rattle.elem.proofs.values.push_listing.Goals.{then-i-gt0+in_ok-push-2, else-i-gt0}
 

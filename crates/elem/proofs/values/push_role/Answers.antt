@@ -1,5 +1,5 @@
 use Rattle.std.proofs.Common.{codes, refl}
-use Rattle.json_text.proofs.CompactLaws.{quote-compact}
+use Rattle.json_text.proofs.CallerLemmas.{quote-compact}
 use Rattle.elem.proofs.values.push_role.Goals as goal
 
 pub returns-in-Arrow-clause-nests : goal.returns-in-Arrow-clause-nests

@@ -1,6 +1,6 @@
 use Rattle.std.proofs.Common.{refl, inl, inr}
 use Rattle.json_text.specs.Tree.{true_word, false_word}
-use Rattle.json_text.proofs.CompactLaws.{literal-compact}
+use Rattle.json_text.proofs.CallerLemmas.{literal-compact}
 use Rattle.elem.proofs.values.push_truth.Goals as goal
 
 pub returns-in-true-clause-nests : goal.returns-in-true-clause-nests

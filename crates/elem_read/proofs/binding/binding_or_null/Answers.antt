@@ -1,6 +1,6 @@
 use Rattle.std.proofs.Common.{◌≡◌, Ok, ap, ◌∙◌}
 use Rattle.std.proofs.lemmas.Result.{IfOk-at_ok}
-use Rattle.scene_json.proofs.Pairs.{AreMembers-distinct}
+use Rattle.scene_json.proofs.CallerLemmas.{AreMembers-distinct}
 use Rattle.elem_read.proofs.binding.binding_or_null.Goals as goal
 
 pub further-requires : goal.further-requires

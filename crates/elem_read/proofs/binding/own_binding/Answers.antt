@@ -3,7 +3,7 @@ use Rattle.json_text.specs.Members.{pairs}
 use Rattle.scene_json.specs.Named.{value_at}
 use Rattle.elem.specs.Forms.{IsBindingOrNull}
 use Rattle.elem.specs.Said.{IsOwn}
-use Rattle.elem_read.specs.Parts.{Reads}
+use Rattle.elem_read.specs.inner.Parts.{Reads}
 use Rattle.elem_read.specs.declared.fault.ElemFault.TheVariants as faults
 use Rattle.elem_read.proofs.binding.own_binding.Goals as goal
 

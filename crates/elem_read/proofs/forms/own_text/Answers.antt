@@ -3,7 +3,7 @@ use Rattle.json_text.specs.Members.{pairs}
 use Rattle.scene_json.specs.Named.{value_at}
 use Rattle.elem.specs.Forms.{IsTextOrNull}
 use Rattle.elem.specs.Said.{IsOwn}
-use Rattle.elem_read.specs.Parts.{Reads}
+use Rattle.elem_read.specs.inner.Parts.{Reads}
 use Rattle.elem_read.proofs.forms.own_text.Goals as goal
 
 pub returns-then-own : goal.returns-then-own

@@ -3,7 +3,7 @@ use Rattle.std.proofs.lemmas.Bool.{both_ways}
 use Rattle.json_text.specs.Characters.{quote}
 use Rattle.json_text.specs.Members.{pairs}
 use Rattle.scene_json.specs.Named.{value_at}
-use Rattle.elem.proofs.Saying.{literal}
+use Rattle.elem.proofs.CallerLemmas.{literal}
 use Rattle.elem_read.proofs.Parts.{no-role}
 use Rattle.elem_read.proofs.listing.role.Goals as goal
 

@@ -1,5 +1,5 @@
 use Rattle.std.proofs.Common.{sym, ◌∙◌}
-use Rattle.scene_json.proofs.Lookups.{value_at-found}
+use Rattle.scene_json.proofs.CallerLemmas.{value_at-found}
 use Rattle.elem_read.proofs.FromPlace.{found-later}
 use Rattle.elem_read.proofs.near.value_near.Goals as goal
 

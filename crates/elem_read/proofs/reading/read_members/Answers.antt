@@ -4,7 +4,7 @@ use Rattle.std.proofs.lemmas.Bool.{both_ways}
 use Rattle.std.proofs.lemmas.Result.{err_from_is_err_and}
 use Rattle.json_text.specs.Characters.{quote}
 use Rattle.json_text.specs.Members.{pairs}
-use Rattle.scene_json.proofs.Pairs.{AreMembers-distinct}
+use Rattle.scene_json.proofs.CallerLemmas.{AreMembers-distinct}
 use Rattle.elem_read.specs.Reading.{IsFaultIn}
 use Rattle.elem_read.specs.declared.fault.ElemFault.TheVariants.{Depth}
 use Rattle.elem_read.proofs.NoSelections.{taken-object, selection, no_selection, given-nest, kind-stays, element-in, fault-in}

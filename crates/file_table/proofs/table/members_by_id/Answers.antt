@@ -5,8 +5,7 @@ use Rattle.std.specs.List.Sorted.{IsSortedBy, IsPermutation}
 use Rattle.std.proofs.lemmas.List.Sorted.{ranks_by, answers_always, IsPermutation-map}
 use Rattle.json_text.specs.Members.{pairs, pair_of}
 use Rattle.json_text.specs.declared.text.Member.{Member}
-use Rattle.scene_json.proofs.Lookups.{distinct_moved, rising_from_sort}
-use Rattle.scene_json.proofs.Pairs.{names-pairs}
+use Rattle.scene_json.proofs.CallerLemmas.{distinct_moved, rising_from_sort, names-pairs}
 use Rattle.file_table.proofs.ById.{moved-by_id}
 use Rattle.file_table.proofs.table.members_by_id.Goals as goal
 

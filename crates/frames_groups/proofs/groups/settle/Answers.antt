@@ -1,7 +1,7 @@
 -- One group or none stands once.
 use Rattle.std.proofs.Common.{◌≡◌, ℕ, ◌≤◌, List, [], ◌∷◌, length, refl, sym, ap, subst, arith}
 use Rattle.elem.specs.ElementValue.{ElementValue}
-use Rattle.first_texts.specs.FirstOccurrences.{first_texts}
+use Rattle.json_text.specs.FirstOccurrences.{first_texts}
 use Rattle.frames_groups.specs.Groups.{with_groups, grouped}
 use Rattle.frames_groups.proofs.groups.settle.Goals as goal
 

@@ -2,7 +2,7 @@
 use Rattle.std.proofs.Common.{◌≡◌, ◌⊎◌, false, ap, ◌∙◌, inl, inr}
 use Rattle.elem.specs.ElementValue.{ElementValue}
 use Rattle.delta.specs.Parts.{inverse}
-use Rattle.delta.proofs.PartLaws.{applied-apart}
+use Rattle.delta.proofs.CallerLemmas.{applied-apart}
 use Rattle.history.proofs.step.is_part_seen.Goals as goal
 
 pub returns-clause-unseen : goal.returns-clause-unseen

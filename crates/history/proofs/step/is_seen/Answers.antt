@@ -5,8 +5,7 @@ use Rattle.std.proofs.lemmas.List.Elements.{Contains-push_cases}
 use Rattle.std.proofs.lemmas.Option.{same_Some}
 use Rattle.elem.specs.Order.{has_id}
 use Rattle.elem_store.specs.Updates.{element_of}
-use Rattle.elem_store.proofs.Ids.{same_id}
-use Rattle.elem_store.proofs.Lists.{find-Some}
+use Rattle.elem_store.proofs.CallerLemmas.{same_id, find-Some}
 use Rattle.delta.specs.Delta.{Delta}
 use Rattle.history.specs.Steps.{IsSeen, IsSeenPart}
 use Rattle.history.proofs.step.is_seen.Goals as goal

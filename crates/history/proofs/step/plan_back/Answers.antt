@@ -2,7 +2,7 @@
 use Rattle.std.proofs.Common.{◌≡◌, ◌+◌, ◌<◌, Some, IfSome, length, slice_get, length-drop, sym, ap, ◌∙◌, subst, arith}
 use Rattle.std.proofs.lemmas.Option.{slice_get-get_or, slice_get_within}
 use Rattle.std.proofs.lemmas.Result.{err_from_is_err_and}
-use Rattle.history.specs.Places.{IsSeenAt}
+use Rattle.history.specs.inner.Places.{IsSeenAt}
 use Rattle.history.specs.Stacks.{StopsAt}
 use Rattle.history.specs.Steps.{IsLeastFull}
 use Rattle.history.proofs.PlanLaws.{planned-at, stops-at}

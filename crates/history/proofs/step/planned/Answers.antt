@@ -2,8 +2,7 @@
 use Rattle.std.proofs.Common.{◌≡◌, ◌+◌, ◌<◌, Some, length, take, drop, get_or, true, option_copied, sym, ap, ◌∙◌, subst, subst₂, arith}
 use Rattle.std.proofs.lemmas.Result.{err_from_is_err_and}
 use Rattle.elem_store.specs.Updates.{element_of}
-use Rattle.elem_store.proofs.Ids.{same_id}
-use Rattle.elem_store.proofs.Lists.{find-Some}
+use Rattle.elem_store.proofs.CallerLemmas.{same_id, find-Some}
 use Rattle.delta.specs.Delta.{Delta}
 use Rattle.delta.specs.Facts.{AreParts, part_ids}
 use Rattle.frac_keys.specs.Rising.{are_rising}

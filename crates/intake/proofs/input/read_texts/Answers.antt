@@ -1,7 +1,7 @@
 use Rattle.std.proofs.Common.{ℕ, ◌+◌, arith}
 use Rattle.std.proofs.lemmas.List.{length-take}
 use Rattle.std.proofs.lemmas.Result.{err_from_is_err_and}
-use Rattle.board_io.proofs.Moved.{Gave-part}
+use Rattle.board_ends.proofs.CallerLemmas.{Gave-part}
 use Rattle.intake.proofs.Streams.{HasTaken, taken-more}
 use Rattle.intake.proofs.input.read_texts.Goals as goal
 

@@ -1,6 +1,6 @@
 use Rattle.std.proofs.Common.{drop, sym, subst, ◌∙◌}
 use Rattle.json_text.specs.Value.{IsCompact, Stands}
-use Rattle.json_text.proofs.CompactLaws.{Value-compact}
+use Rattle.json_text.proofs.CallerLemmas.{Value-compact}
 use Rattle.json_reader.proofs.Written.{value-written}
 use Rattle.json_reader.proofs.reader.value_of.Goals as goal
 

@@ -1,5 +1,5 @@
 use Rattle.std.proofs.Common.{◌≡◌, ◌∷◌, Err, drop, length, arith, sym, ap, ◌∙◌}
-use Rattle.json_text.proofs.Reading.{Stands-once}
+use Rattle.json_text.proofs.CallerLemmas.{Stands-once}
 use Rattle.json_reader.proofs.Outcomes.{broken_first, refused_in}
 use Rattle.json_reader.proofs.scanning.scan.Goals as goal
 

@@ -1,7 +1,7 @@
 use Rattle.std.proofs.Common.{◌≡◌, true, inl, inr, arith}
 use Rattle.std.proofs.lemmas.Bool.Decides.{nat_tests}
 use Rattle.json_text.specs.Characters.{is_space, is_digit, is_plain, is_bare}
-use Rattle.json_text.proofs.Contents.{passed_within, passed_all}
+use Rattle.json_text.proofs.CallerLemmas.{passed_within, passed_all}
 use Rattle.json_reader.proofs.staying.stay_end.Goals as goal
 
 pub returns-in-Quoted-Quoted-default-Plain : goal.returns-in-Quoted-Quoted-default-Plain

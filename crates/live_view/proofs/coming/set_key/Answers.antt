@@ -1,6 +1,6 @@
 use Rattle.std.proofs.Common.{set, ap, ◌∙◌}
 use Rattle.elem.specs.ElementValue.{ElementValue}
-use Rattle.view.specs.Shown.{with_index}
+use Rattle.index_repair.specs.Keyed.{with_index}
 use Rattle.live_view.proofs.RekeyedLaws.{set-rekeyed}
 use Rattle.live_view.proofs.coming.set_key.Goals as goal
 

@@ -1,6 +1,6 @@
 use Rattle.std.proofs.Common.{[], ◌∷◌, ◌++◌, length, sym, ap, ◌∙◌, append_assoc, append-nil, length-append, arith}
 use Rattle.std.proofs.lemmas.List.{nil_from_length}
-use Rattle.live_view.specs.Coming.{rekeyed}
+use Rattle.live_view.specs.inner.Coming.{rekeyed}
 use Rattle.live_view.proofs.RekeyedLaws.{length-rekeyed, rekeyed-push}
 use Rattle.live_view.proofs.coming.set_keys.Goals as goal
 

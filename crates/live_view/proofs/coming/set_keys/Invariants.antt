@@ -1,5 +1,5 @@
 use Rattle.std.proofs.Common.{◌≡◌, ◌+◌, ◌++◌, length}
-use Rattle.live_view.specs.Coming.{rekeyed}
+use Rattle.live_view.specs.inner.Coming.{rekeyed}
 use Rattle.live_view.proofs.coming.set_keys.Given as goal
 
 -- the keys so far are set, and the others are left

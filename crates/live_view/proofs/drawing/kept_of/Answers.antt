@@ -1,7 +1,8 @@
 use Rattle.std.proofs.Common.{sym, ap, ◌∙◌, subst}
 use Rattle.elem.specs.Order.{HaveDistinctIds}
-use Rattle.view.specs.Shown.{live_elements, shown, HaveKeysOrNone, IsView}
-use Rattle.view.proofs.ShownLaws.{HaveDistinctIds-rising, live_elements-live, live_elements-rise}
+use Rattle.index_repair.specs.Keyed.{HaveKeysOrNone}
+use Rattle.view.specs.Shown.{live_elements, shown, IsView}
+use Rattle.view.proofs.CallerLemmas.{HaveDistinctIds-rising, live_elements-live, live_elements-rise}
 use Rattle.live_view.proofs.drawing.kept_of.Goals as goal
 
 pub shown_of-requires : goal.shown_of-requires

@@ -1,7 +1,8 @@
 use Rattle.std.proofs.Common.{◌≡◌, map, ap, ◌∙◌, subst}
 use Rattle.index_repair.specs.Repair.{repaired}
-use Rattle.view.specs.Shown.{in_scene_order, index_of, keyed, placed, HaveKeysOrNone}
-use Rattle.view.proofs.ShownLaws.{keys-placed, placed-distinct}
+use Rattle.index_repair.specs.Keyed.{index_of, keyed, HaveKeysOrNone}
+use Rattle.view.specs.Shown.{in_scene_order, placed}
+use Rattle.view.proofs.CallerLemmas.{keys-placed, placed-distinct}
 use Rattle.live_view.proofs.drawing.placed_of.Goals as goal
 
 sorted : (c : goal.After-from_vec) → c.sort.new.elements.items ≡ in_scene_order c.args.live

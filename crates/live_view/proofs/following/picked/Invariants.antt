@@ -1,5 +1,5 @@
 use Rattle.std.proofs.Common.{take}
-use Rattle.live_view.specs.Following.{ArePicked}
+use Rattle.live_view.specs.inner.Following.{ArePicked}
 use Rattle.live_view.proofs.following.picked.Given as goal
 
 abbrev pub invariant-loop-id : goal.invariant-loop-id

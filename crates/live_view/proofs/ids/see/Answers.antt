@@ -1,6 +1,6 @@
 use Rattle.std.proofs.Common.{◌∙◌}
 use Rattle.links.specs.Tables.{has_seen}
-use Rattle.links.proofs.Tabled.{seen-more}
+use Rattle.links.proofs.CallerLemmas.{seen-more}
 use Rattle.live_view.proofs.ids.see.Goals as goal
 
 pub returns-clause-seen : goal.returns-clause-seen

@@ -1,4 +1,4 @@
-use Rattle.view.proofs.OrderLaws.{by_keys_and_ids}
+use Rattle.view.proofs.CallerLemmas.{by_keys_and_ids}
 use Rattle.live_view.proofs.order.scene_order.Goals as goal
 
 pub returns-in-Some-Some : goal.returns-in-Some-Some

@@ -2,9 +2,7 @@ use Rattle.std.proofs.Common.{rules}
 use Rattle.std.proofs.lemmas.Result.{on_ok_weaker}
 use Rattle.std.proofs.lemmas.List.Sorted.{answers_always}
 use Rattle.view.specs.Shown.{comes_before}
-use Rattle.view.proofs.OrderLaws.{comes_before-order}
-use Rattle.view.proofs.InOrder.{in_order-from_sort}
-use Rattle.view.proofs.SceneOrder.{scene_order}
+use Rattle.view.proofs.CallerLemmas.{comes_before-order, in_order-from_sort, scene_order}
 use Rattle.live_view.proofs.order.sort.Goals as goal
 
 pub returns : goal.returns

@@ -1,5 +1,5 @@
 use Rattle.std.proofs.Common.{◌≡◌, sym}
-use Rattle.elem_store.proofs.Edits.{element-at, element-gap}
+use Rattle.elem_store.proofs.CallerLemmas.{element-at, element-gap}
 use Rattle.live_view.proofs.Redrawn.{at_place}
 use Rattle.live_view.proofs.places.element_of.Goals as goal
 

@@ -1,6 +1,6 @@
 use Rattle.std.proofs.Common.{◌||◌, bytes_eq, ap, ◌∙◌}
 use Rattle.std.proofs.lemmas.Result.{on_ok_weaker}
-use Rattle.links.proofs.Tabled.{list_any-map}
+use Rattle.links.proofs.CallerLemmas.{list_any-map}
 use Rattle.live_view.specs.Reached.{is_among, named_of}
 use Rattle.live_view.proofs.reach.add_named.Goals as goal
 

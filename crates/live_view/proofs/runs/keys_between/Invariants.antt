@@ -1,5 +1,5 @@
 use Rattle.std.proofs.Common.{◌≡◌, ◌≤◌}
-use Rattle.live_view.specs.Runs.{part_of, stored_keys}
+use Rattle.live_view.specs.inner.Runs.{part_of, stored_keys}
 use Rattle.live_view.proofs.runs.keys_between.Given as goal
 
 abbrev pub invariant-loop-at : goal.invariant-loop-at

@@ -2,7 +2,7 @@ use Rattle.std.proofs.Common.{◌-◌, List, Option, ℕ, insert, ap₂, ◌∙�
 use Rattle.std.proofs.lemmas.List.{length-map}
 use Rattle.elem.specs.ElementValue.{ElementValue}
 use Rattle.view.specs.Shown.{as_stored}
-use Rattle.live_view.specs.Runs.{stored_keys, AreRepaired}
+use Rattle.live_view.specs.inner.Runs.{stored_keys, AreRepaired}
 use Rattle.live_view.proofs.runs.keys_with.Goals as goal
 
 pub returns-in-Some : goal.returns-in-Some

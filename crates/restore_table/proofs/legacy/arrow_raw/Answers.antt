@@ -4,7 +4,7 @@ use Rattle.std.specs.List.{IsDistinct}
 use Rattle.std.proofs.lemmas.List.Elements.{All-from_recursion}
 use Rattle.json_text.specs.Value.{IsCompact}
 use Rattle.json_text.specs.declared.text.Member.{Member}
-use Rattle.json_text.proofs.CompactLaws.{Value-deeper}
+use Rattle.json_text.proofs.CallerLemmas.{Value-deeper}
 use Rattle.restore_table.proofs.legacy.arrow_raw.Goals as goal
 
 pub raw_object-requires-clause-distinct : goal.raw_object-requires-clause-distinct

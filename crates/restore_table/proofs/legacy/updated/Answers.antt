@@ -9,8 +9,8 @@ use Rattle.json_text.specs.Parts.{names_of}
 use Rattle.json_text.specs.Value.{IsCompact}
 use Rattle.json_text.specs.declared.text.Member.{Member}
 use Rattle.scene_json.specs.TheOne.{IsTheOne}
-use Rattle.json_text.proofs.CompactLaws.{Value-deeper}
-use Rattle.scene_json.proofs.Pairs.{names-pairs}
+use Rattle.json_text.proofs.CallerLemmas.{Value-deeper}
+use Rattle.scene_json.proofs.CallerLemmas.{names-pairs}
 use Rattle.restore_table.specs.Merged.{AreOldIds, AreUpdated}
 use Rattle.restore_table.specs.Restored.{listing_name, old_name, listing_text}
 use Rattle.restore_table.proofs.Listings.{updated-none, updated-wrong, updated-listing}

@@ -6,8 +6,7 @@ use Rattle.std.specs.Ordering.{nat_cmp}
 use Rattle.std.proofs.lemmas.List.Sorted.{ranks_by, answers_always, IsPermutation-refl, IsPermutation-trans}
 use Rattle.json_text.specs.Members.{pairs}
 use Rattle.json_text.specs.declared.text.Member.{Member}
-use Rattle.scene_json.proofs.Lookups.{rising_from_sort}
-use Rattle.scene_json.proofs.Pairs.{names-pairs}
+use Rattle.scene_json.proofs.CallerLemmas.{rising_from_sort, names-pairs}
 use Rattle.restore_table.specs.Merged.{IsWholeAfter}
 use Rattle.restore_table.specs.Table.{defaults}
 use Rattle.restore_table.proofs.Merging.{whole-completed}

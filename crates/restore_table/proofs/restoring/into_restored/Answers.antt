@@ -4,7 +4,7 @@ use Rattle.std.proofs.lemmas.List.Sorted.{All-permutation, IsPermutation-map}
 use Rattle.json_text.specs.Members.{pairs, pair_of}
 use Rattle.json_text.specs.Value.{IsCompact}
 use Rattle.json_text.specs.declared.text.Member.{Member}
-use Rattle.scene_json.proofs.Lookups.{distinct_moved}
+use Rattle.scene_json.proofs.CallerLemmas.{distinct_moved}
 use Rattle.restore_table.proofs.Nesting.{merged-nests}
 use Rattle.restore_table.proofs.RestoredLaws.{restored-from}
 use Rattle.restore_table.proofs.restoring.into_restored.Goals as goal

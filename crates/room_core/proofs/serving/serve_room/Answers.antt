@@ -15,6 +15,7 @@ loop-end-preserved g c =
       running = facts.running;
       within = facts.within;
       port = facts.port ∙ held.port;
+      listens = facts.listens ∙ held.listens;
       counted = omega (arith, facts.counted, held.counted);
       gone_counted = omega (arith, facts.gone_counted, held.gone_counted);
     }

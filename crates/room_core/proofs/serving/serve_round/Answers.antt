@@ -1,7 +1,6 @@
 -- One event: how it ends the room, or that it was a round.
 use Rattle.std.proofs.Common.{◌≡◌, ◌+◌, ◌≤◌, Some, refl, sym, ap, ◌∙◌, arith}
-use Rattle.board_io.specs.Events.{opening_of}
-use Rattle.room_core.specs.Told.{told_of}
+use Rattle.board_ends.specs.Events.{opening_of}
 use Rattle.room_core.specs.Serving.{IsServedRound, end_by, end_of, serving_of}
 use Rattle.room_core.proofs.Tries.{tells-nothing, tells-event}
 use Rattle.room_core.proofs.Served.{one_opening, below_limits, ended-memory, ended-full, ended-cut, ended-here, served-then, served-round, err_part, ok_part}
@@ -46,7 +45,7 @@ returns-in-Some-clause-ended g c =
       | else-opens_link-via-else-opens_link w ↦ omega (arith, c.requires.within, c.opens_link.ensures.other w.if-opens_link.false)
     ] in
     let round : IsServedRound c.args.limits.now (serving_of c.args.room.now c.args.tally.now) (serving_of c.serve_event.new.room c.count.new.self)
-    (told_of g.L.Links.given g.L.Links.sent g.L.Links.lost c.args.links.now) (told_of g.L.Links.given g.L.Links.sent g.L.Links.lost c.serve_event.new.links) =
+    (g.L.Links.seen c.args.links.now) (g.L.Links.seen c.serve_event.new.links) =
     served-round c.args.limits.now c.args.room.now c.serve_event.new.room c.args.tally.now c.count.new.self c.in-Ok.event _ _ _ within
     c.count.ensures.opened c.count.ensures.stepped c.count.ensures.idles
     (tells-event _ _ c.in-Ok.event facts.ok facts.sent facts.lost) (ok_part c.serve_event.result (sym c.is_err.ensures.value ∙ c.if-is_err.false) c.serve_event.ensures.whole) in
@@ -64,7 +63,7 @@ returns-clause-on g c =
       | else-opens_link-via-else-opens_link w ↦ omega (arith, c.requires.within, c.opens_link.ensures.other w.if-opens_link.false)
     ] in
     let round : IsServedRound c.args.limits.now (serving_of c.args.room.now c.args.tally.now) (serving_of c.serve_event.new.room c.count.new.self)
-    (told_of g.L.Links.given g.L.Links.sent g.L.Links.lost c.args.links.now) (told_of g.L.Links.given g.L.Links.sent g.L.Links.lost c.serve_event.new.links) =
+    (g.L.Links.seen c.args.links.now) (g.L.Links.seen c.serve_event.new.links) =
     served-round c.args.limits.now c.args.room.now c.serve_event.new.room c.args.tally.now c.count.new.self c.in-Ok.event _ _ _ within
     c.count.ensures.opened c.count.ensures.stepped c.count.ensures.idles
     (tells-event _ _ c.in-Ok.event facts.ok facts.sent facts.lost) (ok_part c.serve_event.result (sym c.is_err.ensures.value ∙ c.if-is_err.false) c.serve_event.ensures.whole) in

@@ -1,7 +1,7 @@
 use Rattle.std.proofs.Common.{◌<◌, ◌++◌, ap, sym, ◌∙◌, length, map, take_all, arith}
 use Rattle.std.specs.List.{join_with_byte}
 use Rattle.std.proofs.lemmas.Option.{get_or_from_slice_get}
-use Rattle.scene_json.proofs.Appended.{mapped-step}
+use Rattle.scene_json.proofs.CallerLemmas.{mapped-step}
 use Rattle.elem.specs.Texts.{element_text}
 use Rattle.room_core.proofs.Printed.{within_stored}
 use Rattle.room_core.proofs.texts.push_stored.Goals as goal

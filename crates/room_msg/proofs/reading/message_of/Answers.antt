@@ -4,8 +4,7 @@ use Rattle.std.proofs.lemmas.Result.{IfOk-at_ok, err_from_is_err_and}
 use Rattle.json_text.specs.Characters.{quote}
 use Rattle.json_text.specs.Members.{pairs}
 use Rattle.scene_json.specs.TheOne.{IsTheOne}
-use Rattle.elem_read.proofs.NoSelections.{is-object}
-use Rattle.elem_read.proofs.Parts.{stop-same}
+use Rattle.elem_read.proofs.CallerLemmas.{is-object, stop-same}
 use Rattle.room_msg.specs.Messages.{init_tag, update_tag, HasTag}
 use Rattle.room_msg.proofs.Told.{has-tag, presence, payload-fault}
 use Rattle.room_msg.proofs.reading.message_of.Goals as goal

@@ -1,4 +1,4 @@
-use Rattle.frac_keys.proofs.PartLemmas.{bytes_less-lt}
+use Rattle.frac_keys.proofs.CallerLemmas.{bytes_less-lt}
 use Rattle.rows.proofs.keys.is_less_key.Goals as goal
 
 pub returns : goal.returns

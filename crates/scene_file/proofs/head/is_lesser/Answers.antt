@@ -1,6 +1,6 @@
 use Rattle.std.proofs.Common.{ap₂, ◌∙◌}
 use Rattle.frac_keys.specs.Keys.{bytes_less}
-use Rattle.frac_keys.proofs.PartLemmas.{bytes_less-lt}
+use Rattle.frac_keys.proofs.CallerLemmas.{bytes_less-lt}
 use Rattle.scene_file.proofs.Joining.{lesser-told}
 use Rattle.scene_file.proofs.head.is_lesser.Goals as goal
 

@@ -1,7 +1,7 @@
 use Rattle.std.proofs.Common.{[], sym, subst}
 use Rattle.json_text.specs.Members.{pairs}
 use Rattle.file_table.specs.Table.{AreLeastEntries}
-use Rattle.file_table.proofs.Least.{AreLeastEntries-none}
+use Rattle.file_table.proofs.CallerLemmas.{AreLeastEntries-none}
 use Rattle.scene_file.proofs.head.table_of.Goals as goal
 
 pub returns : goal.returns

@@ -1,4 +1,4 @@
-use Rattle.scene_file.proofs.WholeScenes.{scene-whole, joined-whole, stored-whole, shown-whole}
+use Rattle.scene_file.proofs.WholeScenes.{scene-whole, joined-whole, stored-whole}
 use Rattle.scene_file.proofs.laws.scenes_are_whole.Goals as goal
 
 pub returns-clause-read : goal.returns-clause-read
@@ -9,6 +9,3 @@ returns-clause-joined c = joined-whole
 
 pub returns-clause-stored : goal.returns-clause-stored
 returns-clause-stored c = stored-whole
-
-pub returns-clause-shown : goal.returns-clause-shown
-returns-clause-shown c = shown-whole

@@ -3,7 +3,7 @@ use Rattle.std.specs.List.{join_with_byte}
 use Rattle.std.proofs.lemmas.List.Elements.{All-more, All-same}
 use Rattle.json_text.specs.Value.{IsCompact}
 use Rattle.scene_json.specs.Lines.{IsLaidOutSoFar}
-use Rattle.scene_json.proofs.Appended.{mapped-step}
+use Rattle.scene_json.proofs.CallerLemmas.{mapped-step}
 use Rattle.elem.specs.ElementValue.{ElementValue}
 use Rattle.elem.specs.Texts.{element_text}
 use Rattle.scene_file.proofs.printing.push_element_lines.Goals as goal

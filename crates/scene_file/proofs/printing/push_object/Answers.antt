@@ -4,7 +4,7 @@ use Rattle.std.proofs.lemmas.List.Elements.{All-more}
 use Rattle.json_text.specs.Compact.{member_text}
 use Rattle.json_text.specs.Members.{pair_of}
 use Rattle.json_text.specs.declared.text.Member.{Member}
-use Rattle.scene_json.proofs.Appended.{mapped-step}
+use Rattle.scene_json.proofs.CallerLemmas.{mapped-step}
 use Rattle.scene_file.proofs.SceneTexts.{object-closed, members-compact}
 use Rattle.scene_file.proofs.printing.push_object.Goals as goal
 

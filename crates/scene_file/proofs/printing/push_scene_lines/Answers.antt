@@ -5,10 +5,10 @@ use Rattle.json_text.specs.Members.{pairs}
 use Rattle.json_text.specs.Value.{IsCompact}
 use Rattle.scene_json.specs.Layout.{IsLaidOut}
 use Rattle.scene_json.specs.Lines.{Standing, IsLaidOutSoFar}
-use Rattle.scene_json.proofs.Lookups.{rising_distinct}
+use Rattle.scene_json.proofs.CallerLemmas.{rising_distinct}
 use Rattle.elem.specs.Texts.{element_text}
 use Rattle.scene_file.specs.Heads.{Heading}
-use Rattle.scene_file.specs.Printing.{text_behind_elements, text_before_elements as front_of}
+use Rattle.scene_file.specs.inner.Printing.{text_behind_elements, text_before_elements as front_of}
 use Rattle.scene_file.specs.Scenes.{scene_text}
 use Rattle.scene_file.proofs.SceneTexts.{scene-written, scene-told, scene-compact}
 use Rattle.scene_file.proofs.printing.push_scene_lines.Goals as goal

@@ -1,6 +1,6 @@
 use Rattle.std.proofs.Common.{inl, inr, refl}
 use Rattle.json_text.specs.Tree.{null_word}
-use Rattle.json_text.proofs.CompactLaws.{literal-compact}
+use Rattle.json_text.proofs.CallerLemmas.{literal-compact}
 use Rattle.scene_file.proofs.printing.push_source.Goals as goal
 
 pub returns-in-None-clause-nests : goal.returns-in-None-clause-nests

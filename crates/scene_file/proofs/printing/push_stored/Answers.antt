@@ -1,9 +1,8 @@
-use Rattle.std.proofs.Common.{◌<◌, ◌++◌, ap, sym, ◌∙◌, length, map, take_all, arith}
+use Rattle.std.proofs.Common.{◌<◌, ◌++◌, inl, inr, ap, sym, ◌∙◌, length, map, take_all, arith}
 use Rattle.std.specs.List.{join_with_byte}
-use Rattle.std.proofs.lemmas.Option.{get_or_from_slice_get}
-use Rattle.scene_json.proofs.Appended.{mapped-step}
+use Rattle.std.proofs.lemmas.Option.{get_or_from_slice_get, none-some, slice_get_cases}
+use Rattle.scene_json.proofs.CallerLemmas.{mapped-step}
 use Rattle.elem.specs.Texts.{element_text}
-use Rattle.view.proofs.ShownLaws.{within_stored}
 use Rattle.scene_file.proofs.printing.push_stored.Goals as goal
 use Rattle.scene_file.proofs.printing.push_stored.Goals.{in-Some+in_ok-push_comma+in_ok-push_element, in_default}
 
@@ -16,7 +15,10 @@ loop-i-preserved c =
           ∙ mapped-step element_text c.args.out.now.items stored w.in-Some.e.now c.loop-i.i c.loop-i.out.items w.push_comma.new.out.items w.push_element.new.out.items inside
           (sym (get_or_from_slice_get stored c.loop-i.i w.in-Some.e.now w.in-Some.e.now (sym w.in-Some.ensures.element)))
           c.loop-i.invariant w.in_ok-push_comma.ensures.ok w.in_ok-push_element.ensures.text
-      | in_default w ↦ absurd (within_stored stored c.loop-i.i inside w.in_default.ensures.element)
+      | in_default w ↦ elim (slice_get_cases stored c.loop-i.i).1 [
+        | inl there ↦ absurd (none-some there.0 (w.in_default.ensures.element ∙ there.2))
+        | inr past ↦ absurd (omega (arith, inside, past.0))
+      ]
     ]
 
 pub returns : goal.returns

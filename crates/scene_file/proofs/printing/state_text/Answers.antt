@@ -1,7 +1,7 @@
 use Rattle.std.proofs.Common.{◌≡◌, ◌++◌, ap, ◌∙◌, subst}
 use Rattle.json_text.specs.Compact.{object_text}
 use Rattle.json_text.specs.Members.{pairs}
-use Rattle.scene_json.proofs.Lookups.{rising_distinct}
+use Rattle.scene_json.proofs.CallerLemmas.{rising_distinct}
 use Rattle.scene_file.specs.Heads.{Heading}
 use Rattle.scene_file.specs.Scenes.{scene_members, state_text}
 use Rattle.scene_file.proofs.SceneTexts.{scene-written, state-told}

@@ -3,7 +3,7 @@ use Rattle.std.specs.List.{list_all}
 use Rattle.std.proofs.lemmas.Bool.{cond-true}
 use Rattle.index_repair.specs.Repair.{repaired}
 use Rattle.elem.specs.ElementValue.{ElementValue}
-use Rattle.view.specs.Shown.{index_of, keyed}
+use Rattle.index_repair.specs.Keyed.{index_of, keyed}
 use Rattle.scene_file.proofs.reading.loaded.Goals as goal
 
 pub returns-then-have_keys : goal.returns-then-have_keys

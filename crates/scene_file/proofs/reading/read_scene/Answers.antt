@@ -1,6 +1,6 @@
 use Rattle.std.proofs.Common.{Err, drop, ap}
 use Rattle.std.proofs.lemmas.Result.{err_from_is_err_and}
-use Rattle.elem_read.proofs.Parts.{stop-same}
+use Rattle.elem_read.proofs.CallerLemmas.{stop-same}
 use Rattle.scene_file.proofs.Blanks.{Stands-behind}
 use Rattle.scene_file.proofs.Values.{behind}
 use Rattle.scene_file.proofs.reading.read_scene.Goals as goal

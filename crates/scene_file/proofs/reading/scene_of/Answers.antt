@@ -5,7 +5,7 @@ use Rattle.json_text.specs.Characters.{quote}
 use Rattle.json_text.specs.Compact.{Member as Pair}
 use Rattle.json_text.specs.Members.{pairs}
 use Rattle.scene_file.specs.Reading.{IsSceneFault, HasMembers, value_unless_null, loaded}
-use Rattle.scene_file.specs.Taken.{HaveCome, AreItemsRead}
+use Rattle.scene_file.specs.inner.Taken.{HaveCome, AreItemsRead}
 use Rattle.scene_file.specs.declared.fault.SceneFault.TheVariants.{NotScene, Elements, AppState, Files, Element}
 use Rattle.scene_file.proofs.Apart.{given-same, head-same}
 use Rattle.scene_file.proofs.Forms.{is-scene}

@@ -6,7 +6,7 @@ use Rattle.scene_json.specs.Walks.{AreLeft, AreTakenTo}
 use Rattle.elem.specs.ElementValue.{ElementValue}
 use Rattle.elem_read.specs.declared.fault.FaultyElement.{FaultyElement}
 use Rattle.scene_file.specs.Reading.{HasItems}
-use Rattle.scene_file.specs.Taken.{HaveCome}
+use Rattle.scene_file.specs.inner.Taken.{HaveCome}
 use Rattle.scene_file.proofs.Apart.{elements, others-are, elements-there, others-there, array-given, none-given}
 use Rattle.scene_file.proofs.Forms.{is-object}
 use Rattle.scene_file.proofs.reading.taken_apart.Goals as goal

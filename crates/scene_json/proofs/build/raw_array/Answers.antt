@@ -3,7 +3,7 @@ use Rattle.std.proofs.lemmas.List.Elements.{recursion_from_All}
 use Rattle.std.proofs.lemmas.Result.{IfOk-weaker}
 use Rattle.json_text.specs.Compact.{array_text}
 use Rattle.json_text.specs.Value.{IsCompact}
-use Rattle.json_text.proofs.CompactLaws.{array-compact, items-step, array-written}
+use Rattle.json_text.proofs.CallerLemmas.{array-compact, items-step, array-written}
 use Rattle.scene_json.proofs.build.raw_array.Goals as goal
 use Rattle.scene_json.proofs.build.raw_array.Goals.{In_ok-push-2}
 

@@ -5,7 +5,7 @@ use Rattle.json_text.specs.Compact.{object_text}
 use Rattle.json_text.specs.Members.{pairs, pair_of}
 use Rattle.json_text.specs.Value.{IsCompact}
 use Rattle.json_text.specs.declared.text.Member.{Member}
-use Rattle.json_text.proofs.CompactLaws.{object-compact, members-step, object-written}
+use Rattle.json_text.proofs.CallerLemmas.{object-compact, members-step, object-written}
 use Rattle.scene_json.proofs.Pairs.{pairs-AreMembers}
 use Rattle.scene_json.proofs.build.raw_object.Goals as goal
 use Rattle.scene_json.proofs.build.raw_object.Goals.{In_ok-push-2}

@@ -1,5 +1,5 @@
 use Rattle.std.proofs.lemmas.Bool.{leb-true, le-leb}
-use Rattle.json_text.proofs.CompactLaws.{Value-deeper}
+use Rattle.json_text.proofs.CallerLemmas.{Value-deeper}
 use Rattle.scene_json.proofs.nesting.nests_at_most.Goals as goal
 
 pub returns-else-not-is_container : goal.returns-else-not-is_container

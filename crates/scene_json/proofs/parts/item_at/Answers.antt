@@ -2,7 +2,7 @@ use Rattle.std.proofs.Common.{◌++◌, ap, sym, subst, ◌∙◌}
 use Rattle.json_text.specs.Compact.{object_text}
 use Rattle.json_text.specs.Members.{pairs}
 use Rattle.json_text.specs.Parts.{AreMembers}
-use Rattle.json_text.proofs.Contents.{drop-after}
+use Rattle.json_text.proofs.CallerLemmas.{drop-after}
 use Rattle.scene_json.specs.Passes.{EndsAt}
 use Rattle.scene_json.proofs.FirstBytes.{inside, object-here, object-first}
 use Rattle.scene_json.proofs.MembersLeft.{object-opened, all-ended}

@@ -2,8 +2,7 @@ use Rattle.std.proofs.Common.{◌≡◌, ◌-◌, ◌<◌, ℕ, List, [], ◌∷
 use Rattle.std.specs.List.{AllByRecursion}
 use Rattle.json_text.specs.Compact.{array_text}
 use Rattle.json_text.specs.Value.{IsCompact}
-use Rattle.json_text.proofs.CompactLaws.{Value-Form, Value-deeper}
-use Rattle.json_text.proofs.Forms.{starts-same, array-starts, form-listed}
+use Rattle.json_text.proofs.CallerLemmas.{Value-Form, Value-deeper, starts-same, array-starts, form-listed}
 use Rattle.scene_json.proofs.ItemsLeft.{AreItemsLeft, IsNext, ends-inside, array-opened, left-next, left-inside, item-found, all-found}
 use Rattle.scene_json.proofs.parts.items.Goals as goal
 use Rattle.scene_json.proofs.parts.items.Goals.{After-new-found, In-loop-at}

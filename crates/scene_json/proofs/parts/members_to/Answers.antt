@@ -3,8 +3,7 @@ use Rattle.std.proofs.lemmas.List.Elements.{All-weaker}
 use Rattle.json_text.specs.Parts.{AreMembers}
 use Rattle.json_text.specs.Compact.{Member as Pair, array_text, object_text}
 use Rattle.json_text.specs.Members.{pairs}
-use Rattle.json_text.proofs.CompactLaws.{Value-Form}
-use Rattle.json_text.proofs.Forms.{starts-same, object-starts, form-membered}
+use Rattle.json_text.proofs.CallerLemmas.{Value-Form, starts-same, object-starts, form-membered}
 use Rattle.scene_json.specs.Passes.{StandHere, IsPassed, IsStopped, HaveEnded}
 use Rattle.scene_json.proofs.ItemsLeft.{array-opened}
 use Rattle.scene_json.proofs.MembersLeft.{object-opened, stopped-here, ended-here}

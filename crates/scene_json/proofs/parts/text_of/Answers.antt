@@ -1,7 +1,6 @@
 use Rattle.std.proofs.Common.{[], append-nil, refl, sym, ap, ◌∙◌}
 use Rattle.json_text.specs.Characters.{quote}
-use Rattle.json_text.proofs.CompactLaws.{Value-Form}
-use Rattle.json_text.proofs.Forms.{starts-same, quote-starts, form-quoted, quote-Quoted}
+use Rattle.json_text.proofs.CallerLemmas.{Value-Form, starts-same, quote-starts, form-quoted, quote-Quoted}
 use Rattle.scene_json.proofs.parts.text_of.Goals as goal
 
 pub returns-then-not-begins_with-clause-shape : goal.returns-then-not-begins_with-clause-shape

@@ -3,7 +3,7 @@ use Rattle.session_text.specs.declared.event.Event.{Event}
 use Rattle.session_text.specs.Facts.{IsAmong, IsEventWithinLimits}
 use Rattle.session.specs.declared.report.Report.{Report}
 use Rattle.session.specs.Reports.{IsReportOf}
-use Rattle.session.specs.Standing.{WorldStandsFor}
+use Rattle.session.specs.inner.Standing.{WorldStandsFor}
 use Rattle.session.specs.Worlds.{World, last_world, world_after}
 use Rattle.session.proofs.ReportLaws.{ok-more}
 use Rattle.session.proofs.WorldLaws.{each-event, world-step, world-last}

@@ -1,6 +1,7 @@
 use Rattle.std.proofs.Common.{◌≡◌, length, ap, ◌∙◌, subst}
 use Rattle.view.specs.Settled.{AreSettled}
-use Rattle.view.specs.Shown.{live_elements, shown, HaveRisingKeys}
+use Rattle.index_repair.specs.Keyed.{HaveRisingKeys}
+use Rattle.view.specs.Shown.{live_elements, shown}
 use Rattle.scene_file.specs.Scenes.{scene_text}
 use Rattle.session.proofs.ReportLaws.{live-long, stack-long}
 use Rattle.session.proofs.reporting.replica_of.Goals as goal

@@ -1,6 +1,6 @@
 use Rattle.std.proofs.Common.{[], ◌∷◌, ◌++◌, sym, subst}
 use Rattle.session.specs.Reports.{AreReplicaReports, IsReplicaReport}
-use Rattle.session.specs.Standing.{SeatStandsFor}
+use Rattle.session.specs.inner.Standing.{SeatStandsFor}
 use Rattle.session.proofs.WorldLaws.{zip-push, zip-split}
 use Rattle.session.proofs.reporting.replicas_under.Goals as goal
 

@@ -1,7 +1,7 @@
 -- The first replicas are reported.
 use Rattle.std.proofs.Common.{List}
 use Rattle.session.specs.Reports.{AreReplicaReports}
-use Rattle.session.specs.Standing.{SeatsStandFor}
+use Rattle.session.specs.inner.Standing.{SeatsStandFor}
 use Rattle.session.specs.Worlds.{Seat}
 use Rattle.session.proofs.reporting.replicas_under.Given as goal
 

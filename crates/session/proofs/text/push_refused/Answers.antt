@@ -1,6 +1,6 @@
 use Rattle.std.proofs.Common.{◌<◌, ◌++◌, ap, ◌∙◌, length, map, take_all, arith}
 use Rattle.std.specs.List.{join_with_byte}
-use Rattle.scene_json.proofs.Appended.{mapped-step}
+use Rattle.scene_json.proofs.CallerLemmas.{mapped-step}
 use Rattle.session.specs.Texts.{refused_text}
 use Rattle.session.proofs.text.push_refused.Goals as goal
 

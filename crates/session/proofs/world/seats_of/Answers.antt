@@ -1,6 +1,6 @@
 use Rattle.std.proofs.Common.{◌≡◌, ◌+◌, [], ◌∷◌, ◌++◌, replicate, sym, subst, vec_len, arith}
 use Rattle.std.proofs.lemmas.List.{replicate_more}
-use Rattle.session.specs.Standing.{SeatStandsFor, SeatsStandFor}
+use Rattle.session.specs.inner.Standing.{SeatStandsFor, SeatsStandFor}
 use Rattle.session.specs.Worlds.{delivered, fresh}
 use Rattle.session.proofs.WorldLaws.{zip-push}
 use Rattle.session.proofs.world.seats_of.Goals as goal

@@ -1,6 +1,6 @@
 -- The first replicas took the elements.
 use Rattle.std.proofs.Common.{◌≡◌, replicate, vec_len}
-use Rattle.session.specs.Standing.{SeatsStandFor}
+use Rattle.session.specs.inner.Standing.{SeatsStandFor}
 use Rattle.session.specs.Worlds.{delivered, fresh}
 use Rattle.session.proofs.world.seats_of.Given as goal
 

@@ -7,7 +7,7 @@ use Rattle.std.proofs.lemmas.List.Sorted.{ranks_by, answers_always}
 use Rattle.json_text.specs.Members.{pairs}
 use Rattle.json_text.specs.declared.text.Member.{Member}
 use Rattle.elem.specs.Forms.{find_in, AreOthers}
-use Rattle.elem_read.proofs.Others.{kept, sorted-others}
+use Rattle.elem_read.proofs.CallerLemmas.{kept, sorted-others}
 use Rattle.session_text.proofs.fields.further.Goals as goal
 
 abbrev lower : Member → Member → Bool

@@ -1,5 +1,5 @@
 use Rattle.std.proofs.lemmas.Option.{MatchOption-at_some}
-use Rattle.scene_json.proofs.Pairs.{AreMembers-distinct}
+use Rattle.scene_json.proofs.CallerLemmas.{AreMembers-distinct}
 use Rattle.session_text.proofs.fields.rest_in.Goals as goal
 
 pub further-requires : goal.further-requires

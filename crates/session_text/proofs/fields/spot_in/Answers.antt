@@ -6,7 +6,7 @@ use Rattle.json_text.specs.Members.{pairs}
 use Rattle.scene_json.specs.Named.{value_at}
 use Rattle.scene_json.specs.TheOne.{IsTheOne}
 use Rattle.elem.specs.Forms.{IsText}
-use Rattle.elem.proofs.FormsOnce.{members-once}
+use Rattle.elem.proofs.CallerLemmas.{members-once}
 use Rattle.session_text.proofs.FormsOne.{no-spot}
 use Rattle.session_text.proofs.fields.spot_in.Goals as goal
 

@@ -1,5 +1,5 @@
 use Rattle.std.proofs.Common.{◌≡◌, ◌+◌, Err, ap, subst, sym, ◌∙◌, drop}
-use Rattle.scene_file.proofs.Blanks.{Stands-behind}
+use Rattle.scene_file.proofs.CallerLemmas.{Stands-behind}
 use Rattle.session_text.specs.Sessions.{IsSessionFault}
 use Rattle.session_text.specs.declared.fault.SessionFault.{SessionFault}
 use Rattle.session_text.specs.declared.fault.SessionFault.TheVariants.{In}

@@ -1,6 +1,6 @@
 use Rattle.std.proofs.Common.{◌+◌, ap}
 use Rattle.std.proofs.lemmas.Result.{err_from_is_err_and}
-use Rattle.elem_read.proofs.Parts.{stop-same}
+use Rattle.elem_read.proofs.CallerLemmas.{stop-same}
 use Rattle.session_text.specs.Events.{EventText}
 use Rattle.session_text.proofs.Readings.{told}
 use Rattle.session_text.proofs.taking.take_event.Goals as goal

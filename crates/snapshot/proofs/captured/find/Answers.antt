@@ -1,8 +1,7 @@
 -- A search ends at the element of the id, or where there is none.
 use Rattle.std.proofs.Common.{◌<◌, length, Some, sym, ap, ◌∙◌}
 use Rattle.std.proofs.lemmas.Option.{slice_get-get_or, slice_get_within}
-use Rattle.elem_store.proofs.Edits.{element-gap}
-use Rattle.elem_store.proofs.Placed.{found, element-found}
+use Rattle.elem_store.proofs.CallerLemmas.{element-gap, found, element-found}
 use Rattle.snapshot.proofs.captured.find.Goals as goal
 
 pub returns-in-Ok : goal.returns-in-Ok

@@ -1,7 +1,7 @@
 -- The element takes the place of the one of its id, or stands in the gap for it.
 use Rattle.std.proofs.Common.{subst}
 use Rattle.elem_store.specs.Places.{IsAt, IsGapFor}
-use Rattle.elem_store.proofs.Placed.{found}
+use Rattle.elem_store.proofs.CallerLemmas.{found}
 use Rattle.snapshot.proofs.CapturedLaws.{HasPut-set, HasPut-insert}
 use Rattle.snapshot.proofs.PutLaws.{put-is}
 use Rattle.snapshot.proofs.captured.put.Goals as goal

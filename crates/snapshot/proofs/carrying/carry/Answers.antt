@@ -2,7 +2,7 @@
 use Rattle.std.proofs.Common.{◌≡◌, option_copied, sym, ap, ◌∙◌, subst}
 use Rattle.elem.specs.ElementValue.{ElementValue}
 use Rattle.elem_store.specs.Updates.{element_of}
-use Rattle.delta.proofs.ChangeLaws.{OnOk-weaker}
+use Rattle.delta.proofs.CallerLemmas.{OnOk-weaker}
 use Rattle.undoing.specs.Carrying.{carried_over}
 use Rattle.snapshot.specs.Carried.{IsCarried, HasCarried, carried_to, with_made}
 use Rattle.snapshot.proofs.CapturedLaws.{found-id, HasCarried-made}

@@ -3,7 +3,7 @@ use Rattle.std.proofs.Common.{◌≡◌, true, option_copied, if◌then◌else�
 use Rattle.frac_keys.specs.Rising.{are_rising}
 use Rattle.elem.specs.ElementValue.{ElementValue}
 use Rattle.elem_store.specs.Updates.{element_of, ids_of, is_newer, is_taken}
-use Rattle.delta.proofs.ChangeLaws.{OnOk-weaker}
+use Rattle.delta.proofs.CallerLemmas.{OnOk-weaker}
 use Rattle.undoing.specs.Carrying.{with_put, with_all_put, carried_over}
 use Rattle.snapshot.specs.Carried.{carried_to}
 use Rattle.snapshot.proofs.CapturedLaws.{found-id}

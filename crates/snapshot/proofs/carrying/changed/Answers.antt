@@ -6,7 +6,7 @@ use Rattle.elem.specs.ElementValue.{ElementValue}
 use Rattle.elem.specs.Facts.{IsElement}
 use Rattle.undoing.specs.Differing.{same_kind}
 use Rattle.undoing.specs.Undoing.{undone}
-use Rattle.undoing.proofs.DifferingLaws.{same_kind-true}
+use Rattle.undoing.proofs.CallerLemmas.{same_kind-true}
 use Rattle.snapshot.proofs.carrying.changed.Goals as goal
 
 pub returns-in_ok-try_clone-clause-to : goal.returns-in_ok-try_clone-clause-to

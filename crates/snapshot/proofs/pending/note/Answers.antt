@@ -1,7 +1,7 @@
 -- A change has a part, and what hasn't changed has none.
 use Rattle.std.proofs.Common.{◌++◌, [], ◌∷◌, option_copied, subst, sym}
 use Rattle.delta.specs.Pairs.{EntryStandsFor, pair_with}
-use Rattle.delta.proofs.PairLaws.{entry-more, entry-same}
+use Rattle.delta.proofs.CallerLemmas.{entry-more, entry-same}
 use Rattle.snapshot.proofs.pending.note.Goals as goal
 
 pub returns-in_ok-push : goal.returns-in_ok-push

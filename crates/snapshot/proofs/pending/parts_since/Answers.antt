@@ -2,7 +2,7 @@
 use Rattle.std.proofs.Common.{◌≡◌, ◌++◌, [], ◌∷◌, take, take_all, option_copied, sym, ap, ◌∙◌, subst, arith}
 use Rattle.elem.specs.ElementValue.{ElementValue}
 use Rattle.delta.specs.Pairs.{EntryStandsFor, pair_with}
-use Rattle.delta.proofs.PairLaws.{entry-none}
+use Rattle.delta.proofs.CallerLemmas.{entry-none}
 use Rattle.elem_store.specs.Updates.{element_of}
 use Rattle.snapshot.specs.Pending.{pairs_since}
 use Rattle.snapshot.proofs.CapturedLaws.{found-id}

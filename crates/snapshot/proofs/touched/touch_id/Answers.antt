@@ -7,3 +7,7 @@ returns-clause-touched c =
 
 pub returns-clause-kept : goal.returns-clause-kept
 returns-clause-kept c = (touched-id c.args.ids.now.keys c.in_ok-try_clone.field-0 c.insert.new.self.keys c.in_ok-insert.ensures.updates.0).still
+
+pub returns-clause-only : goal.returns-clause-only
+returns-clause-only c =
+    rw (← c.in_ok-try_clone.ensures) (touched-id c.args.ids.now.keys c.in_ok-try_clone.field-0 c.insert.new.self.keys c.in_ok-insert.ensures.updates.0).only

@@ -1,7 +1,7 @@
 use Rattle.std.proofs.Common.{rules}
 use Rattle.std.proofs.lemmas.Result.{on_ok_weaker}
 use Rattle.std.proofs.lemmas.List.Sorted.{answers_always, IsPermutation-map}
-use Rattle.view.specs.Spots.{element_at, elements_of}
+use Rattle.view.specs.inner.Spots.{element_at, elements_of}
 use Rattle.view.proofs.InOrder.{in_order-from_sort}
 use Rattle.view.proofs.SceneOrder.{scene_order, spot_before, spot_before-order, sorted-elements}
 use Rattle.view.proofs.order.sort.Goals as goal

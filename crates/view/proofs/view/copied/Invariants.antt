@@ -1,5 +1,5 @@
 use Rattle.std.proofs.Common.{◌≡◌, take}
-use Rattle.view.specs.Spots.{elements_of}
+use Rattle.view.specs.inner.Spots.{elements_of}
 use Rattle.view.proofs.view.copied.Given as goal
 
 abbrev pub invariant-loop-spot : goal.invariant-loop-spot

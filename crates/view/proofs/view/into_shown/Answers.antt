@@ -1,5 +1,6 @@
 use Rattle.std.proofs.Common.{◌≡◌, subst, ◌∙◌}
-use Rattle.view.specs.Shown.{live_elements, shown, HaveKeysOrNone}
+use Rattle.index_repair.specs.Keyed.{HaveKeysOrNone}
+use Rattle.view.specs.Shown.{live_elements, shown}
 use Rattle.view.proofs.ShownLaws.{keys-placed, ordered-distinct, shown-keys, shown-ordered, shown-settled}
 use Rattle.view.proofs.view.into_shown.Goals as goal
 

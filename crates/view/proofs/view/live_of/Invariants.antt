@@ -1,6 +1,6 @@
 use Rattle.std.proofs.Common.{◌≡◌, take}
 use Rattle.view.specs.Shown.{live_elements}
-use Rattle.view.specs.Spots.{elements_of, AreSpotsIn}
+use Rattle.view.specs.inner.Spots.{elements_of, AreSpotsIn}
 use Rattle.view.proofs.view.live_of.Given as goal
 
 abbrev pub invariant-loop-i : goal.invariant-loop-i

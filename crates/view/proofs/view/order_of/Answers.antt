@@ -3,7 +3,7 @@ use Rattle.std.proofs.Common.{refl, ap, ◌∙◌}
 use Rattle.std.proofs.lemmas.List.Sorted.{All-permutation}
 use Rattle.std.proofs.lemmas.Result.{IfOk-weaker}
 use Rattle.view.specs.Shown.{in_scene_order}
-use Rattle.view.specs.Spots.{elements_of, AreSpotsIn, IsSpotIn}
+use Rattle.view.specs.inner.Spots.{elements_of, AreSpotsIn, IsSpotIn}
 use Rattle.view.proofs.ShownLaws.{live-distinct, ordered-distinct}
 use Rattle.view.proofs.SpotLaws.{stored-at, indices-differ}
 use Rattle.view.proofs.view.order_of.Goals as goal

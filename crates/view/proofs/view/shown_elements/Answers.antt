@@ -1,5 +1,6 @@
 use Rattle.std.proofs.Common.{◌≡◌, refl, subst, ap, ◌∙◌}
-use Rattle.view.specs.Shown.{live_elements, shown, HaveKeysOrNone}
+use Rattle.index_repair.specs.Keyed.{HaveKeysOrNone}
+use Rattle.view.specs.Shown.{live_elements, shown}
 use Rattle.view.proofs.ShownLaws.{live-distinct, shown-keys, shown-settled}
 use Rattle.view.proofs.view.shown_elements.Goals as goal
 use Rattle.view.proofs.view.shown_elements.Goals.{In_ok-elements}

@@ -1,7 +1,8 @@
 use Rattle.std.proofs.Common.{◌≡◌, ◌∙◌, subst}
 use Rattle.std.proofs.lemmas.Result.{IfOk-weaker}
-use Rattle.view.specs.Shown.{in_scene_order, HaveKeysOrNone}
-use Rattle.view.specs.Spots.{elements_of}
+use Rattle.index_repair.specs.Keyed.{HaveKeysOrNone}
+use Rattle.view.specs.Shown.{in_scene_order}
+use Rattle.view.specs.inner.Spots.{elements_of}
 use Rattle.view.proofs.ShownLaws.{keys-placed, ordered-distinct, shown-ordered}
 use Rattle.view.proofs.view.shown_of.Goals as goal
 

@@ -1,7 +1,7 @@
 use Rattle.std.proofs.Common.{◌≡◌, sym, ap, ◌∙◌}
 use Rattle.std.proofs.lemmas.Slice.Eq.{bytes_eq-Decides}
 use Rattle.elem.specs.ElementValue.{ElementValue}
-use Rattle.elem_store.proofs.Edits.{element-at}
+use Rattle.elem_store.proofs.CallerLemmas.{element-at}
 use Rattle.view.proofs.view.stored_at.Goals as goal
 
 pub returns-then-eq : goal.returns-then-eq

@@ -1,5 +1,6 @@
 use Rattle.std.proofs.Common.{◌≡◌, subst, sym, ap, ◌∙◌}
-use Rattle.view.specs.Shown.{live_elements, all_as_stored, shown, HaveKeysOrNone, IsView}
+use Rattle.index_repair.specs.Keyed.{HaveKeysOrNone}
+use Rattle.view.specs.Shown.{live_elements, all_as_stored, shown, IsView}
 use Rattle.view.proofs.Originals.{all_as_stored-live}
 use Rattle.view.proofs.ShownLaws.{live-distinct, live_elements-live, live_elements-rise}
 use Rattle.view.proofs.view.view_of.Goals as goal

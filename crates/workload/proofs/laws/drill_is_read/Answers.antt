@@ -1,4 +1,4 @@
-use Rattle.session_text.proofs.Kept.{session-kept}
+use Rattle.session_text.proofs.CallerLemmas.{session-kept}
 use Rattle.workload.specs.Drills.{drill_session}
 use Rattle.workload.specs.Texts.{drill_text}
 use Rattle.workload.proofs.SessionLaws.{drill-read, drill-is, picks-all}

@@ -1,16 +1,15 @@
 use Rattle.std.proofs.Common.{◌≡◌, ◌+◌, ℕ, refl, sym, ap, ap₂, ◌∙◌, arith, append-nil}
-use Rattle.session.specs.Worlds.{generator_of}
 use Rattle.workload.specs.Deeds.{messages_of, course, Course}
 use Rattle.workload.specs.Draws.{after_draws}
 use Rattle.workload.proofs.DeedLaws.{next_deed, course-next, lines-next, messages-few, some-more}
 use Rattle.workload.proofs.making.push_events.Goals as goal
 
 pub loop-number-init : goal.loop-number-init
-unfolding course generator_of
+unfolding course
 loop-number-init c = record {
   lines = sym (append-nil c.args.out.now.items);
   made = refl;
-  generator = c.seed_from_u64-generator.ensures;
+  generator = c.generator_of-generator.ensures;
   few = omega arith;
   some = λ h. absurd (omega arith);
 }

@@ -1,7 +1,7 @@
 use Rattle.std.proofs.Common.{◌<◌, ◌++◌, ℕ, List, decimal, get_or, sym, ap, ◌∙◌, length, map, take_all, arith}
 use Rattle.std.proofs.lemmas.Grind.{get_or_default_zero}
 use Rattle.std.specs.List.{join_with_byte}
-use Rattle.scene_json.proofs.Appended.{mapped-step}
+use Rattle.scene_json.proofs.CallerLemmas.{mapped-step}
 use Rattle.workload.proofs.texts.push_numbers.Goals as goal
 
 pub loop-i-preserved : goal.loop-i-preserved

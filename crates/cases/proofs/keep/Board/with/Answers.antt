@@ -6,7 +6,7 @@ use Rattle.elem.specs.ElementValue.{ElementValue}
 use Rattle.elem.specs.Order.{has_id}
 use Rattle.elem_store.specs.Updates.{element_of, ids_of, is_taken, HasTaken}
 use Rattle.live_view.specs.Changes.{AreSameButAt}
-use Rattle.live_view.proofs.Followed.{if_live, element-live}
+use Rattle.live_view.proofs.CallerLemmas.{if_live, element-live}
 use Rattle.view.specs.Shown.{live_elements}
 use Rattle.cases.proofs.keep.Board.with.Goals as goal
 

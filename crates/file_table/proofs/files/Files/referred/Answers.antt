@@ -2,7 +2,7 @@ use Rattle.std.proofs.Common.{bytes_eq, sym, ap, ◌∙◌, subst}
 use Rattle.std.specs.List.{IsDistinct}
 use Rattle.json_text.specs.Members.{pairs}
 use Rattle.json_text.specs.Parts.{names_of}
-use Rattle.first_texts.specs.FirstOccurrences.{first_texts}
+use Rattle.json_text.specs.FirstOccurrences.{first_texts}
 use Rattle.elem.specs.Texts.{sorted_members}
 use Rattle.file_table.specs.References.{referred_files}
 use Rattle.file_table.specs.Table.{EntriesNest}

@@ -1,14 +1,14 @@
 use Rattle.std.proofs.Common.{◌≡◌, ◌∷◌, [], not, ◌&&◌, ◌||◌, insert, sym, ap, ap₂, ◌∙◌, subst, subst₂}
 use Rattle.elem.specs.ElementValue.{ElementValue}
 use Rattle.elem_store.specs.Places.{IsGapFor}
-use Rattle.elem_store.proofs.Edits.{element-gap}
+use Rattle.elem_store.proofs.CallerLemmas.{element-gap}
 use Rattle.links.specs.Rows.{has_row}
 use Rattle.view.specs.Shown.{IsView}
-use Rattle.live_view.specs.Coming.{rekeyed, IsComing}
+use Rattle.live_view.specs.inner.Coming.{rekeyed, IsComing}
 use Rattle.live_view.specs.Putting.{all_put}
 use Rattle.live_view.specs.Reached.{HaveRowsOf}
 use Rattle.live_view.specs.Replacing.{HaveReplaced}
-use Rattle.live_view.specs.Runs.{stored_keys, AreKeysWith}
+use Rattle.live_view.specs.inner.Runs.{stored_keys, AreKeysWith}
 use Rattle.live_view.proofs.ComingLaws.{HaveReplaced-with, IsView-with, fits-with'}
 use Rattle.live_view.proofs.RowLaws.{rows-with}
 use Rattle.live_view.proofs.kept.Kept.come.Goals as goal

@@ -1,4 +1,4 @@
-use Rattle.view.proofs.ShownLaws.{HaveDistinctIds-rising}
+use Rattle.view.proofs.CallerLemmas.{HaveDistinctIds-rising}
 use Rattle.live_view.proofs.kept.Kept.copied.Goals as goal
 
 pub table_of-requires : goal.table_of-requires

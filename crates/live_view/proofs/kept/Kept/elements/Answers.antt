@@ -1,4 +1,4 @@
-use Rattle.view.proofs.ShownLaws.{IsViewOf-from}
+use Rattle.view.proofs.CallerLemmas.{IsViewOf-from}
 use Rattle.live_view.proofs.kept.Kept.elements.Goals as goal
 
 pub returns-clause-keys : goal.returns-clause-keys

@@ -1,5 +1,5 @@
 use Rattle.std.proofs.Common.{take}
-use Rattle.live_view.specs.Following.{HaveFollowed}
+use Rattle.live_view.specs.inner.Following.{HaveFollowed}
 use Rattle.live_view.proofs.kept.Kept.follow_each.Given as goal
 
 -- those so far are followed

@@ -2,10 +2,10 @@ use Rattle.std.proofs.Common.{◌≡◌, [], ◌∷◌, not, ◌&&◌, ◌||◌,
 use Rattle.std.proofs.lemmas.Option.{slice_get_within}
 use Rattle.elem.specs.ElementValue.{ElementValue}
 use Rattle.elem_store.specs.Places.{IsAt}
-use Rattle.elem_store.proofs.Edits.{element-at}
+use Rattle.elem_store.proofs.CallerLemmas.{element-at}
 use Rattle.links.specs.Rows.{has_row}
 use Rattle.view.specs.Shown.{IsView}
-use Rattle.live_view.specs.Coming.{rekeyed, HasGone}
+use Rattle.live_view.specs.inner.Coming.{rekeyed, HasGone}
 use Rattle.live_view.specs.Putting.{all_put}
 use Rattle.live_view.specs.Reached.{HaveRowsOf}
 use Rattle.live_view.proofs.ComingLaws.{HasGone-without, IsView-without, fits-without', all-within, gone-already}

@@ -1,7 +1,7 @@
 use Rattle.std.proofs.Common.{ap, ◌∙◌}
 use Rattle.std.proofs.lemmas.Result.{on_ok_weaker}
-use Rattle.elem_store.proofs.StoreLaws.{AreStored-itself}
-use Rattle.undoing.proofs.TakenLaws.{taken_all-is}
+use Rattle.elem_store.proofs.CallerLemmas.{AreStored-itself}
+use Rattle.undoing.proofs.CallerLemmas.{taken_all-is}
 use Rattle.view.specs.Shown.{live_elements}
 use Rattle.live_view.proofs.live.LiveView.take.Goals as goal
 

@@ -1,6 +1,6 @@
 use Rattle.std.proofs.Common.{◌≡◌, true, false, refl, sym, ap, ◌∙◌}
 use Rattle.room_core.specs.Rooms.{RoomState, is_among}
-use Rattle.room_core.proofs.Steps.{step-opened, step-text, step-ignored, step-closed}
+use Rattle.room_core.proofs.Steps.{heard-rises, step-opened, step-text, step-ignored, step-closed}
 use Rattle.room_core.proofs.room.Room.step.Goals as goal
 
 pub returns-in-Opened-clause-stepped : goal.returns-in-Opened-clause-stepped
@@ -22,3 +22,7 @@ returns-else-has_link-clause-stepped c =
 pub returns-in-Closed-clause-stepped : goal.returns-in-Closed-clause-stepped
 returns-in-Closed-clause-stepped c =
     rw (← c.self.view_is, c.in-Closed.is) (step-closed _ _ c.in-Closed.link c.new-in-Closed.result refl c.remove_links.ensures.left c.new-in-Closed.ensures)
+
+pub invariant_of-self-then-has_link : goal.invariant_of-self-then-has_link
+invariant_of-self-then-has_link c =
+    (c.self.invariant.0, heard-rises _ _ c.in-Text.link c.in-Text.bytes _ c.hear.result c.self.invariant.1 c.hear.ensures.heard c.hear.ensures.err)

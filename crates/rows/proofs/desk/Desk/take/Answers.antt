@@ -2,7 +2,7 @@
 use Rattle.std.proofs.Common.{◌≡◌, [], ◌∷◌, sym, subst}
 use Rattle.elem_store.specs.Updates.{HasTaken}
 use Rattle.snapshot.specs.Touched.{AreUntouched, HasTouched}
-use Rattle.snapshot.proofs.TouchedLaws.{untouched-grown}
+use Rattle.snapshot.proofs.CallerLemmas.{untouched-grown}
 use Rattle.rows.specs.Desks.{IsDesk}
 use Rattle.rows.proofs.DeskLaws.{either-way, taken-desk, taken-untouched}
 use Rattle.rows.proofs.desk.Desk.take.Goals as goal

@@ -2,7 +2,7 @@
 use Rattle.std.proofs.Common.{◌≡◌, Ok, Contains, ap, ◌∙◌, subst}
 use Rattle.history.specs.declared.step.Step.{Step}
 use Rattle.history.specs.Stacks.{Stacks, noted, put_step}
-use Rattle.history.proofs.PlanLaws.{noted-none}
+use Rattle.history.proofs.CallerLemmas.{noted-none}
 use Rattle.rows.proofs.DeskLaws.{planned-desk}
 use Rattle.rows.proofs.desk.Desk.undo_planned.Goals as goal
 

@@ -1,5 +1,5 @@
 use Rattle.std.proofs.Common.{None, sym, subst, ap₂}
-use Rattle.scene_json.proofs.Lookups.{rising_none}
+use Rattle.scene_json.proofs.CallerLemmas.{rising_none}
 use Rattle.scene_file.specs.Heads.{IsHeading}
 use Rattle.scene_file.proofs.head.Head.new.Goals as goal
 

@@ -1,6 +1,6 @@
 use Rattle.std.proofs.Common.{◌+◌, sym, ap, subst}
 use Rattle.session.specs.declared.seat.Seat.{Seat as KeptSeat}
-use Rattle.session.specs.Standing.{SeatStandsFor}
+use Rattle.session.specs.inner.Standing.{SeatStandsFor}
 use Rattle.session.specs.Worlds.{delivered}
 use Rattle.session.proofs.SeatLaws.{delivered-stands}
 use Rattle.session.proofs.seat.Seat.deliver.Goals as goal

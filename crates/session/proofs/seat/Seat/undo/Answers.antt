@@ -1,11 +1,11 @@
 use Rattle.std.proofs.Common.{◌≡◌, ◌+◌, Some, None, Ok, Err, length, sym, ap, ◌∙◌, subst, add-zero}
 use Rattle.history.specs.Stacks.{OnFull}
-use Rattle.effects.specs.declared.command.Refusal.TheVariants.{VersionFull}
+use Rattle.effects.specs.declared.refusal.Refusal.TheVariants.{VersionFull}
 use Rattle.replica.specs.Standing.{ReplicaStandsFor}
 use Rattle.replica.specs.State.{State, IsStepAnswer, undo_on}
 use Rattle.session.specs.declared.seat.Seat.{Seat as KeptSeat}
 use Rattle.session.specs.declared.outcome.Outcome.TheVariants.{Given, Refused}
-use Rattle.session.specs.Standing.{IsActed}
+use Rattle.session.specs.inner.Standing.{IsActed}
 use Rattle.session.specs.Worlds.{undo_of}
 use Rattle.session.proofs.SeatLaws.{acted-stands, refused-stands, undo-told, undo-left, undo_of-held, undo-state}
 use Rattle.session.proofs.seat.Seat.undo.Goals as goal

@@ -1,5 +1,5 @@
 use Rattle.std.proofs.Common.{refl, ◌∙◌, subst}
-use Rattle.session.specs.Standing.{SeatStandsFor}
+use Rattle.session.specs.inner.Standing.{SeatStandsFor}
 use Rattle.session.specs.Worlds.{all_picked, delivered, seat_at}
 use Rattle.session.proofs.WorldLaws.{seat-after, seat-stands}
 use Rattle.session.proofs.world.World.deliver.Goals as goal

@@ -5,8 +5,7 @@ use Rattle.elem_store.specs.Stock.{Stock}
 use Rattle.elem_store.specs.Updates.{element_of, ids_of}
 use Rattle.delta.specs.Pairs.{EntryStandsFor}
 use Rattle.undoing.specs.Carrying.{with_all_put, taken_all}
-use Rattle.undoing.proofs.DifferingLaws.{pending-stands}
-use Rattle.undoing.proofs.TakenLaws.{taken_all-elements}
+use Rattle.undoing.proofs.CallerLemmas.{pending-stands, taken_all-elements}
 use Rattle.snapshot.specs.Pending.{pairs_since}
 use Rattle.snapshot.specs.Touched.{is_among}
 use Rattle.snapshot.proofs.PutLaws.{all-rise}

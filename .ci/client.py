@@ -1,0 +1,101 @@
+"""A WebSocket client of a room (RFC 6455), over Python's standard library alone."""
+import base64
+import hashlib
+import os
+import socket
+import struct
+
+GUID = b"258EAFA5-E914-47DA-95CA-C5AB0DC85B11"
+CONTINUED, TEXT, BINARY, CLOSE, PING, PONG = 0, 1, 2, 8, 9, 10
+
+
+class Refused(Exception):
+    """The handshake was answered with another status than 101, which is told, or with nothing: then it is None."""
+
+    def __init__(self, status):
+        super().__init__(status)
+        self.status = status
+
+
+class Client:
+    def __init__(self, port, origin=None, seconds=20):
+        """Joins the room at this port of the loopback, as a page of an origin or as a program."""
+        self.socket = socket.create_connection(("127.0.0.1", port), seconds)
+        self.came = b""
+        key = base64.b64encode(os.urandom(16))
+        lines = [b"GET / HTTP/1.1", b"Host: 127.0.0.1:%d" % port, b"Connection: Upgrade", b"Upgrade: websocket"]
+        lines += [b"Sec-WebSocket-Version: 13", b"Sec-WebSocket-Key: " + key]
+        lines += [b"Origin: " + origin.encode()] if origin else []
+        self.socket.sendall(b"\r\n".join(lines) + b"\r\n\r\n")
+        answer = self.head()
+        words = answer.split(None, 2)
+        status = int(words[1]) if len(words) > 1 else None
+        accept = base64.b64encode(hashlib.sha1(key + GUID).digest())
+        if status != 101 or b"\r\nsec-websocket-accept: " + accept.lower() not in answer.lower():
+            self.socket.close()
+            raise Refused(status)
+
+    def more(self):
+        """Reads what has come, and tells whether anything did before the end."""
+        try:
+            piece = self.socket.recv(65536)
+        except ConnectionResetError:
+            piece = b""
+        self.came += piece
+        return bool(piece)
+
+    def head(self):
+        """The answer to a handshake up to its empty line, or up to the end."""
+        while b"\r\n\r\n" not in self.came and self.more():
+            pass
+        head, _, self.came = self.came.partition(b"\r\n\r\n")
+        return head
+
+    def take(self, count):
+        while len(self.came) < count:
+            if not self.more():
+                raise EOFError
+        taken, self.came = self.came[:count], self.came[count:]
+        return taken
+
+    def frame(self):
+        """The next frame: whether it is the last of its message, what it is, and its bytes."""
+        first, second = self.take(2)
+        count = second & 127
+        if count > 125:
+            count = int.from_bytes(self.take(2 if count == 126 else 8), "big")
+        return first >> 7, first & 15, self.take(count)
+
+    def receive(self):
+        """The next message, which may come in several frames; None where the link has ended."""
+        message = b""
+        try:
+            while True:
+                is_last, kind, part = self.frame()
+                if kind == PING:
+                    self.send(part, PONG)
+                elif kind == CLOSE:
+                    return None
+                elif kind in (CONTINUED, TEXT, BINARY):
+                    message += part
+                    if is_last:
+                        return message.decode()
+        except EOFError:
+            return None
+
+    def send(self, text, kind=TEXT):
+        """Sends a message in one frame."""
+        part = text.encode() if isinstance(text, str) else text
+        size, mask = len(part), os.urandom(4)
+        head = struct.pack("!BB", 128 | kind, 128 | (size if size < 126 else 126 if size < 65536 else 127))
+        if size >= 126:
+            head += struct.pack("!H" if size < 65536 else "!Q", size)
+        masked = bytes(byte ^ mask[at % 4] for at, byte in enumerate(part))
+        self.socket.sendall(head + mask + masked)
+
+    def leave(self):
+        """Says goodbye, and waits until the link has ended."""
+        self.send(b"", CLOSE)
+        while self.receive() is not None:
+            pass
+        self.socket.close()

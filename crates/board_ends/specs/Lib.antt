@@ -1,0 +1,7 @@
+pub mod CallNumbers
+pub mod Counts
+pub mod Ends
+pub mod Events
+pub mod Memory
+pub mod Script
+pub mod Sure

@@ -1,0 +1,22 @@
+//! The ends by which a board meets the outside: sources, sinks and links, over memory, over scripts and over the system.
+#![tactic(auto)]
+
+mod calls;
+mod ends;
+pub mod laws;
+mod links;
+mod memory;
+mod pieces;
+mod script;
+mod standard;
+mod sure;
+mod whole;
+
+pub use ends::{Failed, Sink, Source};
+pub use links::{LinkError, LinkEvent, Links, SendError};
+pub use memory::{MemSink, MemSource};
+pub use pieces::write_pieces;
+pub use script::ScriptLinks;
+pub use standard::{StdSink, StdSource};
+pub use sure::{SureSink, SureSource};
+pub use whole::{ReadError, read_all, write_all};

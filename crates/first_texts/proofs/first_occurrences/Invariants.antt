@@ -1,6 +1,0 @@
-use Rattle.std.proofs.Common.{◌≡◌, take}
-use Rattle.first_texts.specs.FirstOccurrences.{first_texts}
-use Rattle.first_texts.proofs.first_occurrences.Given as goal
-
-abbrev pub invariant-loop-text : goal.invariant-loop-text
-invariant-loop-text l = l.found.keys ≡ first_texts (take l.text-index l.texts)

@@ -1,8 +1,0 @@
-use Rattle.first_texts.proofs.FirstLaws.{IsDistinct-first_texts, Contains-first_texts}
-use Rattle.first_texts.proofs.laws.first_occurrences_are_the_texts.Goals as goal
-
-pub returns-clause-distinct : goal.returns-clause-distinct
-returns-clause-distinct c = IsDistinct-first_texts
-
-pub returns-clause-same : goal.returns-clause-same
-returns-clause-same c = Contains-first_texts

@@ -1,0 +1,5 @@
+-- The lemmas that crates above cite; nothing else of this folder is cited there.
+pub use Rattle.index_repair.proofs.KeyedLaws.{kept-keys, keyed-elements, keyed-rising, repaired-kept}
+pub use Rattle.index_repair.proofs.Parts.{repaired-cut}
+pub use Rattle.index_repair.proofs.RepairLaws.{AreRepaired-from, all-below, none_between, repaired-law, repaired-rising}
+pub use Rattle.index_repair.proofs.RepairLaws.{repaired_below-law}

@@ -1,0 +1,11 @@
+-- The lemmas that crates above cite; nothing else of this folder is cited there.
+pub use Rattle.links.proofs.Among.{distinct-among}
+pub use Rattle.links.proofs.ArrowLaws.{ArrowsAgree-settled, HaveOneText-settled, NameTargets-settled}
+pub use Rattle.links.proofs.ArrowLaws.{TextsAgree-settled}
+pub use Rattle.links.proofs.Members.{bytes_eq-refl, find-Some, find-map, list_any-from, map-map}
+pub use Rattle.links.proofs.Near.{found-settled, links-alone, near-all, step-to, within-more, within-own, within-step}
+pub use Rattle.links.proofs.RowLaws.{rows_of-named}
+pub use Rattle.links.proofs.SettledLaws.{distinct-texts, links-again, unlinked-links}
+pub use Rattle.links.proofs.Tabled.{list_any-filter, list_any-map, seen-more}
+pub use Rattle.links.proofs.TextLaws.{settled_texts-again}
+pub use Rattle.links.proofs.UnplacedLaws.{links-unplaced}

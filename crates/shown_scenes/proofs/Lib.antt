@@ -1,0 +1,3 @@
+pub mod ShownTexts
+pub mod ShownWhole
+pub mod CallerLemmas

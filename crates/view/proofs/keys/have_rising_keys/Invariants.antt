@@ -1,7 +1,0 @@
-use Rattle.std.proofs.Common.{drop, option_copied}
-use Rattle.view.proofs.RisingKeys.{HaveRisenTo}
-use Rattle.view.proofs.keys.have_rising_keys.Given as goal
-
--- those so far have keys that rise
-abbrev pub invariant-loop-e : goal.invariant-loop-e
-invariant-loop-e l = HaveRisenTo l.elements.items (option_copied l.low) (drop l.e-index l.elements.items)
