@@ -29,7 +29,7 @@ pub(crate) struct Door {
     listener: TcpListener,
     // Somebody may wait to be let in.
     has_callers: bool,
-    // Who waits can't be let in for now.
+    // Who waits can't be let in.
     is_stuck: bool,
 }
 
