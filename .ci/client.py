@@ -3,7 +3,6 @@ import base64
 import hashlib
 import os
 import socket
-import struct
 
 GUID = b"258EAFA5-E914-47DA-95CA-C5AB0DC85B11"
 CONTINUED, TEXT, BINARY, CLOSE, PING, PONG = 0, 1, 2, 8, 9, 10
@@ -17,16 +16,30 @@ class Refused(Exception):
         self.status = status
 
 
+def head_of(port, *more, key=b"dGhlIHNhbXBsZSBub25jZQ=="):
+    """The head of a handshake, with more headers."""
+    lines = [b"GET / HTTP/1.1", b"Host: 127.0.0.1:%d" % port, b"Connection: Upgrade", b"Upgrade: websocket"]
+    lines += [b"Sec-WebSocket-Version: 13", b"Sec-WebSocket-Key: " + key, *(line.encode() for line in more)]
+    return b"\r\n".join(lines) + b"\r\n\r\n"
+
+
+def framed(part, first=0x80 | TEXT, mask=b"\x12\x34\x56\x78", size=None, count=None):
+    """A frame whose first byte this is, its length in the shortest form, in `size` bytes, or said to be `count`."""
+    part = part.encode() if isinstance(part, str) else part
+    count = len(part) if count is None else count
+    size = (0 if count < 126 else 2 if count < 65536 else 8) if size is None else size
+    second = (128 if mask else 0) | {0: count, 2: 126, 8: 127}[size]
+    masked = bytes(byte ^ mask[at % 4] for at, byte in enumerate(part)) if mask else part
+    return bytes([first, second]) + (count.to_bytes(size, "big") if size else b"") + (mask or b"") + masked
+
+
 class Client:
-    def __init__(self, port, origin=None, seconds=20):
-        """Joins the room at this port of the loopback, as a page of an origin or as a program."""
+    def __init__(self, port, origin=None, seconds=20, more=b""):
+        """Joins the room at this port of the loopback, as a page of an origin or as a program, and sends more at once."""
         self.socket = socket.create_connection(("127.0.0.1", port), seconds)
         self.came = b""
         key = base64.b64encode(os.urandom(16))
-        lines = [b"GET / HTTP/1.1", b"Host: 127.0.0.1:%d" % port, b"Connection: Upgrade", b"Upgrade: websocket"]
-        lines += [b"Sec-WebSocket-Version: 13", b"Sec-WebSocket-Key: " + key]
-        lines += [b"Origin: " + origin.encode()] if origin else []
-        self.socket.sendall(b"\r\n".join(lines) + b"\r\n\r\n")
+        self.socket.sendall(head_of(port, *([f"Origin: {origin}"] if origin else []), key=key) + more)
         answer = self.head()
         words = answer.split(None, 2)
         status = int(words[1]) if len(words) > 1 else None
@@ -85,13 +98,7 @@ class Client:
 
     def send(self, text, kind=TEXT):
         """Sends a message in one frame."""
-        part = text.encode() if isinstance(text, str) else text
-        size, mask = len(part), os.urandom(4)
-        head = struct.pack("!BB", 128 | kind, 128 | (size if size < 126 else 126 if size < 65536 else 127))
-        if size >= 126:
-            head += struct.pack("!H" if size < 65536 else "!Q", size)
-        masked = bytes(byte ^ mask[at % 4] for at, byte in enumerate(part))
-        self.socket.sendall(head + mask + masked)
+        self.socket.sendall(framed(text, 128 | kind, os.urandom(4)))
 
     def leave(self):
         """Says goodbye, and waits until the link has ended."""

@@ -1,3 +1,4 @@
 pub mod Moved
 pub mod Opens
+pub mod Safe
 pub mod CallerLemmas

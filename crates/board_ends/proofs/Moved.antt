@@ -1,4 +1,4 @@
-use Rattle.std.proofs.Common.{◌≡◌, ℕ, ◌+◌, ◌-◌, ◌<◌, ◌≤◌, List, [], ◌++◌, length, take, drop, get_or, flat_map, Option, Some, None, append_assoc, take-add, ap, sym, subst, arith, ◌∙◌}
+use Rattle.std.proofs.Common.{◌≡◌, ℕ, ◌+◌, ◌-◌, ◌<◌, ◌≤◌, List, [], ◌++◌, length, take, drop, get_or, flat_map, Option, Some, None, append_assoc, append-nil, take-add, refl, ap, sym, subst, arith, ◌∙◌}
 use Rattle.std.proofs.Math.Seq.{take-append-add}
 use Rattle.std.proofs.lemmas.List.{take-take, take-append-drop, take-append-le, length-append, drop-drop, take_more, flat_map_more}
 use Rattle.std.proofs.lemmas.Grind.{common_steps, flat_map-append}
@@ -28,6 +28,11 @@ pub Gave-part : (first middle last : Option (List ℕ)) (x y : List ℕ) (room :
 Gave-part first middle last x y room given (n, within, more) =
     (x ++ take n y, grind (arith, common_steps), Gave-more first middle last x (take n y) given more)
 
+-- Nothing was taken where nothing happened.
+pub Took-none : (held : Option (List ℕ)) → Took held held []
+Took-none None = refl
+Took-none (Some held) = ap Some (sym (append-nil held))
+
 -- What two writes take is taken one after the other.
 pub Took-more : (first middle last : Option (List ℕ)) (x y : List ℕ) → Took first middle x → Took middle last y → Took first last (x ++ y)
 Took-more None middle last x y taken more = more ∙ ap (option_map (λ held. held ++ y)) taken
@@ -53,6 +58,12 @@ pieces-at f xs i d within =
     ap (flat_map f) (sym (take-append-drop (i + 1) xs))
     ∙ (flat_map-append f (take (i + 1) xs) (drop (i + 1) xs)
     ∙ (ap (λ t. t ++ rest) front ∙ append_assoc (flat_map f (take i xs)) (f (get_or xs i d)) rest))
+
+-- Where the pieces of a line before one were taken and then that one, the line up to behind it is taken.
+pub Took-piece : {X : Type 0} (f : X → List ℕ) (xs : List X) (i : ℕ) (d : X) (first middle last : Option (List ℕ)) → i < length xs → Took first middle (flat_map f (take i xs)) → Took middle last (f (get_or xs i d)) → Took first last (flat_map f (take (i + 1) xs))
+Took-piece f xs i d first middle last within taken more =
+    let front : flat_map f (take (i + 1) xs) ≡ flat_map f (take i xs) ++ f (get_or xs i d) = ap (flat_map f) (take_more xs i d within) ∙ sym (flat_map_more f [] (take i xs) (get_or xs i d)) in
+    subst (Took first last) (sym front) (Took-more first middle last (flat_map f (take i xs)) (f (get_or xs i d)) taken more)
 
 -- Where the pieces of a line before one were taken and a first part of that one, a first part of the line is taken.
 pub pieces-part : {X : Type 0} (f : X → List ℕ) (xs : List X) (i : ℕ) (d : X) (first middle last : Option (List ℕ)) → i < length xs → Took first middle (flat_map f (take i xs)) → (n : ℕ) × (n ≤ length (f (get_or xs i d))) × Took middle last (take n (f (get_or xs i d)))

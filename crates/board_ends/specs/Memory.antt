@@ -27,9 +27,9 @@ pub record MemSinkState : Type 0 where
   pub writes : CallNumbers
   pub faults : ℕ
 
--- what is seen of it: it tells all bytes that it took
+-- what is seen of it: it tells all bytes that it took, which are safe at once
 abbrev pub sink_end : MemSinkState → SinkEnd
-sink_end sink = record { held = Some sink.held; faults = sink.faults }
+sink_end sink = record { held = Some sink.held; safe = Some (length sink.held); faults = sink.faults }
 
 -- whether the piece has a byte and the sink has no room for it
 abbrev pub is_full : MemSinkState → List ℕ → Bool

@@ -3,6 +3,7 @@
 
 mod calls;
 mod ends;
+mod journal;
 pub mod laws;
 mod links;
 mod memory;
@@ -12,7 +13,8 @@ mod standard;
 mod sure;
 mod whole;
 
-pub use ends::{Failed, Sink, Source};
+pub use ends::{Failed, Journal, Sink, Source};
+pub use journal::MemJournal;
 pub use links::{LinkError, LinkEvent, Links, SendError};
 pub use memory::{MemSink, MemSource};
 pub use pieces::write_pieces;

@@ -1,13 +1,13 @@
 //! A source and a sink over memory, with faults at chosen calls.
 
-ghost use Rattle.std.specs.Prelude.{◌≡◌, ◌+◌, ◌<◌, ◌≤◌, ◌++◌, ◌||◌, [], min, length, take, drop, Some, IfOk, OnOk, OnErr, is_err};
+ghost use Rattle.std.specs.Prelude.{◌≡◌, ◌+◌, ◌<◌, ◌≤◌, ◌++◌, ◌||◌, [], min, length, take, drop, Some, IfOk, OnOk, OnErr, IsOk, is_err};
 ghost use Rattle.board_ends.specs.Counts.{one_more, Rose};
 ghost use Rattle.board_ends.specs.CallNumbers.{from_first, is_listed, after_call};
-ghost use Rattle.board_ends.specs.Ends.{Gave, Took, IsAtEnd};
+ghost use Rattle.board_ends.specs.Ends.{Gave, Took, KeepsSafe, IsSafeHeld, IsSynced, IsAtEnd};
 ghost use Rattle.board_ends.specs.Memory.{source_end, sink_end, given_count, taken_count, is_full};
 
 use crate::calls::Calls;
-use crate::ends::{Failed, Sink, Source};
+use crate::ends::{Failed, Journal, Sink, Source};
 use board_base::{Bytes, List};
 use std::alloc::{AllocError, Global};
 use std::marker::Model;
@@ -95,7 +95,7 @@ pub(crate) fn copy_front(from: &[u8], to: &mut [u8], most: usize) -> usize
     n
 }
 
-/// A sink that keeps what it takes, and fails at chosen writes and where its room is full.
+/// A sink that keeps what it takes, and fails at chosen writes and where its room is full. Its bytes are safe at once.
 #[derive(Drop)]
 pub struct MemSink {
     held: Vec<u8>,
@@ -143,6 +143,14 @@ impl MemSink {
     {
         self.held.as_slice()
     }
+
+    /// Counts one more fault.
+    pub(crate) fn count_fault(&mut self)
+        ensures one_more { self.new ≡ record self.old { faults = one_more self.old.faults } }
+        ensures counted { self.old.faults ≤ self.new.faults }
+    {
+        self.faults = self.faults.saturating_add(1);
+    }
 }
 
 impl Sink for MemSink {
@@ -165,17 +173,35 @@ impl Sink for MemSink {
         ensures taken { IfOk result (λ n. Took (sink_end self.old) (sink_end self.new) (take n piece.now)) }
         ensures failed { OnErr result (Rose self.old.faults self.new.faults) }
         ensures unmoved { OnErr result (Some self.new.held ≡ Some self.old.held) }
+        ensures safe { KeepsSafe (sink_end self.old) (sink_end self.new) }
+        ensures safe_held { IsSafeHeld (sink_end self.new) }
         ensures counted { self.old.faults ≤ self.new.faults }
     {
         let is_listed = self.writes.is_listed();
         self.writes.advance();
         let space = self.room - self.held.len();
         if is_listed || (!piece.is_empty() && space == 0) {
-            self.faults = self.faults.saturating_add(1);
+            self.count_fault();
             return Err(Failed);
         }
         let n = piece.len().min(self.chunk.min(space));
         self.held.extend_from_slice(&piece[..n]).unwrap();
         Ok(n)
+    }
+}
+
+impl Journal for MemSink {
+    fn sync(&mut self) -> Result<(), Failed>
+        ensures sure { IsOk result }
+        ensures kept { self.new ≡ self.old }
+
+        ensures ok { OnOk result (IsSynced (sink_end self.new)) }
+        ensures failed { OnErr result (Rose self.old.faults self.new.faults) }
+        ensures held { Some self.new.held ≡ Some self.old.held }
+        ensures safe { KeepsSafe (sink_end self.old) (sink_end self.new) }
+        ensures safe_held { IsSafeHeld (sink_end self.new) }
+        ensures counted { self.old.faults ≤ self.new.faults }
+    {
+        Ok(())
     }
 }

@@ -2,9 +2,9 @@
 
 ghost use Rattle.std.specs.Prelude.{◌≡◌, ◌<◌, ◌≤◌, IfOk, OnOk, OnErr, length, take};
 ghost use Rattle.board_ends.specs.Counts.{one_more, Rose};
-ghost use Rattle.board_ends.specs.Ends.{Gave, Took, IsAtEnd, untold_source, untold_sink};
+ghost use Rattle.board_ends.specs.Ends.{Gave, Took, KeepsSafe, IsSafeHeld, IsSynced, IsAtEnd, untold_source, untold_sink};
 
-use crate::ends::{Failed, Sink, Source};
+use crate::ends::{Failed, Journal, Sink, Source};
 use std::io::{ErrorKind, Read, Write};
 use std::marker::Model;
 
@@ -71,8 +71,8 @@ fn read_retrying<R: Read>(inner: &mut R, buf: &mut [u8]) -> Result<usize, Failed
     Err(Failed)
 }
 
-/// A sink over a writer. It tells no content. A write that is interrupted is tried again at most 1,000 times, and one
-/// that takes no byte of a piece that has one is a failure.
+/// A sink over a writer, and a journal through the writer's flush. It tells no content. A call that is interrupted is tried
+/// again at most 1,000 times, and a write that takes no byte of a piece that has one is a failure.
 #[derive(Drop)]
 pub struct StdSink<W> {
     inner: W,
@@ -94,6 +94,19 @@ impl<W: Write> StdSink<W> {
     {
         StdSink { inner, faults: 0 }
     }
+
+    /// Flushes the writer. A flush that is interrupted is tried again at most 1,000 times, and no other failed one ever is.
+    pub fn flush(&mut self) -> Result<(), Failed>
+        ensures same { OnOk result (self.new ≡ self.old) }
+        ensures one_more { OnErr result (self.new ≡ one_more self.old) }
+        ensures counted { self.old ≤ self.new }
+    {
+        let flushed = flush_retrying(&mut self.inner);
+        if flushed.is_err() {
+            self.faults = self.faults.saturating_add(1);
+        }
+        flushed
+    }
 }
 
 impl<W: Write> Sink for StdSink<W> {
@@ -108,6 +121,8 @@ impl<W: Write> Sink for StdSink<W> {
         ensures taken { IfOk result (λ n. Took (untold_sink self.old) (untold_sink self.new) (take n piece.now)) }
         ensures failed { OnErr result (Rose self.old self.new) }
         ensures unmoved { OnErr result ((untold_sink self.new).held ≡ (untold_sink self.old).held) }
+        ensures safe { KeepsSafe (untold_sink self.old) (untold_sink self.new) }
+        ensures safe_held { IsSafeHeld (untold_sink self.new) }
         ensures counted { self.old ≤ self.new }
     {
         let written = write_retrying(&mut self.inner, piece);
@@ -127,6 +142,34 @@ fn write_retrying<W: Write>(inner: &mut W, piece: &[u8]) -> Result<usize, Failed
         match inner.write(piece) {
             Ok(0) if !piece.is_empty() => break,
             Ok(n) => return Ok(n),
+            Err(error) if error.kind() == ErrorKind::Interrupted => {}
+            Err(_) => break,
+        }
+    }
+    Err(Failed)
+}
+
+impl<W: Write> Journal for StdSink<W> {
+    fn sync(&mut self) -> Result<(), Failed>
+        ensures same { OnOk result (self.new ≡ self.old) }
+        ensures one_more { OnErr result (self.new ≡ one_more self.old) }
+
+        ensures ok { OnOk result (IsSynced (untold_sink self.new)) }
+        ensures failed { OnErr result (Rose self.old self.new) }
+        ensures held { (untold_sink self.new).held ≡ (untold_sink self.old).held }
+        ensures safe { KeepsSafe (untold_sink self.old) (untold_sink self.new) }
+        ensures safe_held { IsSafeHeld (untold_sink self.new) }
+        ensures counted { self.old ≤ self.new }
+    {
+        self.flush()
+    }
+}
+
+/// Flushes once, and again where the flush was interrupted.
+fn flush_retrying<W: Write>(inner: &mut W) -> Result<(), Failed> {
+    for _ in 0..=RETRIES {
+        match inner.flush() {
+            Ok(()) => return Ok(()),
             Err(error) if error.kind() == ErrorKind::Interrupted => {}
             Err(_) => break,
         }

@@ -1,11 +1,11 @@
 //! A source and a sink that never fail.
 
-ghost use Rattle.std.specs.Prelude.{◌≡◌, ◌<◌, ◌≤◌, min, length, take, drop, Some, IfOk, IsOk, OnErr};
+ghost use Rattle.std.specs.Prelude.{◌≡◌, ◌<◌, ◌≤◌, min, length, take, drop, Some, IfOk, OnOk, IsOk, OnErr};
 ghost use Rattle.board_ends.specs.Counts.{Rose};
-ghost use Rattle.board_ends.specs.Ends.{Gave, Took, IsAtEnd};
+ghost use Rattle.board_ends.specs.Ends.{Gave, Took, KeepsSafe, IsSafeHeld, IsSynced, IsAtEnd};
 ghost use Rattle.board_ends.specs.Sure.{sure_source_end, sure_sink_end};
 
-use crate::ends::{Failed, Sink, Source};
+use crate::ends::{Failed, Journal, Sink, Source};
 use crate::memory::copy_front;
 use board_base::Bytes;
 use std::marker::Model;
@@ -104,8 +104,26 @@ impl Sink for SureSink {
         ensures taken { IfOk result (λ n. Took (sure_sink_end self.old) (sure_sink_end self.new) (take n piece.now)) }
         ensures failed { OnErr result (Rose 0 0) }
         ensures unmoved { OnErr result ((sure_sink_end self.new).held ≡ (sure_sink_end self.old).held) }
+        ensures safe { KeepsSafe (sure_sink_end self.old) (sure_sink_end self.new) }
+        ensures safe_held { IsSafeHeld (sure_sink_end self.new) }
         ensures counted { 0 ≤ 0 }
     {
         Ok(piece.len().min(self.chunk))
+    }
+}
+
+impl Journal for SureSink {
+    fn sync(&mut self) -> Result<(), Failed>
+        ensures sure { IsOk result }
+        ensures kept { self.new ≡ self.old }
+
+        ensures ok { OnOk result (IsSynced (sure_sink_end self.new)) }
+        ensures failed { OnErr result (Rose 0 0) }
+        ensures held { (sure_sink_end self.new).held ≡ (sure_sink_end self.old).held }
+        ensures safe { KeepsSafe (sure_sink_end self.old) (sure_sink_end self.new) }
+        ensures safe_held { IsSafeHeld (sure_sink_end self.new) }
+        ensures counted { 0 ≤ 0 }
+    {
+        Ok(())
     }
 }

@@ -2,7 +2,7 @@
 
 ghost use Rattle.std.specs.Prelude.{◌≡◌, ◌≢◌, ℕ, ◌+◌, ◌<◌, ◌≤◌, ◌++◌, List, length, take, IfOk, OnOk, OnErr, vec_len};
 ghost use Rattle.board_ends.specs.Counts.{Rose};
-ghost use Rattle.board_ends.specs.Ends.{Gave, Took, IsAtEnd};
+ghost use Rattle.board_ends.specs.Ends.{Gave, Took, KeepsSafe, IsSafeHeld, IsAtEnd};
 
 use crate::ends::{Failed, Sink, Source};
 use board_base::{Bytes, Stop};
@@ -91,6 +91,8 @@ pub fn write_all<K: Sink>(sink: &mut K, bytes: &[u8]) -> Result<(), Failed>
     ensures ok { OnOk result (Took (K.seen sink.old) (K.seen sink.new) bytes.now) }
     ensures failed { OnErr result (Rose (K.seen sink.old).faults (K.seen sink.new).faults) }
     ensures part { OnErr result ((n : ℕ) × (n ≤ length bytes.now) × Took (K.seen sink.old) (K.seen sink.new) (take n bytes.now)) }
+    ensures safe { KeepsSafe (K.seen sink.old) (K.seen sink.new) }
+    ensures safe_held { IsSafeHeld (K.seen sink.old) → IsSafeHeld (K.seen sink.new) }
     ensures counted { (K.seen sink.old).faults ≤ (K.seen sink.new).faults }
 {
     let mut out = 0;

@@ -1,15 +1,17 @@
 //! Calls below the top one, each asked for by a member of its name.
 
+use crate::again::push_again;
 use crate::deliver::push_delivered;
 use crate::elements::{push_applied, push_clashes, push_compared, push_element_of, push_message};
 use crate::fed::{push_cut, push_fed};
 use crate::follow::push_followed;
 use crate::given::is_given;
-use crate::keep::push_kept;
+use crate::keep::{push_kept, push_viewed};
 use crate::keys::{
     push_between, push_is_key, push_n_between, push_repaired, push_rising, push_walk,
 };
 use crate::scenes::push_scene;
+use crate::served::push_served;
 use crate::values::{
     push_default, push_first, push_pretty, push_restored, push_scanned, push_taken_apart,
 };
@@ -71,10 +73,27 @@ fn push_value_call(
         push_default(alloc, line, value)
     } else if let Some(value) = value_named(case, "first") {
         push_first(alloc, line, value)
-    } else if let Some(value) = value_named(case, "follow") {
+    } else {
+        push_board_call(alloc, line, case)
+    }
+}
+
+/// Appends what a call on views, replicas or rooms gave.
+fn push_board_call(
+    alloc: Global,
+    line: &mut Vec<u8>,
+    case: &List<Member>,
+) -> Result<(), Stop<Text>> {
+    if let Some(value) = value_named(case, "follow") {
         push_followed(alloc, line, value)
     } else if let Some(value) = value_named(case, "update") {
         push_kept(alloc, line, value)
+    } else if let Some(value) = value_named(case, "take") {
+        push_viewed(alloc, line, value)
+    } else if let Some(value) = value_named(case, "again") {
+        push_again(alloc, line, value)
+    } else if is_given(case, "served") {
+        push_served(alloc, line, case)
     } else if is_given(case, "deliver") {
         push_delivered(alloc, line, case)
     } else {

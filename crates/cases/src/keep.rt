@@ -1,4 +1,4 @@
-//! A view that follows updates by their ids, one after the other.
+//! A view that follows updates, one after the other.
 
 use crate::elements::elements_of;
 use crate::given::given;
@@ -65,13 +65,21 @@ impl Board {
         Ok(Board { store, view })
     }
 
+    /// The view, which has taken an update that isn't stored yet.
+    fn taken(self, e: &Element) -> Result<LiveView, AllocError> {
+        let Board { store, view } = self;
+        let (store, mut view) = (store, view);
+        view.take(&store, slice::from_ref(e))?;
+        Ok(view)
+    }
+
     /// What the view shows.
     fn shown(&self) -> &[Element] {
         self.view.elements()
     }
 }
 
-/// Appends the id and the key of each element that a view shows, which has followed the updates of a list.
+/// Appends the id and the key of each element that a view shows, which has followed the updates of a list by their ids.
 pub fn push_kept(alloc: Global, line: &mut Vec<u8>, value: &Raw) -> Result<(), Stop<Text>> {
     let updates = given(elements_of(alloc, value)?, "member update")?;
     let mut board = Board::new(alloc);
@@ -83,8 +91,23 @@ pub fn push_kept(alloc: Global, line: &mut Vec<u8>, value: &Raw) -> Result<(), S
     Ok(())
 }
 
+/// Appends the id and the key of each element that a view shows, which has followed the updates of a list by their ids, and has
+/// taken the last one before it was stored.
+pub fn push_viewed(alloc: Global, line: &mut Vec<u8>, value: &Raw) -> Result<(), Stop<Text>> {
+    let mut updates = given(elements_of(alloc, value)?, "member take")?.into_vec();
+    let last = given(updates.pop(), "member take")?;
+    let mut board = Board::new(alloc);
+    for e in updates {
+        board = board.with(e)?;
+    }
+    let view = board.taken(&last)?;
+    push_member_of(line, "shown")?;
+    push_keyed(line, view.elements())?;
+    Ok(())
+}
+
 /// Appends the id and the key of each element.
-fn push_keyed(line: &mut Vec<u8>, elements: &[Element]) -> Result<(), AllocError> {
+pub fn push_keyed(line: &mut Vec<u8>, elements: &[Element]) -> Result<(), AllocError> {
     line.push(b'[')?;
     for (i, e) in elements.iter().enumerate() {
         push_comma(line, i)?;

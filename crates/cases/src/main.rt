@@ -2,6 +2,7 @@
 //! and each line of the standard output is what one case was answered with.
 #![tactic(auto)]
 
+mod again;
 mod calls;
 mod deliver;
 mod elements;
@@ -14,6 +15,7 @@ mod keys;
 mod line;
 mod run;
 mod scenes;
+mod served;
 mod sure;
 mod told;
 mod values;

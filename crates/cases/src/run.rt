@@ -159,7 +159,11 @@ fn push_port(line: &mut Vec<u8>, port: Option<u16>) -> Result<(), AllocError> {
 }
 
 /// Appends the pairs of link and text that were sent.
-fn push_sent(alloc: Global, line: &mut Vec<u8>, sent: &[(u64, Bytes)]) -> Result<(), AllocError> {
+pub fn push_sent(
+    alloc: Global,
+    line: &mut Vec<u8>,
+    sent: &[(u64, Bytes)],
+) -> Result<(), AllocError> {
     push_member_of(line, "sent")?;
     line.push(b'[')?;
     for (i, (link, text)) in sent.iter().enumerate() {

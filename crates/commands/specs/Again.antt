@@ -31,10 +31,12 @@ abbrev pub AreStates : List (List ℕ) → List (List ℕ) → Type 0
 AreStates [] [] = Unit {0}
 AreStates [] (state ∷ states) = ⊥
 AreStates (input ∷ inputs) [] = ⊥
-AreStates (input ∷ inputs) (state ∷ states) = IsAnswer State input (Ok state) × AreStates inputs states
+AreStates (input ∷ inputs) (state ∷ states) =
+    IsAnswer State input (Ok state) × AreStates inputs states
 
 -- The states of inputs stand for these: a merge, and each other command over scenes, is resumed from them.
 abbrev pub StatesStandFor : Type 0
 StatesStandFor =
-    (command : Command) (inputs states : List (List ℕ)) (text : List ℕ) → TakesScenes command → AreStates inputs states
+    (command : Command) (inputs states : List (List ℕ)) (text : List ℕ) → TakesScenes command
+    → AreStates inputs states
     → IsAnswer command (concat states) (Ok text) ↔ IsAnswer command (concat inputs) (Ok text)

@@ -33,7 +33,8 @@ abbrev pub heads_of : List Scene → List Heading
 heads_of scenes = map (λ (scene : Scene). scene.head) scenes
 
 -- The board of these scenes has their joined head, and stores of all their updates these elements.
-pub record IsBoardOf (scenes : List Scene) (head : Heading) (stored : List ElementValue) : Type 0 where
+pub record IsBoardOf (scenes : List Scene) (head : Heading)
+    (stored : List ElementValue) : Type 0 where
   pub joined : IsJoinedHead (heads_of scenes) head
   pub stores : AreStored (updates_of scenes) stored
 
@@ -102,7 +103,8 @@ IsMadeOf IsOf bytes text = (scenes : List Scene) × HasScenes bytes scenes × Is
 
 -- What a command answers an input with: this text, or this first fault.
 abbrev pub IsAnswer : Command → List ℕ → Result (List ℕ) Refusal → Type 0
-IsAnswer (Restore layout) bytes (Ok text) = (scene : Scene) × HasScenes bytes (scene ∷ []) × IsShownAs (scene ∷ []) layout text
+IsAnswer (Restore layout) bytes (Ok text) =
+    (scene : Scene) × HasScenes bytes (scene ∷ []) × IsShownAs (scene ∷ []) layout text
 IsAnswer (Restore layout) bytes (Err found) = IsOneRefusal bytes found
 IsAnswer (Merge layout) bytes (Ok text) = IsMadeOf (λ scenes. IsShownAs scenes layout) bytes text
 IsAnswer (Merge layout) bytes (Err found) = IsRefusal bytes found
@@ -126,4 +128,5 @@ pub record HaveSameUpdatesAndHeads (bytes others : List ℕ) : Type 0 where
 abbrev pub Converges : Type 0
 Converges =
     (layout : Layout) (bytes others text other_text : List ℕ) → HaveSameUpdatesAndHeads bytes others
-    → IsAnswer (Merge layout) bytes (Ok text) → IsAnswer (Merge layout) others (Ok other_text) → other_text ≡ text
+    → IsAnswer (Merge layout) bytes (Ok text) → IsAnswer (Merge layout) others (Ok other_text)
+    → other_text ≡ text

@@ -11,6 +11,7 @@ use Rattle.commands.specs.declared.words.Command.{Command}
 abbrev pub HasCause : Fault → Option Command → Span SourceEnd → Span SinkEnd → Type 0
 HasCause fault.Memory command input output = Unit {0}
 HasCause fault.Usage command input output = command ≡ None
-HasCause fault.Read command input output = Rose input.before.faults input.after.faults × GaveWithin input
+HasCause fault.Read command input output =
+    Rose input.before.faults input.after.faults × GaveWithin input
 HasCause fault.Write command input output = WasDoneInPart command input output
 HasCause found command input output = WasRefused command found input

@@ -32,4 +32,5 @@ pub record LeadsToClose (service : Service) (scenes : List Scene)
 abbrev pub IsServedToClose : Service → Ends → Status → Type 0
 IsServedToClose service ends result =
     (bytes : List ℕ) (scenes : List Scene) → HasLeft ends.input.before bytes
-    → HasScenes bytes scenes → NoneRose ends → LeadsToClose service scenes ends.links → (result ≡ Done) ⊎ (result ≡ Memory)
+    → HasScenes bytes scenes → NoneRose ends → LeadsToClose service scenes ends.links
+    → (result ≡ Done) ⊎ (result ≡ Memory)

@@ -95,9 +95,11 @@ pub record IsDrilled (drill : Drill) (text : List ℕ) : Type 0 where
 -- How a run of a drill ends, by its status: its text was written; or a first part of it, where the output's count of faults
 -- rose; or memory was wanted.
 abbrev pub EndsDrilling : Drill → Span SinkEnd → Span SinkEnd → Status → Type 0
-EndsDrilling drill output notes status.Done = (text : List ℕ) × IsDrilled drill text × Took output.before output.after text
+EndsDrilling drill output notes status.Done =
+    (text : List ℕ) × IsDrilled drill text × Took output.before output.after text
 EndsDrilling drill output notes status.WriteFault =
-    ((text : List ℕ) × (n : ℕ) × IsDrilled drill text × Took output.before output.after (take n text))
+    ((text : List ℕ) × (n : ℕ) × IsDrilled drill text
+    × Took output.before output.after (take n text))
     × Rose output.before.faults output.after.faults × Noted fault.Write notes.before notes.after
 EndsDrilling drill output notes status.Memory = Noted fault.Memory notes.before notes.after
 EndsDrilling drill output notes other = ⊥
@@ -108,7 +110,8 @@ pub record AgreeAtEnd (session : Session) (clashes : ℕ) : Type 0 where
   pub replicas : length (last_world session).seats ≡ 4
   pub none : clashes ≡ 0
   pub scenes : (s other : Seat) → Contains (last_world session).seats s
-      → Contains (last_world session).seats other → scene_text (head_of session) (shown_at s) ≡ scene_text (head_of session) (shown_at other)
+      → Contains (last_world session).seats other
+      → scene_text (head_of session) (shown_at s) ≡ scene_text (head_of session) (shown_at other)
   pub told : (of_world session (last_world session) clashes).same ≡ true
 
 -- In every drill, whatever its text is made of, the replicas agree at the end.

@@ -29,7 +29,8 @@ GaveWithin input = (bytes : List ℕ) × (length bytes ≤ limit) × Gave input.
 
 -- The input gave one byte more than the limit.
 abbrev pub GaveTooMuch : Span SourceEnd → Type 0
-GaveTooMuch input = (bytes : List ℕ) × (length bytes ≡ limit + 1) × Gave input.before input.after bytes
+GaveTooMuch input =
+    (bytes : List ℕ) × (length bytes ≡ limit + 1) × Gave input.before input.after bytes
 
 -- The input gave these bytes, within the limit, and is at its end.
 pub record WasRead (input : Span SourceEnd) (bytes : List ℕ) : Type 0 where
@@ -43,7 +44,8 @@ pub record HasLeft (before : SourceEnd) (bytes : List ℕ) : Type 0 where
   pub within : length bytes ≤ limit
 
 -- The command that was asked for answers the input, which was read to its end, with a text, of which so much was written.
-pub record WasAnswered (command : Option Command) (input : Span SourceEnd) (output : Span SinkEnd) (part : List ℕ → List ℕ) : Type 0 where
+pub record WasAnswered (command : Option Command) (input : Span SourceEnd) (output : Span SinkEnd)
+    (part : List ℕ → List ℕ) : Type 0 where
   pub asked : Command
   pub is_asked : command ≡ Some asked
   pub bytes : List ℕ
@@ -59,19 +61,23 @@ WasDone command input output = WasAnswered command input output (λ text. text)
 -- A first part of the text was written, and the output's count of faults rose.
 abbrev pub WasDoneInPart : Option Command → Span SourceEnd → Span SinkEnd → Type 0
 WasDoneInPart command input output =
-    ((n : ℕ) × WasAnswered command input output (take n)) × Rose output.before.faults output.after.faults
+    ((n : ℕ) × WasAnswered command input output (take n))
+    × Rose output.before.faults output.after.faults
 
 -- The input gave one byte more than the limit; or it was read to its end, and the command that was asked for answers it
 -- with this refusal.
 abbrev pub WasRefused : Option Command → Fault → Span SourceEnd → Type 0
 WasRefused command fault.TooLong input = GaveTooMuch input
 WasRefused command (fault.Refused found) input =
-    (asked : Command) × (command ≡ Some asked) × (bytes : List ℕ) × WasRead input bytes × IsAnswer asked bytes (Err found)
+    (asked : Command) × (command ≡ Some asked) × (bytes : List ℕ) × WasRead input bytes
+    × IsAnswer asked bytes (Err found)
 WasRefused command other input = ⊥
 
 -- How a run ends whose input has this answer: Done, and the text was written, or WriteFault, where the output's count of
 -- faults rose; or Refused, and the notes tell the fault.
 abbrev pub EndsWith : Result (List ℕ) Refusal → Status → Span SinkEnd → Span SinkEnd → Type 0
 EndsWith (Ok text) status output notes =
-    ((status ≡ Done) × Took output.before output.after text) ⊎ ((status ≡ WriteFault) × Rose output.before.faults output.after.faults)
-EndsWith (Err found) status output notes = (status ≡ Refused) × Noted (fault.Refused found) notes.before notes.after
+    ((status ≡ Done) × Took output.before output.after text)
+    ⊎ ((status ≡ WriteFault) × Rose output.before.faults output.after.faults)
+EndsWith (Err found) status output notes =
+    (status ≡ Refused) × Noted (fault.Refused found) notes.before notes.after

@@ -50,7 +50,8 @@ line_of fault.Write = codes "board: write fault" ++ newline
 -- The notes gained the line, or a first part of it where their count of faults rose.
 abbrev pub IsNoted : List ℕ → SinkEnd → SinkEnd → Type 0
 IsNoted line before after =
-    Took before after line ⊎ ((n : ℕ) × (n ≤ length line) × Took before after (take n line) × Rose before.faults after.faults)
+    Took before after line ⊎ ((n : ℕ) × (n ≤ length line) × Took before after (take n line)
+    × Rose before.faults after.faults)
 
 -- The notes gained the line of the fault.
 abbrev pub Noted : Fault → SinkEnd → SinkEnd → Type 0

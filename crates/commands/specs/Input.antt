@@ -9,7 +9,8 @@ use Rattle.scene_file.specs.declared.fault.SceneFault.{SceneFault}
 -- These scenes stand at the front, one after the other, each behind white space; the rest follows them.
 abbrev pub ScenesLead : List ℕ → List Scene → List ℕ → Type 0
 ScenesLead bytes [] rest = bytes ≡ rest
-ScenesLead bytes (scene ∷ scenes) rest = (next : List ℕ) × IsSceneAt bytes scene next × ScenesLead next scenes rest
+ScenesLead bytes (scene ∷ scenes) rest =
+    (next : List ℕ) × IsSceneAt bytes scene next × ScenesLead next scenes rest
 
 -- The input is these scenes, of which there is one at least, and then white space.
 pub record HasScenes (bytes : List ℕ) (scenes : List Scene) : Type 0 where

@@ -17,7 +17,8 @@ is_number_within least most word =
 
 -- that number, if the word is one
 abbrev pub number_within : ℕ → ℕ → List ℕ → Option ℕ
-number_within least most word = if is_number_within least most word then Some (digits_value 10 word) else None
+number_within least most word =
+    if is_number_within least most word then Some (digits_value 10 word) else None
 
 -- the service with these numbers in this layout, where all are there
 abbrev pub service_of : Option ℕ → Option ℕ → Option ℕ → Option Layout → Option Service

@@ -40,7 +40,8 @@ room_of stored = record { elements = stored; joined = [] }
 
 -- The text is that of the scene that is shown of these stored elements, and a newline. Its keys rise strictly, and its
 -- elements agree on their links, frames and groups.
-pub record IsSceneOfStored (layout : Layout) (head : Heading) (stored : List ElementValue) (text : List ℕ) : Type 0 where
+pub record IsSceneOfStored (layout : Layout) (head : Heading) (stored : List ElementValue)
+    (text : List ℕ) : Type 0 where
   pub written : List ℕ
   pub scene : IsSceneText layout head (shown_of stored) written
   pub ended : text ≡ written ++ newline

@@ -18,7 +18,9 @@ abbrev pub SayEvents : ℕ → ℕ → List (List ℕ) → List Event → Type 0
 SayEvents replicas made [] [] = Unit {0}
 SayEvents replicas made [] (event ∷ events) = ⊥
 SayEvents replicas made (text ∷ texts) [] = ⊥
-SayEvents replicas made (text ∷ texts) (event ∷ events) = EventText replicas made text (Ok event) × SayEvents replicas (made + messages_of event) texts events
+SayEvents replicas made (text ∷ texts) (event ∷ events) =
+    EventText replicas made text (Ok event)
+    × SayEvents replicas (made + messages_of event) texts events
 
 -- The texts are those of the session so far: its header's, and those of its events, of which there are not too many.
 abbrev pub SaySession : List (List ℕ) → Option Session → Type 0
@@ -26,13 +28,15 @@ SaySession [] None = Unit {0}
 SaySession (text ∷ texts) None = ⊥
 SaySession [] (Some session) = ⊥
 SaySession (text ∷ texts) (Some session) =
-    HeaderText text (Ok (header session.replicas session.seed session.scene)) × SayEvents session.replicas 0 texts session.events × (length session.events ≤ most_events)
+    HeaderText text (Ok (header session.replicas session.seed session.scene))
+    × SayEvents session.replicas 0 texts session.events × (length session.events ≤ most_events)
 
 -- what is seen of a reader of a session: it needs a header, and takes no event behind the greatest number of them
 abbrev pub session_seen : Option Session → Reading TextFault
 session_seen state = record {
   has_read = λ texts. SaySession texts state;
-  refuses = λ texts text fault. SaySession texts state × (is_full state ≡ false) × IsNextFault state text fault;
+  refuses = λ texts text fault. SaySession texts state × (is_full state ≡ false)
+      × IsNextFault state text fault;
   is_full = is_full state;
   needs_text = is_none state;
 }

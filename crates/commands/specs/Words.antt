@@ -39,7 +39,8 @@ asked_service words = None
 
 -- the drill that the words behind `drill` say: a seed, and how many events
 abbrev pub asked_drill : List (List ℕ) → Option Drill
-asked_drill (seed ∷ events ∷ []) = drill_of (number_within 0 9007199254740991 seed) (number_within 1 200000 events)
+asked_drill (seed ∷ events ∷ []) =
+    drill_of (number_within 0 9007199254740991 seed) (number_within 1 200000 events)
 asked_drill words = None
 
 -- what these words ask for, where they are a form of it. This project's own.

@@ -30,16 +30,22 @@ pub(crate) fn answer<S: Source>(
     command: Command,
     input: &mut S,
 ) -> Result<Bytes, Fault>
-    ensures text { IfOk result (λ text. (bytes : Items ℕ) × WasRead (span (S.seen input.old) (S.seen input.new)) bytes
+    ensures text { IfOk result (λ text. (bytes : Items ℕ)
+        × WasRead (span (S.seen input.old) (S.seen input.new)) bytes
         × IsAnswer command bytes (Ok text)) }
     ensures refused { (why : Refusal) → result ≡ Err (Fault.Refused why)
-        → (bytes : Items ℕ) × WasRead (span (S.seen input.old) (S.seen input.new)) bytes × IsAnswer command bytes (Err why) }
-    ensures read_fault { result ≡ Err Fault.Read → Rose (S.seen input.old).faults (S.seen input.new).faults
+        → (bytes : Items ℕ) × WasRead (span (S.seen input.old) (S.seen input.new)) bytes
+        × IsAnswer command bytes (Err why) }
+    ensures read_fault { result ≡ Err Fault.Read
+        → Rose (S.seen input.old).faults (S.seen input.new).faults
         × GaveWithin (span (S.seen input.old) (S.seen input.new)) }
-    ensures too_long { result ≡ Err Fault.TooLong → GaveTooMuch (span (S.seen input.old) (S.seen input.new)) }
-    ensures long { IsSome (S.seen input.old).left → GaveTooMuch (span (S.seen input.old) (S.seen input.new))
+    ensures too_long { result ≡ Err Fault.TooLong
+        → GaveTooMuch (span (S.seen input.old) (S.seen input.new)) }
+    ensures long { IsSome (S.seen input.old).left
+        → GaveTooMuch (span (S.seen input.old) (S.seen input.new))
         → (result ≡ Err Fault.Memory) ⊎ (result ≡ Err Fault.TooLong) }
-    ensures only { IfErr result (λ fault. (fault ≡ Fault.Memory) ⊎ ((fault ≡ Fault.Read) ⊎ ((fault ≡ Fault.TooLong)
+    ensures only { IfErr result (λ fault. (fault ≡ Fault.Memory)
+        ⊎ ((fault ≡ Fault.Read) ⊎ ((fault ≡ Fault.TooLong)
         ⊎ ((why : Refusal) × (fault ≡ Fault.Refused why))))) }
 {
     match command {
@@ -104,7 +110,8 @@ fn pictures_text(alloc: Global, head: &Head, store: &Store) -> Result<Bytes, All
 /// The text of the report of a session, and a newline.
 fn replayed_text(alloc: Global, session: &Session) -> Result<Bytes, AllocError>
     requires { IsSession session.now }
-    ensures { IfOk result (λ text. (written : Items ℕ) × IsReportText session.now written × (text ≡ written ++ newline)) }
+    ensures { IfOk result (λ text. (written : Items ℕ) × IsReportText session.now written
+        × (text ≡ written ++ newline)) }
 {
     let report = replay(alloc, session)?;
     ended(report_text(alloc, &report)?)

@@ -25,9 +25,11 @@ use workload::make_session;
 /// Runs a drill, and writes what it tells.
 pub(crate) fn drill<K: Sink>(alloc: Global, drill: Drill, output: &mut K) -> Result<(), Fault>
     requires { IsDrillWithinLimits drill }
-    ensures done { OnOk result ((text : Items ℕ) × IsDrilled drill text × Took (K.seen output.old) (K.seen output.new) text) }
+    ensures done { OnOk result ((text : Items ℕ) × IsDrilled drill text
+        × Took (K.seen output.old) (K.seen output.new) text) }
     ensures write_fault { result ≡ Err Fault.Write
-        → ((text : Items ℕ) × (n : ℕ) × IsDrilled drill text × Took (K.seen output.old) (K.seen output.new) (take n text))
+        → ((text : Items ℕ) × (n : ℕ) × IsDrilled drill text
+        × Took (K.seen output.old) (K.seen output.new) (take n text))
         × Rose (K.seen output.old).faults (K.seen output.new).faults }
     ensures only { IfErr result (λ fault. (fault ≡ Fault.Memory) ⊎ (fault ≡ Fault.Write)) }
     ensures output_kept { result ≡ Err Fault.Memory → output.new ≡ output.old }
@@ -102,7 +104,8 @@ fn summary(alloc: Global, drill: Drill, report: &Report) -> Result<Bytes, AllocE
 
 /// How many elements the first replica stores, and how many of them are live.
 fn of_first(replicas: &List<ReplicaReport>) -> (u64, u64)
-    ensures stored { result.0 ≡ of_first (λ (replica : ReplicaReport). replica.stored) replicas.now }
+    ensures stored { result.0 ≡ of_first
+        (λ (replica : ReplicaReport). replica.stored) replicas.now }
     ensures live { result.1 ≡ of_first (λ (replica : ReplicaReport). replica.live) replicas.now }
 {
     match replicas.as_slice().first() {
@@ -123,7 +126,8 @@ fn show_one_scene(replicas: &List<ReplicaReport>) -> bool
 
 /// Whether each of these replicas shows this scene.
 fn all_show(scene: &Bytes, replicas: &[ReplicaReport]) -> bool
-    ensures { result ≡ list_all (λ (other : ReplicaReport). bytes_eq other.scene scene.now) replicas.now }
+    ensures { result ≡ list_all
+        (λ (other : ReplicaReport). bytes_eq other.scene scene.now) replicas.now }
 {
     match replicas {
         [] => true,

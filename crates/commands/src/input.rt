@@ -28,16 +28,22 @@ const LIMIT: usize = 67108864;
 
 /// The one scene that the input is.
 pub(crate) fn one_scene<S: Source>(alloc: Global, input: &mut S) -> Result<Scene, Fault>
-    ensures scene { IfOk result (λ scene. (bytes : Items ℕ) × WasRead (span (S.seen input.old) (S.seen input.new)) bytes
+    ensures scene { IfOk result (λ scene. (bytes : Items ℕ)
+        × WasRead (span (S.seen input.old) (S.seen input.new)) bytes
         × HasScenes bytes (scene ∷ [])) }
     ensures refused { (why : Refusal) → result ≡ Err (Fault.Refused why)
-        → (bytes : Items ℕ) × WasRead (span (S.seen input.old) (S.seen input.new)) bytes × IsOneRefusal bytes why }
-    ensures read_fault { result ≡ Err Fault.Read → Rose (S.seen input.old).faults (S.seen input.new).faults
+        → (bytes : Items ℕ) × WasRead (span (S.seen input.old) (S.seen input.new)) bytes
+        × IsOneRefusal bytes why }
+    ensures read_fault { result ≡ Err Fault.Read
+        → Rose (S.seen input.old).faults (S.seen input.new).faults
         × GaveWithin (span (S.seen input.old) (S.seen input.new)) }
-    ensures too_long { result ≡ Err Fault.TooLong → GaveTooMuch (span (S.seen input.old) (S.seen input.new)) }
-    ensures long { IsSome (S.seen input.old).left → GaveTooMuch (span (S.seen input.old) (S.seen input.new))
+    ensures too_long { result ≡ Err Fault.TooLong
+        → GaveTooMuch (span (S.seen input.old) (S.seen input.new)) }
+    ensures long { IsSome (S.seen input.old).left
+        → GaveTooMuch (span (S.seen input.old) (S.seen input.new))
         → (result ≡ Err Fault.Memory) ⊎ (result ≡ Err Fault.TooLong) }
-    ensures only { IfErr result (λ fault. (fault ≡ Fault.Memory) ⊎ ((fault ≡ Fault.Read) ⊎ ((fault ≡ Fault.TooLong)
+    ensures only { IfErr result (λ fault. (fault ≡ Fault.Memory)
+        ⊎ ((fault ≡ Fault.Read) ⊎ ((fault ≡ Fault.TooLong)
         ⊎ ((why : Refusal) × (fault ≡ Fault.Refused why))))) }
 {
     let mut reader = OneScene { read: None };
@@ -53,16 +59,23 @@ pub(crate) fn one_scene<S: Source>(alloc: Global, input: &mut S) -> Result<Scene
 
 /// The board of the scenes that the input is, one at least.
 pub(crate) fn some_board<S: Source>(alloc: Global, input: &mut S) -> Result<(Head, Store), Fault>
-    ensures board { IfOk result (λ board. (bytes : Items ℕ) × WasRead (span (S.seen input.old) (S.seen input.new)) bytes
-        × ((scenes : Items Scene) × HasScenes bytes scenes × IsBoardOf scenes board.0 board.1.elements)) }
+    ensures board { IfOk result (λ board. (bytes : Items ℕ)
+        × WasRead (span (S.seen input.old) (S.seen input.new)) bytes
+        × ((scenes : Items Scene) × HasScenes bytes scenes
+        × IsBoardOf scenes board.0 board.1.elements)) }
     ensures refused { (why : Refusal) → result ≡ Err (Fault.Refused why)
-        → (bytes : Items ℕ) × WasRead (span (S.seen input.old) (S.seen input.new)) bytes × IsRefusal bytes why }
-    ensures read_fault { result ≡ Err Fault.Read → Rose (S.seen input.old).faults (S.seen input.new).faults
+        → (bytes : Items ℕ) × WasRead (span (S.seen input.old) (S.seen input.new)) bytes
+        × IsRefusal bytes why }
+    ensures read_fault { result ≡ Err Fault.Read
+        → Rose (S.seen input.old).faults (S.seen input.new).faults
         × GaveWithin (span (S.seen input.old) (S.seen input.new)) }
-    ensures too_long { result ≡ Err Fault.TooLong → GaveTooMuch (span (S.seen input.old) (S.seen input.new)) }
-    ensures long { IsSome (S.seen input.old).left → GaveTooMuch (span (S.seen input.old) (S.seen input.new))
+    ensures too_long { result ≡ Err Fault.TooLong
+        → GaveTooMuch (span (S.seen input.old) (S.seen input.new)) }
+    ensures long { IsSome (S.seen input.old).left
+        → GaveTooMuch (span (S.seen input.old) (S.seen input.new))
         → (result ≡ Err Fault.Memory) ⊎ (result ≡ Err Fault.TooLong) }
-    ensures only { IfErr result (λ fault. (fault ≡ Fault.Memory) ⊎ ((fault ≡ Fault.Read) ⊎ ((fault ≡ Fault.TooLong)
+    ensures only { IfErr result (λ fault. (fault ≡ Fault.Memory)
+        ⊎ ((fault ≡ Fault.Read) ⊎ ((fault ≡ Fault.TooLong)
         ⊎ ((why : Refusal) × (fault ≡ Fault.Refused why))))) }
 {
     let mut gathered = Gathered::new(alloc);
@@ -76,17 +89,23 @@ pub(crate) fn some_board<S: Source>(alloc: Global, input: &mut S) -> Result<(Hea
 
 /// The session that the input is.
 pub(crate) fn session<S: Source>(alloc: Global, input: &mut S) -> Result<Session, Fault>
-    ensures session { IfOk result (λ session. (bytes : Items ℕ) × WasRead (span (S.seen input.old) (S.seen input.new)) bytes
+    ensures session { IfOk result (λ session. (bytes : Items ℕ)
+        × WasRead (span (S.seen input.old) (S.seen input.new)) bytes
         × IsSessionOf bytes session) }
     ensures kept { IfOk result IsSession }
     ensures refused { (why : Refusal) → result ≡ Err (Fault.Refused why)
-        → (bytes : Items ℕ) × WasRead (span (S.seen input.old) (S.seen input.new)) bytes × IsSessionRefusal bytes why }
-    ensures read_fault { result ≡ Err Fault.Read → Rose (S.seen input.old).faults (S.seen input.new).faults
+        → (bytes : Items ℕ) × WasRead (span (S.seen input.old) (S.seen input.new)) bytes
+        × IsSessionRefusal bytes why }
+    ensures read_fault { result ≡ Err Fault.Read
+        → Rose (S.seen input.old).faults (S.seen input.new).faults
         × GaveWithin (span (S.seen input.old) (S.seen input.new)) }
-    ensures too_long { result ≡ Err Fault.TooLong → GaveTooMuch (span (S.seen input.old) (S.seen input.new)) }
-    ensures long { IsSome (S.seen input.old).left → GaveTooMuch (span (S.seen input.old) (S.seen input.new))
+    ensures too_long { result ≡ Err Fault.TooLong
+        → GaveTooMuch (span (S.seen input.old) (S.seen input.new)) }
+    ensures long { IsSome (S.seen input.old).left
+        → GaveTooMuch (span (S.seen input.old) (S.seen input.new))
         → (result ≡ Err Fault.Memory) ⊎ (result ≡ Err Fault.TooLong) }
-    ensures only { IfErr result (λ fault. (fault ≡ Fault.Memory) ⊎ ((fault ≡ Fault.Read) ⊎ ((fault ≡ Fault.TooLong)
+    ensures only { IfErr result (λ fault. (fault ≡ Fault.Memory)
+        ⊎ ((fault ≡ Fault.Read) ⊎ ((fault ≡ Fault.TooLong)
         ⊎ ((why : Refusal) × (fault ≡ Fault.Refused why))))) }
 {
     let mut reader = OneSession {
@@ -110,14 +129,19 @@ fn read_input<S: Source, R: Reader>(
     reader: &mut R,
 ) -> Result<Option<Stopped<R::Fault>>, Fault>
     requires { (R.seen reader.old).has_read [] }
-    ensures read { IfOk result (λ stopped. (bytes : Items ℕ) × WasRead (span (S.seen input.old) (S.seen input.new)) bytes
+    ensures read { IfOk result (λ stopped. (bytes : Items ℕ)
+        × WasRead (span (S.seen input.old) (S.seen input.new)) bytes
         × AreRead bytes (R.seen reader.new) stopped) }
-    ensures read_fault { result ≡ Err Fault.Read → Rose (S.seen input.old).faults (S.seen input.new).faults
+    ensures read_fault { result ≡ Err Fault.Read
+        → Rose (S.seen input.old).faults (S.seen input.new).faults
         × GaveWithin (span (S.seen input.old) (S.seen input.new)) }
-    ensures too_long { result ≡ Err Fault.TooLong → GaveTooMuch (span (S.seen input.old) (S.seen input.new)) }
-    ensures long { IsSome (S.seen input.old).left → GaveTooMuch (span (S.seen input.old) (S.seen input.new))
+    ensures too_long { result ≡ Err Fault.TooLong
+        → GaveTooMuch (span (S.seen input.old) (S.seen input.new)) }
+    ensures long { IsSome (S.seen input.old).left
+        → GaveTooMuch (span (S.seen input.old) (S.seen input.new))
         → (result ≡ Err Fault.Memory) ⊎ (result ≡ Err Fault.TooLong) }
-    ensures only { IfErr result (λ fault. (fault ≡ Fault.Memory) ⊎ ((fault ≡ Fault.Read) ⊎ (fault ≡ Fault.TooLong))) }
+    ensures only { IfErr result (λ fault. (fault ≡ Fault.Memory)
+        ⊎ ((fault ≡ Fault.Read) ⊎ (fault ≡ Fault.TooLong))) }
 {
     match read_texts(alloc, input, LIMIT, reader) {
         Ok(stopped) => Ok(stopped),

@@ -20,12 +20,14 @@ ghost use Rattle.commands.specs.declared.words.Request.{Request};
 
 /// A command is asked for by its words, and by no others.
 pub fn words_ask()
-    ensures { (command : Command) (words : List (List ℕ)) → (asked words ≡ Some (Request.Answer command)) ↔ (words ≡ words_of command) }
+    ensures { (command : Command) (words : List (List ℕ))
+        → (asked words ≡ Some (Request.Answer command)) ↔ (words ≡ words_of command) }
 {}
 
 /// Each command has an answer to each input, whatever its bytes.
 pub fn answer_exists()
-    ensures { (command : Command) (bytes : List ℕ) → (answer : Result (List ℕ) Refusal) × IsAnswer command bytes answer }
+    ensures { (command : Command) (bytes : List ℕ) → (answer : Result (List ℕ) Refusal)
+        × IsAnswer command bytes answer }
 {}
 
 /// An input has one answer alone.
@@ -36,10 +38,12 @@ pub fn answer_is_unique()
 
 /// The best update of each id makes the text of a merge.
 pub fn merge_is_of_the_best()
-    ensures { (layout : Layout) (bytes text : List ℕ) (scenes : List Scene) (head : Heading) (chosen : List ElementValue)
+    ensures { (layout : Layout) (bytes text : List ℕ) (scenes : List Scene) (head : Heading)
+        (chosen : List ElementValue)
         → HasScenes bytes scenes → IsJoinedHead (heads_of scenes) head
         → AreBest (updates_of scenes) chosen → IsAnswer (Command.Merge layout) bytes (Ok text)
-        → (written : List ℕ) × IsSceneText layout head (shown_of chosen) written × (text ≡ written ++ newline) }
+        → (written : List ℕ) × IsSceneText layout head (shown_of chosen) written
+        × (text ≡ written ++ newline) }
 {}
 
 /// Each drill within its limits tells a text, and one text alone.

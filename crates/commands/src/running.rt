@@ -47,30 +47,41 @@ pub fn board<S: Source, K: Sink, N: Sink, L: Links>(
     // Usage: the words are no form of a command, and nothing is read.
     ensures usage { (result ≡ Status.Usage) ↔ (asked words.now ≡ None) }
     ensures usage_unread { result ≡ Status.Usage
-        → (input.new ≡ input.old) × ((links.new ≡ links.old) × Noted Fault.Usage (N.seen notes.old) (N.seen notes.new)) }
+        → (input.new ≡ input.old) × ((links.new ≡ links.old)
+        × Noted Fault.Usage (N.seen notes.old) (N.seen notes.new)) }
 
     // A command that answers an input. Done: the input, read to its end, is answered with a text, and that is written.
-    ensures done { (command : Command) → asked words.now ≡ Some (Request.Answer command) → result ≡ Status.Done
-        → WasDone (Some command) (span (S.seen input.old) (S.seen input.new)) (span (K.seen output.old) (K.seen output.new)) }
+    ensures done { (command : Command) → asked words.now ≡ Some (Request.Answer command)
+        → result ≡ Status.Done
+        → WasDone (Some command) (span (S.seen input.old) (S.seen input.new))
+        (span (K.seen output.old) (K.seen output.new)) }
 
     // Refused: the input is too long, or answered with a fault, and the notes tell it.
-    ensures refused { (command : Command) → asked words.now ≡ Some (Request.Answer command) → result ≡ Status.Refused → (fault : Fault)
+    ensures refused { (command : Command) → asked words.now ≡ Some (Request.Answer command)
+        → result ≡ Status.Refused → (fault : Fault)
         × WasRefused (Some command) fault (span (S.seen input.old) (S.seen input.new))
         × Noted fault (N.seen notes.old) (N.seen notes.new) }
 
     // ReadFault and WriteFault: the count of faults rose; what was read was within the limit, and a first part was written.
-    ensures read_fault { (command : Command) → asked words.now ≡ Some (Request.Answer command) → result ≡ Status.ReadFault
-        → Rose (S.seen input.old).faults (S.seen input.new).faults × GaveWithin (span (S.seen input.old) (S.seen input.new)) }
-    ensures write_fault { (command : Command) → asked words.now ≡ Some (Request.Answer command) → result ≡ Status.WriteFault
-        → WasDoneInPart (Some command) (span (S.seen input.old) (S.seen input.new)) (span (K.seen output.old) (K.seen output.new)) }
+    ensures read_fault { (command : Command) → asked words.now ≡ Some (Request.Answer command)
+        → result ≡ Status.ReadFault
+        → Rose (S.seen input.old).faults (S.seen input.new).faults
+        × GaveWithin (span (S.seen input.old) (S.seen input.new)) }
+    ensures write_fault { (command : Command) → asked words.now ≡ Some (Request.Answer command)
+        → result ≡ Status.WriteFault
+        → WasDoneInPart (Some command) (span (S.seen input.old) (S.seen input.new))
+        (span (K.seen output.old) (K.seen output.new)) }
 
     // Where the input tells its bytes and doesn't fail: Done with the one text that the command answers these bytes with,
     // unless the output fails, or Refused with the one fault; or memory is wanted.
-    ensures complete { (command : Command) (bytes : List ℕ) → asked words.now ≡ Some (Request.Answer command)
+    ensures complete { (command : Command) (bytes : List ℕ)
+        → asked words.now ≡ Some (Request.Answer command)
         → HasLeft (S.seen input.old) bytes
         → ¬ Rose (S.seen input.old).faults (S.seen input.new).faults
-        → (result ≡ Status.Memory) ⊎ ((answer : Result (List ℕ) Refusal) × IsAnswer command bytes answer
-        × EndsWith answer result (span (K.seen output.old) (K.seen output.new)) (span (N.seen notes.old) (N.seen notes.new))) }
+        → (result ≡ Status.Memory) ⊎ ((answer : Result (List ℕ) Refusal)
+        × IsAnswer command bytes answer
+        × EndsWith answer result (span (K.seen output.old) (K.seen output.new))
+        (span (N.seen notes.old) (N.seen notes.new))) }
     ensures too_long { (command : Command) → asked words.now ≡ Some (Request.Answer command)
         → IsSome (S.seen input.old).left → GaveTooMuch (span (S.seen input.old) (S.seen input.new))
         → (result ≡ Status.Memory)
@@ -80,21 +91,27 @@ pub fn board<S: Source, K: Sink, N: Sink, L: Links>(
     ensures output_kept { (command : Command) → asked words.now ≡ Some (Request.Answer command)
         → result ≢ Status.Done → result ≢ Status.WriteFault → output.new ≡ output.old }
     ensures notes_kept { (result ≡ Status.Done) ⊎ (result ≡ Status.Idle) → notes.new ≡ notes.old }
-    ensures noted { (command : Command) → asked words.now ≡ Some (Request.Answer command) → result ≢ Status.Done
-        → (fault : Fault) × (status_of fault ≡ result) × Noted fault (N.seen notes.old) (N.seen notes.new) }
-    ensures links_kept { (command : Command) → asked words.now ≡ Some (Request.Answer command) → links.new ≡ links.old }
+    ensures noted { (command : Command) → asked words.now ≡ Some (Request.Answer command)
+        → result ≢ Status.Done
+        → (fault : Fault) × (status_of fault ≡ result)
+        × Noted fault (N.seen notes.old) (N.seen notes.new) }
+    ensures links_kept { (command : Command) → asked words.now ≡ Some (Request.Answer command)
+        → links.new ≡ links.old }
     ensures unlinked { (command : Command) → asked words.now ≡ Some (Request.Answer command)
         → (result ≢ Status.LinkFault) × (result ≢ Status.Idle) }
 
     // A room that is served: each end by its cause, and what was read, sent and written by then.
-    ensures served { (service : Service) → asked words.now ≡ Some (Request.Serve service) → EndsServing service
+    ensures served { (service : Service) → asked words.now ≡ Some (Request.Serve service)
+        → EndsServing service
         (ends (span (S.seen input.old) (S.seen input.new))
         (span (K.seen output.old) (K.seen output.new)) (span (L.seen links.old) (L.seen links.new)))
         (span (N.seen notes.old) (N.seen notes.new)) result }
     // Where the input has scenes, no end fails and the links lead the room to a close: Done, or memory is wanted.
-    ensures serve_complete { (service : Service) → asked words.now ≡ Some (Request.Serve service) → IsServedToClose service
+    ensures serve_complete { (service : Service) → asked words.now ≡ Some (Request.Serve service)
+        → IsServedToClose service
         (ends (span (S.seen input.old) (S.seen input.new))
-        (span (K.seen output.old) (K.seen output.new)) (span (L.seen links.old) (L.seen links.new))) result }
+        (span (K.seen output.old) (K.seen output.new))
+        (span (L.seen links.old) (L.seen links.new))) result }
 
     // Where the input tells its bytes and doesn't fail, its scenes are served, or it is refused
     // with its first fault; and one that is too long is refused; or memory is wanted.
@@ -113,19 +130,24 @@ pub fn board<S: Source, K: Sink, N: Sink, L: Links>(
 
     // A drill: each end by its cause, and what was written by then. The input isn't read.
     ensures drilled { (drill : Drill) → asked words.now ≡ Some (Request.Drill drill)
-        → EndsDrilling drill (span (K.seen output.old) (K.seen output.new)) (span (N.seen notes.old) (N.seen notes.new)) result }
+        → EndsDrilling drill (span (K.seen output.old) (K.seen output.new))
+        (span (N.seen notes.old) (N.seen notes.new)) result }
     ensures drill_complete { (drill : Drill) → asked words.now ≡ Some (Request.Drill drill)
-        → ¬ Rose (K.seen output.old).faults (K.seen output.new).faults → (result ≡ Status.Done) ⊎ (result ≡ Status.Memory) }
+        → ¬ Rose (K.seen output.old).faults (K.seen output.new).faults → (result ≡ Status.Done)
+        ⊎ (result ≡ Status.Memory) }
     ensures drill_unread { (drill : Drill) → asked words.now ≡ Some (Request.Drill drill)
         → (input.new ≡ input.old) × (links.new ≡ links.old) }
 
-    ensures unwritten { (result ≡ Status.Memory) ⊎ ((result ≡ Status.Usage) ⊎ (result ≡ Status.ReadFault)) → output.new ≡ output.old }
+    ensures unwritten { (result ≡ Status.Memory)
+        ⊎ ((result ≡ Status.Usage) ⊎ (result ≡ Status.ReadFault)) → output.new ≡ output.old }
     ensures unserved { result ≡ Status.ReadFault → links.new ≡ links.old }
-    ensures refused_unserved { (service : Service) → asked words.now ≡ Some (Request.Serve service) → result ≡ Status.Refused
+    ensures refused_unserved { (service : Service) → asked words.now ≡ Some (Request.Serve service)
+        → result ≡ Status.Refused
         → ((output.new ≡ output.old) × (links.new ≡ links.old))
         ⊎ ((end : ServeEnd) × (end_status end ≡ Status.Refused) × WasServedTo service end
         (ends (span (S.seen input.old) (S.seen input.new))
-        (span (K.seen output.old) (K.seen output.new)) (span (L.seen links.old) (L.seen links.new)))) }
+        (span (K.seen output.old) (K.seen output.new))
+        (span (L.seen links.old) (L.seen links.new)))) }
 
     // Inputs with the same updates are merged to one text.
     ensures converges { Converges }
@@ -147,8 +169,10 @@ pub fn board<S: Source, K: Sink, N: Sink, L: Links>(
     ensures others_changes_stay { OthersChangesStay }
 
     // A replay that is done wrote the report of a session of which all of these laws hold, at its end and after each event.
-    ensures laws_of_a_replay { asked words.now ≡ Some (Request.Answer Command.Replay) → result ≡ Status.Done
-        → WroteLawfulReport (span (S.seen input.old) (S.seen input.new)) (span (K.seen output.old) (K.seen output.new)) }
+    ensures laws_of_a_replay { asked words.now ≡ Some (Request.Answer Command.Replay)
+        → result ≡ Status.Done
+        → WroteLawfulReport (span (S.seen input.old) (S.seen input.new))
+        (span (K.seen output.old) (K.seen output.new)) }
 
     // In every room that is served, what the updates of a member store is what the room stores,
     // and so does any list of the same updates.
@@ -184,26 +208,34 @@ fn answer_run<S: Source, K: Sink, N: Sink>(
     notes: &mut N,
 ) -> Status
     ensures done { result ≡ Status.Done
-        → WasDone (Some command) (span (S.seen input.old) (S.seen input.new)) (span (K.seen output.old) (K.seen output.new)) }
+        → WasDone (Some command) (span (S.seen input.old) (S.seen input.new))
+        (span (K.seen output.old) (K.seen output.new)) }
     ensures refused { result ≡ Status.Refused → (fault : Fault)
         × WasRefused (Some command) fault (span (S.seen input.old) (S.seen input.new))
         × Noted fault (N.seen notes.old) (N.seen notes.new) }
-    ensures read_fault { result ≡ Status.ReadFault → Rose (S.seen input.old).faults (S.seen input.new).faults
+    ensures read_fault { result ≡ Status.ReadFault
+        → Rose (S.seen input.old).faults (S.seen input.new).faults
         × GaveWithin (span (S.seen input.old) (S.seen input.new)) }
     ensures write_fault { result ≡ Status.WriteFault
-        → WasDoneInPart (Some command) (span (S.seen input.old) (S.seen input.new)) (span (K.seen output.old) (K.seen output.new)) }
+        → WasDoneInPart (Some command) (span (S.seen input.old) (S.seen input.new))
+        (span (K.seen output.old) (K.seen output.new)) }
     ensures complete { (bytes : List ℕ) → HasLeft (S.seen input.old) bytes
         → ¬ Rose (S.seen input.old).faults (S.seen input.new).faults
-        → (result ≡ Status.Memory) ⊎ ((answer : Result (List ℕ) Refusal) × IsAnswer command bytes answer
-        × EndsWith answer result (span (K.seen output.old) (K.seen output.new)) (span (N.seen notes.old) (N.seen notes.new))) }
-    ensures too_long { IsSome (S.seen input.old).left → GaveTooMuch (span (S.seen input.old) (S.seen input.new))
+        → (result ≡ Status.Memory) ⊎ ((answer : Result (List ℕ) Refusal)
+        × IsAnswer command bytes answer
+        × EndsWith answer result (span (K.seen output.old) (K.seen output.new))
+        (span (N.seen notes.old) (N.seen notes.new))) }
+    ensures too_long { IsSome (S.seen input.old).left
+        → GaveTooMuch (span (S.seen input.old) (S.seen input.new))
         → (result ≡ Status.Memory)
         ⊎ ((result ≡ Status.Refused) × Noted Fault.TooLong (N.seen notes.old) (N.seen notes.new)) }
     ensures used { result ≢ Status.Usage }
-    ensures output_kept { result ≢ Status.Done → result ≢ Status.WriteFault → output.new ≡ output.old }
+    ensures output_kept { result ≢ Status.Done → result ≢ Status.WriteFault
+        → output.new ≡ output.old }
     ensures notes_kept { result ≡ Status.Done → notes.new ≡ notes.old }
     ensures noted { result ≢ Status.Done
-        → (fault : Fault) × (status_of fault ≡ result) × Noted fault (N.seen notes.old) (N.seen notes.new) }
+        → (fault : Fault) × (status_of fault ≡ result)
+        × Noted fault (N.seen notes.old) (N.seen notes.new) }
     ensures unlinked { (result ≢ Status.LinkFault) × (result ≢ Status.Idle) }
 {
     match run(alloc, command, input, output) {
@@ -220,8 +252,10 @@ fn drill_run<K: Sink, N: Sink>(
     notes: &mut N,
 ) -> Status
     requires { IsDrillWithinLimits request }
-    ensures drilled { EndsDrilling request (span (K.seen output.old) (K.seen output.new)) (span (N.seen notes.old) (N.seen notes.new)) result }
-    ensures complete { ¬ Rose (K.seen output.old).faults (K.seen output.new).faults → (result ≡ Status.Done) ⊎ (result ≡ Status.Memory) }
+    ensures drilled { EndsDrilling request (span (K.seen output.old) (K.seen output.new))
+        (span (N.seen notes.old) (N.seen notes.new)) result }
+    ensures complete { ¬ Rose (K.seen output.old).faults (K.seen output.new).faults
+        → (result ≡ Status.Done) ⊎ (result ≡ Status.Memory) }
     ensures notes_kept { result ≡ Status.Done → notes.new ≡ notes.old }
     ensures unwritten { result ≡ Status.Memory → output.new ≡ output.old }
 {
@@ -247,14 +281,18 @@ fn serve_run<S: Source, K: Sink, N: Sink, L: Links>(
         (span (N.seen notes.old) (N.seen notes.new)) result }
     ensures complete { IsServedToClose service
         (ends (span (S.seen input.old) (S.seen input.new))
-        (span (K.seen output.old) (K.seen output.new)) (span (L.seen links.old) (L.seen links.new))) result }
+        (span (K.seen output.old) (K.seen output.new))
+        (span (L.seen links.old) (L.seen links.new))) result }
     ensures notes_kept { (result ≡ Status.Done) ⊎ (result ≡ Status.Idle) → notes.new ≡ notes.old }
-    ensures unwritten { (result ≡ Status.Memory) ⊎ (result ≡ Status.ReadFault) → output.new ≡ output.old }
+    ensures unwritten { (result ≡ Status.Memory) ⊎ (result ≡ Status.ReadFault)
+        → output.new ≡ output.old }
     ensures unserved { result ≡ Status.ReadFault → links.new ≡ links.old }
-    ensures refused_unserved { result ≡ Status.Refused → ((output.new ≡ output.old) × (links.new ≡ links.old))
+    ensures refused_unserved { result ≡ Status.Refused
+        → ((output.new ≡ output.old) × (links.new ≡ links.old))
         ⊎ ((end : ServeEnd) × (end_status end ≡ Status.Refused) × WasServedTo service end
         (ends (span (S.seen input.old) (S.seen input.new))
-        (span (K.seen output.old) (K.seen output.new)) (span (L.seen links.old) (L.seen links.new)))) }
+        (span (K.seen output.old) (K.seen output.new))
+        (span (L.seen links.old) (L.seen links.new)))) }
 {
     room_core::laws::closing_ends_a_room();
     match serve(alloc, service, input, output, links) {
@@ -272,10 +310,13 @@ fn run<S: Source, K: Sink>(
 ) -> Result<(), Fault>
     ensures used { result ≢ Err Fault.Usage }
     ensures done { OnOk result
-        (WasDone (Some command) (span (S.seen input.old) (S.seen input.new)) (span (K.seen output.old) (K.seen output.new))) }
+        (WasDone (Some command) (span (S.seen input.old) (S.seen input.new))
+        (span (K.seen output.old) (K.seen output.new))) }
     ensures fault { IfErr result (λ fault. HasCause fault (Some command)
-        (span (S.seen input.old) (S.seen input.new)) (span (K.seen output.old) (K.seen output.new))) }
-    ensures too_long { IsSome (S.seen input.old).left → GaveTooMuch (span (S.seen input.old) (S.seen input.new))
+        (span (S.seen input.old) (S.seen input.new))
+        (span (K.seen output.old) (K.seen output.new))) }
+    ensures too_long { IsSome (S.seen input.old).left
+        → GaveTooMuch (span (S.seen input.old) (S.seen input.new))
         → (result ≡ Err Fault.Memory) ⊎ (result ≡ Err Fault.TooLong) }
     ensures output_kept { IfErr result (λ fault. fault ≢ Fault.Write → output.new ≡ output.old) }
 {

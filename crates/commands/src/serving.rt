@@ -36,12 +36,15 @@ pub(crate) fn serve<S: Source, K: Sink, L: Links>(
     requires { IsService service }
     ensures served { IfOk result (λ end. WasServedTo service end
         (ends (span (S.seen input.old) (S.seen input.new))
-        (span (K.seen output.old) (K.seen output.new)) (span (L.seen links.old) (L.seen links.new)))) }
+        (span (K.seen output.old) (K.seen output.new))
+        (span (L.seen links.old) (L.seen links.new)))) }
     ensures fault { IfErr result (λ fault. HasServingCause fault service
         (ends (span (S.seen input.old) (S.seen input.new))
-        (span (K.seen output.old) (K.seen output.new)) (span (L.seen links.old) (L.seen links.new)))) }
+        (span (K.seen output.old) (K.seen output.new))
+        (span (L.seen links.old) (L.seen links.new)))) }
     ensures output_kept { IfErr result (λ fault. fault ≢ Fault.Write → output.new ≡ output.old) }
-    ensures links_kept { IfErr result (λ fault. fault ≢ Fault.Write → fault ≢ Fault.Memory → links.new ≡ links.old) }
+    ensures links_kept { IfErr result (λ fault. fault ≢ Fault.Write → fault ≢ Fault.Memory
+        → links.new ≡ links.old) }
 {
     let (head, store) = some_board(alloc, input)?;
     let (end, text) = hold(alloc, service, &head, store, links)?;
@@ -84,8 +87,8 @@ fn hold<L: Links>(
 /// Listens on the port, and serves the room to its end.
 fn serve_on<L: Links>(alloc: Global, service: Service, room: &mut Room, links: &mut L) -> ServeEnd
     requires service { IsService service }
-    requires fresh { room.old.joined ≡ [] }
-    ensures served { IsServed service.limits (at_start room.old) room.new
+    requires fresh { room.old.state.joined ≡ [] }
+    ensures served { IsServed service.limits (at_start room.old.state) room.new.state
         (L.seen links.old) (L.seen links.new) result }
     ensures fault { result ≡ ServeEnd.LinkFault
         → Rose (L.seen links.old).faults (L.seen links.new).faults }
@@ -101,7 +104,7 @@ fn serve_on<L: Links>(alloc: Global, service: Service, room: &mut Room, links: &
 
 /// The text of the scene that is shown of what the room stores, and a newline.
 fn room_text(alloc: Global, head: &Head, room: &Room, layout: Layout) -> Result<Bytes, AllocError>
-    ensures { IfOk result (IsSceneOfStored layout head.now room.now.elements) }
+    ensures { IfOk result (IsSceneOfStored layout head.now room.now.state.elements) }
 {
     let shown = shown_elements(alloc, room.store())?;
     ended(elements_text(alloc, head, shown.as_slice(), layout)?)
@@ -111,7 +114,8 @@ fn room_text(alloc: Global, head: &Head, room: &Room, layout: Layout) -> Result<
 pub(crate) fn noted_end<N: Sink>(end: ServeEnd, notes: &mut N) -> Status
     ensures status { result ≡ end_status end }
     ensures done { (end ≡ ServeEnd.AllClosed) ⊎ (end ≡ ServeEnd.Idle) → notes.new ≡ notes.old }
-    ensures noted { end ≢ ServeEnd.AllClosed → end ≢ ServeEnd.Idle → IsNoted (end_line end) (N.seen notes.old) (N.seen notes.new) }
+    ensures noted { end ≢ ServeEnd.AllClosed → end ≢ ServeEnd.Idle
+        → IsNoted (end_line end) (N.seen notes.old) (N.seen notes.new) }
 {
     match end {
         ServeEnd::AllClosed => Status::Done,

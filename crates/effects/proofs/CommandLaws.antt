@@ -1,8 +1,8 @@
 -- What single commands leave stored: bound arrows, deleted elements, and keys at a spot.
-use Rattle.std.proofs.Common.{◌≡◌, ℕ, Bool, true, false, not, ◌&&◌, ◌||◌, List, [], ◌∷◌, ◌++◌, map, Option, Some, None, is_some, Ok, Contains, IsSomeAnd, find, bytes_eq, if◌then◌else◌, inl, inr, refl, sym, ap, ◌∙◌, subst}
+use Rattle.std.proofs.Common.{◌≡◌, ℕ, Bool, true, false, not, ◌&&◌, ◌||◌, List, [], ◌∷◌, ◌++◌, map, Option, Some, None, Ok, Contains, IsSomeAnd, bytes_eq, if◌then◌else◌, inl, inr, refl, sym, ap, ◌∙◌, subst}
 use Rattle.std.specs.List.{list_any, list_all}
-use Rattle.std.specs.Option.{option_map, option_map_or}
-use Rattle.std.proofs.lemmas.Bool.{cases_Bool, false≢true, both_ways, and_parts, and_from, or_from, or_left, or_right, not-false, cond-true, cond-false}
+use Rattle.std.specs.Option.{option_map_or}
+use Rattle.std.proofs.lemmas.Bool.{cases_Bool, false≢true, both_ways, and_parts, and_from, or_from, or_left, or_right, cond-true, cond-false}
 use Rattle.std.proofs.lemmas.List.Folds.{list_any-append}
 use Rattle.std.proofs.lemmas.Option.{none-some, same_Some}
 use Rattle.json_text.proofs.CallerLemmas.{bytes_eq-same, bytes_eq-apart}
@@ -15,7 +15,7 @@ use Rattle.elem.specs.declared.parts.BoundRef.{BoundRef}
 use Rattle.elem.specs.ElementValue.{ElementValue}
 use Rattle.elem.specs.Order.{unstamped, has_id}
 use Rattle.elem_store.specs.Updates.{element_of, ids_of}
-use Rattle.elem_store.proofs.CallerLemmas.{same_id, Contains-head, Contains-cons, find-Some, is_some-find, list_any-false}
+use Rattle.elem_store.proofs.CallerLemmas.{same_id, Contains-head, Contains-cons, find-Some, list_any-false}
 use Rattle.links.specs.Arrows.{names_target}
 use Rattle.elem.specs.Listings.{same_listing_entry}
 use Rattle.links.specs.Entries.{arrow_entry, lists}
@@ -24,7 +24,7 @@ use Rattle.index_repair.specs.Keyed.{index_of, HaveRisingKeys, HaveKeysOrNone}
 use Rattle.view.specs.Shown.{is_live}
 use Rattle.board_commands.specs.declared.command.Command.{Command}
 use Rattle.board_commands.specs.declared.command.Command.TheVariants as commands
-use Rattle.effects.specs.declared.refusal.Refusal.TheVariants.{NoElement, WrongKind}
+use Rattle.effects.specs.declared.refusal.Refusal.TheVariants.{WrongKind}
 use Rattle.board_commands.specs.declared.command.Side.{Side}
 use Rattle.board_commands.specs.declared.command.Side.TheVariants.{Start, End}
 use Rattle.board_commands.specs.declared.command.Spot.{Spot}
@@ -36,48 +36,14 @@ use Rattle.effects.specs.Given.{stored_after}
 use Rattle.effects.specs.Linking.{end_at, with_end, with_end_of, listed, unlisted, with_listing_entry, without_listing_entry, old_target}
 use Rattle.effects.specs.Naming.{is_among, is_some_that, apart_from}
 use Rattle.effects.specs.Placing.{Gap, others, first_key, last_key_or, gap_above, gap_at, gap_of, lies_within, key_within, key_at, key_in, with_view_key}
-use Rattle.effects.specs.Refusals.{first_missing, is_live_id, is_kind_of, command_ids, own_spot, spot_ids, unless_right}
+use Rattle.effects.specs.Refusals.{is_kind_of, spot_ids, unless_right}
 use Rattle.effects.proofs.KeepingLaws.{Self, with_end_of-keeps}
-use Rattle.effects.proofs.OutcomeLaws.{some-or-none, or-none, none-missing, none-misfit, created-given, stored_after-given, stored_after-kept, not-created, after-live, after-dead}
+use Rattle.effects.proofs.OutcomeLaws.{some-or-none, or-none, none-misfit, created-given, stored_after-given, stored_after-kept, after-live}
+use Rattle.effects.proofs.NamedLaws.{at-some, named-live, named-after, live-before}
 use Rattle.effects.proofs.PlacingLaws.{Rises, Rises-shown, Rises-lower, ends_rise-none}
 
--- ---- what a command names is live, and is stored as the command makes it
-unmapped : {X Y : Type 0} (f : X → Y) (o : Option X) → option_map f o ≡ None → o ≡ None
-unmapped f None h = refl
-unmapped f (Some x) h = absurd (none-some (f x) (sym h))
-
-live-found : (stored : List ElementValue) (id : List ℕ) → is_live_id stored id ≡ true → (old : ElementValue) × (element_of stored id ≡ Some old) × (is_live old ≡ true)
-live-found stored id h = elim (some-or-none (element_of stored id)) [
-  | inl none ↦ absurd (false≢true (sym (ap (λ (o : Option ElementValue). option_map_or is_live o false) none) ∙ h))
-  | inr some ↦ (some.0, some.1, sym (ap (λ (o : Option ElementValue). option_map_or is_live o false) some.1) ∙ h)
-]
-
-pub at-some : {X : Type 0} (P : X → Type 0) (o : Option X) (x : X) → o ≡ Some x → P x → IsSomeAnd o P
-at-some P o x is p = subst (λ o. IsSomeAnd o P) (sym is) p
-
-module _ (stored shown : List ElementValue) (command : Command) (time nonce : ℕ) (given : List ElementValue) (told : outcome stored shown command time nonce ≡ Ok given) where
-  pub named-live : (id : List ℕ) → Contains (command_ids command) id → (old : ElementValue) × (element_of stored id ≡ Some old) × (is_live old ≡ true)
-  named-live id c =
-      let missing' = (λ (id : List ℕ). not (is_live_id stored id)) in
-      let none = unmapped NoElement (find missing' (command_ids command))
-      (or-none (first_missing stored (command_ids command)) (own_spot command) (none-missing stored shown command time nonce given told)).0 in
-      live-found stored id
-      (not-false (is_live_id stored id)
-      (list_any-false missing' (command_ids command) id (sym (is_some-find missing' (command_ids command)) ∙ ap is_some none) c))
-
-  module _ (ordered : are_rising (ids_of stored) ≡ true) where
-    -- of what is stored then of a named id this holds, if it holds of all that the command makes of the live element, but
-    -- for the stamp
-    pub named-after : (P : ElementValue → Type 0) (id : List ℕ) → Contains (command_ids command) id
-        → ((old : ElementValue) → element_of stored id ≡ Some old → is_live old ≡ true → (e : ElementValue) → unstamped e ≡ unstamped (effect stored shown command old) → P e)
-        → IsSomeAnd (stored_after stored given id) P
-    named-after P id c holds =
-        let old = named-live id c in
-        let new = after-live stored shown command time nonce given told ordered id old.0 old.1 old.2 in
-        at-some P (stored_after stored given id) new.0 new.1 (holds old.0 old.1 old.2 new.0 new.2)
-
 -- ---- bound arrows
-end-unstamped : (side : Side) (e : ElementValue) → end_at side (unstamped e) ≡ end_at side e
+pub end-unstamped : (side : Side) (e : ElementValue) → end_at side (unstamped e) ≡ end_at side e
 end-unstamped Start e = refl
 end-unstamped End e = refl
 
@@ -85,19 +51,19 @@ end-bound : (side : Side) (e : ElementValue) (bound : List BoundRef) → end_at 
 end-bound Start e bound = refl
 end-bound End e bound = refl
 
-end-given : (side : Side) (binding : Option Binding) (e : ElementValue) → end_at side (with_end side binding e) ≡ binding
+pub end-given : (side : Side) (binding : Option Binding) (e : ElementValue) → end_at side (with_end side binding e) ≡ binding
 end-given Start binding e = refl
 end-given End binding e = refl
 
-end-either : (side : Side) (b : Bool) (e : ElementValue) (bound : List BoundRef) → end_at side (if b then record e { bound = bound } else e) ≡ end_at side e
+pub end-either : (side : Side) (b : Bool) (e : ElementValue) (bound : List BoundRef) → end_at side (if b then record e { bound = bound } else e) ≡ end_at side e
 end-either side true e bound = end-bound side e bound
 end-either side false e bound = refl
 
-right-kind : (b : Bool) (id : List ℕ) → unless_right b id ≡ None → b ≡ true
+pub right-kind : (b : Bool) (id : List ℕ) → unless_right b id ≡ None → b ≡ true
 right-kind true id h = refl
 right-kind false id h = absurd (none-some (WrongKind id) (sym h))
 
-kind-at : (stored : List ElementValue) (id : List ℕ) (old : ElementValue) → element_of stored id ≡ Some old → is_kind_of stored is_arrow id ≡ true → is_arrow old.kind ≡ true
+pub kind-at : (stored : List ElementValue) (id : List ℕ) (old : ElementValue) → element_of stored id ≡ Some old → is_kind_of stored is_arrow id ≡ true → is_arrow old.kind ≡ true
 kind-at stored id old found h = sym (ap (λ (o : Option ElementValue). option_map_or (λ (e : ElementValue). is_arrow e.kind) o false) found) ∙ h
 
 -- ---- names of what is gone
@@ -132,7 +98,7 @@ unnamed gone e =
     (or_from end' entries (kept-end gone e.end_binding) (kept-entries gone e.bound))))
 
 -- what lists the entry
-lists-added : (entry : BoundRef) (entries : List BoundRef) → same_listing_entry entry entry ≡ true → lists (with_listing_entry entry entries) entry ≡ true
+pub lists-added : (entry : BoundRef) (entries : List BoundRef) → same_listing_entry entry entry ≡ true → lists (with_listing_entry entry entries) entry ≡ true
 lists-added entry entries own = elim (cases_Bool (lists entries entry)) [
   | inl t ↦ ap (λ es. lists es entry) (cond-true (lists entries entry) entries (entries ++ entry ∷ []) t) ∙ t
   | inr f ↦ ap (λ es. lists es entry) (cond-false (lists entries entry) entries (entries ++ entry ∷ []) f)
@@ -140,7 +106,7 @@ lists-added entry entries own = elim (cases_Bool (lists entries entry)) [
       ∙ or_right (lists entries entry) (lists (entry ∷ []) entry) (or_left (same_listing_entry entry entry) false own)
 ]
 
-apart : (target : List ℕ) (old : Option (List ℕ)) (id : List ℕ) → id ≡ target → is_id id (apart_from (Some target) old) ≡ false
+pub apart : (target : List ℕ) (old : Option (List ℕ)) (id : List ℕ) → id ≡ target → is_id id (apart_from (Some target) old) ≡ false
 apart target None id is = refl
 apart target (Some other) id is = elim (cases_Bool (bytes_eq other target)) [
   | inl same ↦ rw same refl
@@ -221,23 +187,13 @@ module _ (stored shown : List ElementValue) (time nonce : ℕ) (given : List Ele
 
     -- and no live element that is stored then names one of them
     pub deleted-unnamed : (id : List ℕ) (e : ElementValue) → stored_after stored given id ≡ Some e → is_live e ≡ true → has_gone_names gone e ≡ false
-    deleted-unnamed id e is live = elim (some-or-none (element_of stored id)) [
-      | inl none ↦ absurd (none-some e
-          (sym none ∙ sym (stored_after-kept stored given id (not-created stored shown (commands.Delete ids) time nonce given told ordered id none refl)) ∙ is))
-      | inr some ↦ elim (cases_Bool (is_live some.0)) [
-        | inl alive ↦
-            let new = after-live stored shown (commands.Delete ids) time nonce given told ordered id some.0 some.1 alive in
-            let made : unstamped e ≡ unstamped (deleted_from gone some.0) = ap unstamped (sym (same_Some new.0 e (sym new.1 ∙ is))) ∙ new.2 in
-            elim (cases_Bool (gone some.0.id)) [
-              | inl t ↦ absurd (false≢true
-                  (sym (ap is_live (made ∙ ap unstamped (cond-true (gone some.0.id) (record some.0 { deleted = true }) (without_names gone some.0) t))) ∙ live))
-              | inr f ↦ ap (has_gone_names gone) (made ∙ ap unstamped (cond-false (gone some.0.id) (record some.0 { deleted = true }) (without_names gone some.0) f)) ∙ unnamed gone some.0
-            ]
-        | inr dead ↦ absurd
-            (let same = same_Some some.0 e (sym (after-dead stored shown (commands.Delete ids) time nonce given told ordered id some.0 some.1 dead) ∙ is) in
-            false≢true (sym dead ∙ ap is_live same ∙ live))
-      ]
-    ]
+    deleted-unnamed id e is live =
+        let from = live-before stored shown (commands.Delete ids) time nonce given told ordered refl id e is live in
+        elim (cases_Bool (gone from.0.id)) [
+          | inl t ↦ absurd (false≢true
+              (sym (ap is_live (from.2 ∙ ap unstamped (cond-true (gone from.0.id) (record from.0 { deleted = true }) (without_names gone from.0) t))) ∙ live))
+          | inr f ↦ ap (has_gone_names gone) (from.2 ∙ ap unstamped (cond-false (gone from.0.id) (record from.0 { deleted = true }) (without_names gone from.0) f)) ∙ unnamed gone from.0
+        ]
 
 -- ---- keys at a spot
 -- the keys beside a spot are keys, and rise

@@ -40,7 +40,7 @@ with_end-keeps : (side : Side) (binding : Option Binding) (e : ElementValue) →
 with_end-keeps Start binding e = refl
 with_end-keeps End binding e = refl
 
-listed-keeps : (id : Option (List ℕ)) (entry : BoundRef) (e : ElementValue) → self_of (listed id entry e) ≡ self_of e
+pub listed-keeps : (id : Option (List ℕ)) (entry : BoundRef) (e : ElementValue) → self_of (listed id entry e) ≡ self_of e
 listed-keeps id entry e = one_of (is_id e.id id) e (record e { bound = with_listing_entry entry e.bound }) e refl refl
 
 unlisted-keeps : (id : Option (List ℕ)) (entry : BoundRef) (e : ElementValue) → self_of (unlisted id entry e) ≡ self_of e
@@ -49,15 +49,15 @@ unlisted-keeps id entry e = one_of (is_id e.id id) e (record e { bound = without
 pub with_end_of-keeps : (arrow : List ℕ) (side : Side) (binding : Option Binding) (e : ElementValue) → self_of (with_end_of arrow side binding e) ≡ self_of e
 with_end_of-keeps arrow side binding e = one_of (bytes_eq arrow e.id && is_arrow e.kind) e (with_end side binding e) e (with_end-keeps side binding e) refl
 
-with_container_of-keeps : (text container : List ℕ) (e : ElementValue) → self_of (with_container_of text container e) ≡ self_of e
+pub with_container_of-keeps : (text container : List ℕ) (e : ElementValue) → self_of (with_container_of text container e) ≡ self_of e
 with_container_of-keeps text container e =
     one_of (bytes_eq text e.id && is_text e.kind) e (record e { container = Some container }) (if is_id container e.container then record e { container = None } else e) refl
     (one_of (is_id container e.container) e (record e { container = None }) e refl refl)
 
-with_text_of-keeps : (text container : List ℕ) (e : ElementValue) → self_of (with_text_of text container e) ≡ self_of e
+pub with_text_of-keeps : (text container : List ℕ) (e : ElementValue) → self_of (with_text_of text container e) ≡ self_of e
 with_text_of-keeps text container e = one_of (bytes_eq container e.id) e (record e { bound = with_text_alone text e.bound }) e refl refl
 
-without_container_of-keeps : (text : List ℕ) (e : ElementValue) → self_of (without_container_of text e) ≡ self_of e
+pub without_container_of-keeps : (text : List ℕ) (e : ElementValue) → self_of (without_container_of text e) ≡ self_of e
 without_container_of-keeps text e = one_of (bytes_eq text e.id) e (record e { container = None }) e refl refl
 
 pub made_by-keeps : (effect : Effect) (e : ElementValue) → self_of (made_by effect e) ≡ self_of e

@@ -8,5 +8,9 @@ pub mod SettingLaws
 pub mod WalkingLaws
 pub mod PreparingLaws
 pub mod OutcomeLaws
+pub mod NamedLaws
 pub mod CommandLaws
+pub mod MemberLaws
+pub mod LabelLaws
+pub mod BindLaws
 pub mod CallerLemmas

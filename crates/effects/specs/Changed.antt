@@ -34,9 +34,11 @@ is_full makes e = is_changed makes e && e.version == greatest_whole
 
 -- what it makes of an element, stamped, if that changes
 abbrev pub change_of : (ElementValue → ElementValue) → ℕ → ℕ → ElementValue → Option ElementValue
-change_of makes time nonce e = if is_changed makes e then Some (stamped time nonce (makes e)) else None
+change_of makes time nonce e =
+    if is_changed makes e then Some (stamped time nonce (makes e)) else None
 
-abbrev pub changes_of : (ElementValue → ElementValue) → ℕ → ℕ → List ElementValue → List ElementValue
+abbrev pub changes_of : (ElementValue → ElementValue) → ℕ → ℕ → List ElementValue
+    → List ElementValue
 changes_of makes time nonce stored = filter_map (change_of makes time nonce) stored
 
 -- the element as a new one: with version 1, not deleted, and with the key at the spot
@@ -51,7 +53,8 @@ created_at shown element spot time nonce = record element {
 
 -- the new element of a command, if it creates one
 abbrev pub created : List ElementValue → Command → ℕ → ℕ → Option ElementValue
-created shown (commands.Create element spot) time nonce = Some (created_at shown element spot time nonce)
+created shown (commands.Create element spot) time nonce =
+    Some (created_at shown element spot time nonce)
 created shown _ time nonce = None
 
 -- elements in the order of their ids, and a new one at its place
@@ -60,19 +63,22 @@ with_created None elements = elements
 with_created (Some e) elements = with_element (λ other new. bytes_less other.id new.id) e elements
 
 -- what comes of a function of elements and a new one: the least id whose element can't change, or the changed elements
-abbrev pub outcome_from : Option ElementValue → Option ElementValue → List ElementValue → Result (List ElementValue) Refusal
+abbrev pub outcome_from : Option ElementValue → Option ElementValue → List ElementValue
+    → Result (List ElementValue) Refusal
 outcome_from (Some full) new changes = Err (refusal_at full)
 outcome_from None new changes = Ok (with_created new changes)
 
 -- The changed elements of a command in the order of their ids, or its refusal: of the stored elements in the order of their
 -- ids, of the shown ones in theirs, and for this time and nonce.
-abbrev pub outcome_unless : Option Refusal → List ElementValue → List ElementValue → Command → ℕ → ℕ → Result (List ElementValue) Refusal
+abbrev pub outcome_unless : Option Refusal → List ElementValue → List ElementValue → Command → ℕ
+    → ℕ → Result (List ElementValue) Refusal
 outcome_unless (Some refusal) stored shown command time nonce = Err refusal
 outcome_unless None stored shown command time nonce =
     outcome_from (find (is_full (effect stored shown command)) stored) (created shown command time nonce)
     (changes_of (effect stored shown command) time nonce stored)
 
-abbrev pub outcome : List ElementValue → List ElementValue → Command → ℕ → ℕ → Result (List ElementValue) Refusal
+abbrev pub outcome : List ElementValue → List ElementValue → Command → ℕ → ℕ
+    → Result (List ElementValue) Refusal
 outcome stored shown command time nonce =
     outcome_unless (refusal_of stored shown command) stored shown command time nonce
 

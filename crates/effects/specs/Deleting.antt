@@ -30,7 +30,8 @@ without_names is_gone e = record e {
 
 -- the element, deleted where its id is gone, and else without names of what is
 abbrev pub deleted_from : (List ℕ → Bool) → ElementValue → ElementValue
-deleted_from is_gone e = if is_gone e.id then record e { deleted = true } else without_names is_gone e
+deleted_from is_gone e =
+    if is_gone e.id then record e { deleted = true } else without_names is_gone e
 
 -- whether an element names something that is gone
 abbrev pub has_gone_names : (List ℕ → Bool) → ElementValue → Bool

@@ -15,7 +15,8 @@ abbrev pub same_member : Member → Member → Bool
 same_member member other = bytes_eq member.name other.name && bytes_eq member.value other.value
 
 abbrev pub same_binding : Binding → Binding → Bool
-same_binding binding other = bytes_eq binding.target other.target && pointwise same_member binding.rest other.rest
+same_binding binding other =
+    bytes_eq binding.target other.target && pointwise same_member binding.rest other.rest
 
 -- whether an element and what was made of it differ in a member outside the stamp
 abbrev pub differs : ElementValue → ElementValue → Bool

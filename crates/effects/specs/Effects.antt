@@ -22,23 +22,28 @@ without_group group groups = filter (λ other. not (bytes_eq group other)) group
 
 -- the element in a group, or not in it, if it is of these ids
 abbrev pub grouped : List (List ℕ) → List ℕ → ElementValue → ElementValue
-grouped ids group e = if is_among ids e.id then record e { groups = with_group group e.groups } else e
+grouped ids group e =
+    if is_among ids e.id then record e { groups = with_group group e.groups } else e
 
 abbrev pub ungrouped : List (List ℕ) → List ℕ → ElementValue → ElementValue
-ungrouped ids group e = if is_among ids e.id then record e { groups = without_group group e.groups } else e
+ungrouped ids group e =
+    if is_among ids e.id then record e { groups = without_group group e.groups } else e
 
 -- What the command makes of a live element, as stored: itself where it isn't concerned. What the element of an id names is
 -- looked up among the stored elements, and keys among the shown ones.
 abbrev pub effect : List ElementValue → List ElementValue → Command → ElementValue → ElementValue
 effect stored shown (commands.Create element spot) e = with_view_key shown e
-effect stored shown (commands.Set id member value) e = if bytes_eq id e.id then with_set_member member value e else e
+effect stored shown (commands.Set id member value) e =
+    if bytes_eq id e.id then with_set_member member value e else e
 effect stored shown (commands.Delete ids) e = deleted_from (is_among ids) e
 effect stored shown (commands.Place id spot) e =
     with_key_of id (key_at shown spot id (key_in shown id)) (with_view_key shown e)
 effect stored shown (commands.Bind arrow side target rest) e =
     bound_to arrow side (Some (record { target = target; rest = rest })) (old_target stored arrow side) e
-effect stored shown (commands.Unbind arrow side) e = bound_to arrow side None (old_target stored arrow side) e
-effect stored shown (commands.Label container text) e = labelled text container (old_container stored text) e
+effect stored shown (commands.Unbind arrow side) e =
+    bound_to arrow side None (old_target stored arrow side) e
+effect stored shown (commands.Label container text) e =
+    labelled text container (old_container stored text) e
 effect stored shown (commands.Unlabel text) e = unlabelled text (old_container stored text) e
 effect stored shown (commands.Frame ids frame) e = framed ids (Some frame) e
 effect stored shown (commands.Unframe ids) e = framed ids None e

@@ -3,6 +3,7 @@ pub mod Deleting
 pub mod Differing
 pub mod Effects
 pub mod Given
+pub mod Keeping
 pub mod Linking
 pub mod Naming
 pub mod Placing

@@ -23,11 +23,13 @@ without_listing_entry entry entries = filter (λ other. not (same_listing_entry 
 
 -- the element, which lists the entry if it is of this id
 abbrev pub listed : Option (List ℕ) → BoundRef → ElementValue → ElementValue
-listed id entry e = if is_id e.id id then record e { bound = with_listing_entry entry e.bound } else e
+listed id entry e =
+    if is_id e.id id then record e { bound = with_listing_entry entry e.bound } else e
 
 -- the element, which doesn't list the entry if it is of this id
 abbrev pub unlisted : Option (List ℕ) → BoundRef → ElementValue → ElementValue
-unlisted id entry e = if is_id e.id id then record e { bound = without_listing_entry entry e.bound } else e
+unlisted id entry e =
+    if is_id e.id id then record e { bound = without_listing_entry entry e.bound } else e
 
 -- the binding of an end, the other end, and the element with another binding there
 abbrev pub end_at : Side → ElementValue → Option Binding
@@ -52,7 +54,8 @@ old_target stored arrow side = option_and_then (named_by_end side) (element_of s
 
 -- the element, whose end gets a binding if it is the arrow
 abbrev pub with_end_of : List ℕ → Side → Option Binding → ElementValue → ElementValue
-with_end_of arrow side binding e = if bytes_eq arrow e.id && is_arrow e.kind then with_end side binding e else e
+with_end_of arrow side binding e =
+    if bytes_eq arrow e.id && is_arrow e.kind then with_end side binding e else e
 
 -- An end of the arrow gets a binding; the new target lists the arrow, and the old one doesn't.
 abbrev pub bound_to : List ℕ → Side → Option Binding → Option (List ℕ) → ElementValue → ElementValue
@@ -62,7 +65,8 @@ bound_to arrow side binding old e =
 
 -- what the stored text names as its container
 abbrev pub old_container : List ElementValue → List ℕ → Option (List ℕ)
-old_container stored text = option_and_then (λ (e : ElementValue). e.container) (element_of stored text)
+old_container stored text =
+    option_and_then (λ (e : ElementValue). e.container) (element_of stored text)
 
 -- the element, which names the container if it is the text, and else doesn't
 abbrev pub with_container_of : List ℕ → List ℕ → ElementValue → ElementValue
@@ -72,14 +76,17 @@ with_container_of text container e =
 
 -- a listing without entries of texts but for one, and with that one
 abbrev pub without_other_texts : List ℕ → List BoundRef → List BoundRef
-without_other_texts text entries = filter (λ (other : BoundRef). not (is_for_text other.role) || bytes_eq text other.id) entries
+without_other_texts text entries =
+    filter (λ (other : BoundRef). not (is_for_text other.role) || bytes_eq text other.id) entries
 
 abbrev pub with_text_alone : List ℕ → List BoundRef → List BoundRef
-with_text_alone text entries = with_listing_entry (text_entry text) (without_other_texts text entries)
+with_text_alone text entries =
+    with_listing_entry (text_entry text) (without_other_texts text entries)
 
 -- the element, which lists the text and no other one if it is the container
 abbrev pub with_text_of : List ℕ → List ℕ → ElementValue → ElementValue
-with_text_of text container e = if bytes_eq container e.id then record e { bound = with_text_alone text e.bound } else e
+with_text_of text container e =
+    if bytes_eq container e.id then record e { bound = with_text_alone text e.bound } else e
 
 -- The text gets a container, which has no other text; the old container doesn't list the text.
 abbrev pub labelled : List ℕ → List ℕ → Option (List ℕ) → ElementValue → ElementValue

@@ -27,7 +27,8 @@ use Rattle.effects.specs.Settings.{with_set_member, is_protected}
 
 -- The map has the keys of the elements by their ids; of one id the first counts.
 abbrev pub HasKeys : BTreeMap (List ℕ) (Option (List ℕ)) → List ElementValue → Type 0
-HasKeys keys elements = (id : List ℕ) → get (slice_cmp nat_cmp) keys id ≡ option_map index_of (element_of elements id)
+HasKeys keys elements =
+    (id : List ℕ) → get (slice_cmp nat_cmp) keys id ≡ option_map index_of (element_of elements id)
 
 -- the element with its key among these
 abbrev pub settled_in : BTreeMap (List ℕ) (Option (List ℕ)) → ElementValue → ElementValue
@@ -40,7 +41,8 @@ linked link e =
 
 -- the element after a text got a container, and after it lost its own
 abbrev pub put_in : Label → ElementValue → ElementValue
-put_in label e = unlisted label.old label.entry (with_text_of label.text label.container (with_container_of label.text label.container e))
+put_in label e =
+    unlisted label.old label.entry (with_text_of label.text label.container (with_container_of label.text label.container e))
 
 abbrev pub taken_out : List ℕ → Option (List ℕ) → BoundRef → ElementValue → ElementValue
 taken_out text old entry e = unlisted old entry (without_container_of text e)
@@ -53,13 +55,16 @@ HasIds set ids = (id : List ℕ) → contains (slice_cmp nat_cmp) set id ≡ is_
 abbrev pub made_by : Effect → ElementValue → ElementValue
 made_by (effects.Settle keys) e = settled_in keys e
 made_by (effects.Place keys id key) e = with_key_of id key (settled_in keys e)
-made_by (effects.Set id member value) e = if bytes_eq id e.id then with_set_member member value e else e
+made_by (effects.Set id member value) e =
+    if bytes_eq id e.id then with_set_member member value e else e
 made_by (effects.Delete ids) e = deleted_from (contains (slice_cmp nat_cmp) ids) e
 made_by (effects.Link link) e = linked link e
 made_by (effects.Label label) e = put_in label e
 made_by (effects.Unlabel text old entry) e = taken_out text old entry e
-made_by (effects.Frame ids frame) e = if contains (slice_cmp nat_cmp) ids e.id then record e { frame = frame } else e
-made_by (effects.Group ids group) e = if contains (slice_cmp nat_cmp) ids e.id then record e { groups = with_group group e.groups } else e
+made_by (effects.Frame ids frame) e =
+    if contains (slice_cmp nat_cmp) ids e.id then record e { frame = frame } else e
+made_by (effects.Group ids group) e =
+    if contains (slice_cmp nat_cmp) ids e.id then record e { groups = with_group group e.groups } else e
 made_by (effects.Ungroup ids group) e =
     if contains (slice_cmp nat_cmp) ids e.id then record e { groups = without_group group e.groups } else e
 
@@ -71,6 +76,7 @@ IsSoundEffect (effects.Label label) = label.entry ≡ text_entry label.text
 IsSoundEffect _ = Unit {0}
 
 -- It makes of each element what the command does, and is sound.
-pub record Prepares (stored shown : List ElementValue) (command : Command) (prepared : Effect) : Type 0 where
+pub record Prepares (stored shown : List ElementValue) (command : Command)
+    (prepared : Effect) : Type 0 where
   pub exact : (e : ElementValue) → made_by prepared e ≡ effect stored shown command e
   pub sound : IsSoundEffect prepared

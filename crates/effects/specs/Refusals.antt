@@ -27,7 +27,8 @@ is_live_id stored id = option_map_or is_live (element_of stored id) false
 
 -- whether the stored element of an id is of such a kind
 abbrev pub is_kind_of : List ElementValue → (Kind → Bool) → List ℕ → Bool
-is_kind_of stored is_right id = option_map_or (λ (e : ElementValue). is_right e.kind) (element_of stored id) false
+is_kind_of stored is_right id =
+    option_map_or (λ (e : ElementValue). is_right e.kind) (element_of stored id) false
 
 -- the id that a spot names
 abbrev pub spot_ids : Spot → List (List ℕ)
@@ -52,7 +53,8 @@ command_ids (commands.Ungroup ids group) = ids
 
 -- The id of a new element is stored, maybe as deleted.
 abbrev pub existing : List ElementValue → Command → Option Refusal
-existing stored (commands.Create element spot) = refusal_if (is_some (element_of stored element.id)) (Exists element.id)
+existing stored (commands.Create element spot) =
+    refusal_if (is_some (element_of stored element.id)) (Exists element.id)
 existing stored _ = None
 
 -- an element has no place above itself
@@ -79,7 +81,8 @@ first_frame stored ids = option_map WrongKind (find (is_kind_of stored is_frame_
 abbrev pub misfit : List ElementValue → List ElementValue → Command → Option Refusal
 misfit stored shown (commands.Bind arrow side target rest) =
     option_or (unless_right (is_kind_of stored is_arrow arrow) arrow) (unless_right (names_target shown (Some target)) target)
-misfit stored shown (commands.Unbind arrow side) = unless_right (is_kind_of stored is_arrow arrow) arrow
+misfit stored shown (commands.Unbind arrow side) =
+    unless_right (is_kind_of stored is_arrow arrow) arrow
 misfit stored shown (commands.Label container text) =
     option_or (unless_right (is_kind_of stored can_hold_text container) container) (unless_right (is_kind_of stored is_text text) text)
 misfit stored shown (commands.Unlabel text) = unless_right (is_kind_of stored is_text text) text

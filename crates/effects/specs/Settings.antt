@@ -20,7 +20,8 @@ is_protected name = is_among protected_names name
 
 -- the value that a member gets: null stands for the default, where the table has one
 abbrev pub given_value : List ℕ → List ℕ → List ℕ
-given_value name value = if bytes_eq value null_word then unwrap_or (value_at name defaults) value else value
+given_value name value =
+    if bytes_eq value null_word then unwrap_or (value_at name defaults) value else value
 
 -- The element whose member of this name got a value: the names of its further members rise.
 abbrev pub with_set_member : List ℕ → List ℕ → ElementValue → ElementValue

@@ -37,8 +37,11 @@ pub fn changed(
     requires nonce { nonce ≤ greatest_whole }
     requires limits { IsWithinLimits command.now }
     requires keys { HaveRisingKeys shown.now }
-    ensures exact { IfOk result (λ changed. outcome store.now.elements shown.now command.now time nonce ≡ Ok changed) }
-    ensures refused { IfErr result (λ stop. OnFault stop (λ refusal. outcome store.now.elements shown.now command.now time nonce ≡ Err refusal)) }
+    ensures exact { IfOk result
+        (λ changed. outcome store.now.elements shown.now command.now time nonce ≡ Ok changed) }
+    ensures refused { IfErr result
+        (λ stop. OnFault stop
+        (λ refusal. outcome store.now.elements shown.now command.now time nonce ≡ Err refusal)) }
 {
     check(store, shown, command)?;
     let effect = prepared(alloc, store, shown, command)?;

@@ -18,7 +18,9 @@ use std::collections::BTreeSet;
 
 /// The element after those of these ids were deleted, or None where it stays as it is.
 pub(crate) fn deleted_from(ids: &BTreeSet<Text>, e: &Element) -> Result<Option<Element>, AllocError>
-    ensures { IfOk result (λ new. unwrap_or new e.now ≡ deleting.deleted_from (contains (slice_cmp nat_cmp) ids.now) e.now) }
+    ensures { IfOk result
+        (λ new. unwrap_or new e.now ≡ deleting.deleted_from
+        (contains (slice_cmp nat_cmp) ids.now) e.now) }
 {
     if is_among(ids, &e.id) {
         return Ok(Some(deleted(e.try_clone()?)));
@@ -38,7 +40,8 @@ fn is_among(ids: &BTreeSet<Text>, id: &Text) -> bool
 
 /// The element without names of these ids.
 fn without_names(ids: &BTreeSet<Text>, e: &Element) -> Result<Element, AllocError>
-    ensures { IfOk result (λ new. new ≡ deleting.without_names (contains (slice_cmp nat_cmp) ids.now) e.now) }
+    ensures { IfOk result
+        (λ new. new ≡ deleting.without_names (contains (slice_cmp nat_cmp) ids.now) e.now) }
 {
     let new = with_bound(e.try_clone()?, kept_entries(ids, &e.bound)?);
     let new = without_container(ids, without_frame(ids, new));
@@ -66,7 +69,8 @@ fn has_gone_names(ids: &BTreeSet<Text>, e: &Element) -> bool
 
 /// Whether an entry of a listing is of one of these ids.
 fn has_gone_entry(ids: &BTreeSet<Text>, entries: &List<BoundRef>) -> bool
-    ensures { result ≡ list_any (λ entry. contains (slice_cmp nat_cmp) ids.now entry.id) entries.now }
+    ensures { result ≡ list_any
+        (λ entry. contains (slice_cmp nat_cmp) ids.now entry.id) entries.now }
 {
     entries
         .as_slice()
@@ -99,7 +103,8 @@ fn kept_entries(
     ids: &BTreeSet<Text>,
     entries: &List<BoundRef>,
 ) -> Result<List<BoundRef>, AllocError>
-    ensures { IfOk result (λ kept. kept ≡ deleting.kept_entries (contains (slice_cmp nat_cmp) ids.now) entries.now) }
+    ensures { IfOk result
+        (λ kept. kept ≡ deleting.kept_entries (contains (slice_cmp nat_cmp) ids.now) entries.now) }
 {
     let mut kept = entries.try_clone_with(BoundRef::try_clone)?.into_vec();
     kept.retain(|entry| !ids.contains(&entry.id));

@@ -144,7 +144,8 @@ fn set(
 ) -> Result<Option<Element>, AllocError>
     requires free { settings.is_protected member.now ≡ false }
     requires nests { IsCompact 100 value.now }
-    ensures { IfOk result (λ new. unwrap_or new e.now ≡ (if bytes_eq id.now e.now.id then settings.with_set_member member.now value.now e.now else e.now)) }
+    ensures { IfOk result
+        (λ new. unwrap_or new e.now ≡ (if bytes_eq id.now e.now.id then settings.with_set_member member.now value.now e.now else e.now)) }
 {
     if *id == e.id {
         return Ok(Some(with_member(alloc, e, member, value)?));
@@ -158,7 +159,8 @@ fn framed(
     frame: &Option<Text>,
     e: &Element,
 ) -> Result<Option<Element>, AllocError>
-    ensures { IfOk result (λ new. unwrap_or new e.now ≡ (if contains (slice_cmp nat_cmp) ids.now e.now.id then record e.now { frame = frame.now } else e.now)) }
+    ensures { IfOk result
+        (λ new. unwrap_or new e.now ≡ (if contains (slice_cmp nat_cmp) ids.now e.now.id then record e.now { frame = frame.now } else e.now)) }
 {
     if ids.contains(&e.id) {
         return Ok(Some(with_frame(e, frame)?));
@@ -168,7 +170,8 @@ fn framed(
 
 /// The element, in a group if it is of these ids.
 fn grouped(ids: &BTreeSet<Text>, group: &Text, e: &Element) -> Result<Option<Element>, AllocError>
-    ensures { IfOk result (λ new. unwrap_or new e.now ≡ (if contains (slice_cmp nat_cmp) ids.now e.now.id then record e.now { groups = effects.with_group group.now e.now.groups } else e.now)) }
+    ensures { IfOk result
+        (λ new. unwrap_or new e.now ≡ (if contains (slice_cmp nat_cmp) ids.now e.now.id then record e.now { groups = effects.with_group group.now e.now.groups } else e.now)) }
 {
     if ids.contains(&e.id) {
         return Ok(Some(with_group(e, group)?));
@@ -178,7 +181,8 @@ fn grouped(ids: &BTreeSet<Text>, group: &Text, e: &Element) -> Result<Option<Ele
 
 /// The element, not in a group if it is of these ids.
 fn ungrouped(ids: &BTreeSet<Text>, group: &Text, e: &Element) -> Result<Option<Element>, AllocError>
-    ensures { IfOk result (λ new. unwrap_or new e.now ≡ (if contains (slice_cmp nat_cmp) ids.now e.now.id then record e.now { groups = effects.without_group group.now e.now.groups } else e.now)) }
+    ensures { IfOk result
+        (λ new. unwrap_or new e.now ≡ (if contains (slice_cmp nat_cmp) ids.now e.now.id then record e.now { groups = effects.without_group group.now e.now.groups } else e.now)) }
 {
     if ids.contains(&e.id) {
         return Ok(Some(without_group(e, group)?));

@@ -27,7 +27,8 @@ fn framed(mut e: Element, frame: Option<Text>) -> Element
 
 /// The element in a group, which is added where it is missing.
 pub(crate) fn with_group(e: &Element, group: &Text) -> Result<Element, AllocError>
-    ensures { IfOk result (λ new. new ≡ record e.now { groups = effects.with_group group.now e.now.groups }) }
+    ensures { IfOk result
+        (λ new. new ≡ record e.now { groups = effects.with_group group.now e.now.groups }) }
 {
     let groups = with_group_in(&e.groups, group)?;
     Ok(grouped(e.try_clone()?, groups))
@@ -53,7 +54,8 @@ fn is_in(groups: &List<Text>, group: &Text) -> bool
 
 /// The element without a group.
 pub(crate) fn without_group(e: &Element, group: &Text) -> Result<Element, AllocError>
-    ensures { IfOk result (λ new. new ≡ record e.now { groups = effects.without_group group.now e.now.groups }) }
+    ensures { IfOk result
+        (λ new. new ≡ record e.now { groups = effects.without_group group.now e.now.groups }) }
 {
     let groups = without_group_in(&e.groups, group)?;
     Ok(grouped(e.try_clone()?, groups))

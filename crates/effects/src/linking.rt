@@ -290,7 +290,8 @@ pub(crate) fn taken_out(
     entry: &BoundRef,
     e: &Element,
 ) -> Result<Option<Element>, AllocError>
-    ensures { IfOk result (λ new. unwrap_or new e.now ≡ taken_out text.now old.now entry.now e.now) }
+    ensures { IfOk result
+        (λ new. unwrap_or new e.now ≡ taken_out text.now old.now entry.now e.now) }
 {
     if !(*text == e.id || is_id(&e.id, old)) {
         return Ok(None);

@@ -41,7 +41,8 @@ pub(crate) fn keys_of(alloc: Global, elements: &[Element]) -> Result<Keys, Alloc
 
 /// Adds the key of one more element.
 fn note_key(keys: &mut Keys, e: &Element) -> Result<(), AllocError>
-    ensures { OnOk result ((elements : Items ElementValue) → HasKeys keys.old elements → HasKeys keys.new (elements ++ e.now ∷ [])) }
+    ensures { OnOk result ((elements : Items ElementValue) → HasKeys keys.old elements
+        → HasKeys keys.new (elements ++ e.now ∷ [])) }
 {
     if keys.get(&e.id).is_some() {
         return Ok(());
@@ -105,7 +106,8 @@ pub(crate) fn placed(
     key: &Option<Key>,
     e: &Element,
 ) -> Result<Option<Element>, AllocError>
-    ensures { IfOk result (λ new. unwrap_or new e.now ≡ with_key_of id.now key.now (settled_in keys.now e.now)) }
+    ensures { IfOk result
+        (λ new. unwrap_or new e.now ≡ with_key_of id.now key.now (settled_in keys.now e.now)) }
 {
     if *id == e.id {
         return with_other_key(key, e);
@@ -123,7 +125,10 @@ pub(crate) fn key_at(
 ) -> Result<Option<Key>, AllocError>
     requires { HaveRisingKeys elements.now }
     ensures exact { IfOk result (λ key. key ≡ key_at elements.now spot.now id.now old.now) }
-    ensures inside { IfOk result (λ key. IfSome key (λ k. lies_between (gap_of elements.now spot.now id.now).low (gap_of elements.now spot.now id.now).high k ≡ true)) }
+    ensures inside { IfOk result
+        (λ key. IfSome key
+        (λ k. lies_between (gap_of elements.now spot.now id.now).low
+        (gap_of elements.now spot.now id.now).high k ≡ true)) }
 {
     let gap = gap_at(elements, spot, id);
     key_within(alloc, gap.low, gap.high, old)
@@ -137,8 +142,12 @@ fn key_within(
     old: &Option<Key>,
 ) -> Result<Option<Key>, AllocError>
     requires { ends_rise (option_copied low) (option_copied high) ≡ true }
-    ensures exact { IfOk result (λ key. key ≡ key_within (record { low = option_copied low.entry; high = option_copied high.entry }) old.now) }
-    ensures inside { IfOk result (λ key. IfSome key (λ k. lies_between (option_copied low.entry) (option_copied high.entry) k ≡ true)) }
+    ensures exact { IfOk result
+        (λ key. key ≡ key_within
+        (record { low = option_copied low.entry; high = option_copied high.entry }) old.now) }
+    ensures inside { IfOk result
+        (λ key. IfSome key
+        (λ k. lies_between (option_copied low.entry) (option_copied high.entry) k ≡ true)) }
 {
     if lies_within(low, high, old) {
         return key_copied(old);
@@ -148,7 +157,8 @@ fn key_within(
 
 /// Whether a key lies strictly between two others.
 fn lies_within(low: Option<&Key>, high: Option<&Key>, key: &Option<Key>) -> bool
-    ensures { result ≡ placing.lies_within (record { low = option_copied low.entry; high = option_copied high.entry }) key.now }
+    ensures { result ≡ placing.lies_within
+        (record { low = option_copied low.entry; high = option_copied high.entry }) key.now }
 {
     match key {
         Some(key) => rise(low, Some(key)) && rise(Some(key), high),

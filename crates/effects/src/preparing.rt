@@ -70,7 +70,8 @@ fn settle(
     element: &Element,
     spot: &Spot,
 ) -> Result<Effect, AllocError>
-    ensures { IfOk result (λ made. (stored : Items ElementValue) → Prepares stored shown.now (commands.Create element.now spot.now) made) }
+    ensures { IfOk result (λ made. (stored : Items ElementValue)
+        → Prepares stored shown.now (commands.Create element.now spot.now) made) }
 {
     let keys = keys_of(alloc, shown)?;
     Ok(Effect::Settle { keys })
@@ -80,7 +81,8 @@ fn settle(
 fn set(id: &Text, member: &Text, value: &Raw) -> Result<Effect, AllocError>
     requires open { is_protected member.now ≡ false }
     requires nests { IsCompact 100 value.now }
-    ensures { IfOk result (λ made. (stored view : Items ElementValue) → Prepares stored view (commands.Set id.now member.now value.now) made) }
+    ensures { IfOk result (λ made. (stored view : Items ElementValue)
+        → Prepares stored view (commands.Set id.now member.now value.now) made) }
 {
     let id = id.try_clone()?;
     let member = member.try_clone()?;
@@ -90,7 +92,8 @@ fn set(id: &Text, member: &Text, value: &Raw) -> Result<Effect, AllocError>
 
 /// The effect of deleting elements.
 fn delete(alloc: Global, ids: &List<Text>) -> Result<Effect, AllocError>
-    ensures { IfOk result (λ made. (stored view : Items ElementValue) → Prepares stored view (commands.Delete ids.now) made) }
+    ensures { IfOk result (λ made. (stored view : Items ElementValue)
+        → Prepares stored view (commands.Delete ids.now) made) }
 {
     let ids = set_of(alloc, ids)?;
     Ok(Effect::Delete { ids })
@@ -98,7 +101,8 @@ fn delete(alloc: Global, ids: &List<Text>) -> Result<Effect, AllocError>
 
 /// The effect of putting elements in a frame.
 fn frame_in(alloc: Global, ids: &List<Text>, frame: &Text) -> Result<Effect, AllocError>
-    ensures { IfOk result (λ made. (stored view : Items ElementValue) → Prepares stored view (commands.Frame ids.now frame.now) made) }
+    ensures { IfOk result (λ made. (stored view : Items ElementValue)
+        → Prepares stored view (commands.Frame ids.now frame.now) made) }
 {
     let ids = set_of(alloc, ids)?;
     let frame = Some(frame.try_clone()?);
@@ -107,7 +111,8 @@ fn frame_in(alloc: Global, ids: &List<Text>, frame: &Text) -> Result<Effect, All
 
 /// The effect of taking elements out of their frames.
 fn unframe(alloc: Global, ids: &List<Text>) -> Result<Effect, AllocError>
-    ensures { IfOk result (λ made. (stored view : Items ElementValue) → Prepares stored view (commands.Unframe ids.now) made) }
+    ensures { IfOk result (λ made. (stored view : Items ElementValue)
+        → Prepares stored view (commands.Unframe ids.now) made) }
 {
     let ids = set_of(alloc, ids)?;
     Ok(Effect::Frame { ids, frame: None })
@@ -115,7 +120,8 @@ fn unframe(alloc: Global, ids: &List<Text>) -> Result<Effect, AllocError>
 
 /// The effect of putting elements in a group.
 fn group_in(alloc: Global, ids: &List<Text>, group: &Text) -> Result<Effect, AllocError>
-    ensures { IfOk result (λ made. (stored view : Items ElementValue) → Prepares stored view (commands.Group ids.now group.now) made) }
+    ensures { IfOk result (λ made. (stored view : Items ElementValue)
+        → Prepares stored view (commands.Group ids.now group.now) made) }
 {
     let ids = set_of(alloc, ids)?;
     let group = group.try_clone()?;
@@ -124,7 +130,8 @@ fn group_in(alloc: Global, ids: &List<Text>, group: &Text) -> Result<Effect, All
 
 /// The effect of taking elements out of a group.
 fn ungroup(alloc: Global, ids: &List<Text>, group: &Text) -> Result<Effect, AllocError>
-    ensures { IfOk result (λ made. (stored view : Items ElementValue) → Prepares stored view (commands.Ungroup ids.now group.now) made) }
+    ensures { IfOk result (λ made. (stored view : Items ElementValue)
+        → Prepares stored view (commands.Ungroup ids.now group.now) made) }
 {
     let ids = set_of(alloc, ids)?;
     let group = group.try_clone()?;
@@ -145,7 +152,8 @@ fn set_of(alloc: Global, ids: &List<Text>) -> Result<BTreeSet<Text>, AllocError>
 /// The effect of placing an element.
 fn place(alloc: Global, shown: &[Element], id: &Text, spot: &Spot) -> Result<Effect, AllocError>
     requires { HaveRisingKeys shown.now }
-    ensures { IfOk result (λ made. (stored : Items ElementValue) → Prepares stored shown.now (commands.Place id.now spot.now) made) }
+    ensures { IfOk result (λ made. (stored : Items ElementValue)
+        → Prepares stored shown.now (commands.Place id.now spot.now) made) }
 {
     let keys = keys_of(alloc, shown)?;
     let old = key_in(&keys, id)?;
@@ -173,7 +181,9 @@ fn bind(
     rest: &List<Member>,
 ) -> Result<Effect, AllocError>
     requires { IsRest rest.now }
-    ensures { IfOk result (λ made. (view : Items ElementValue) → Prepares store.now.elements view (commands.Bind arrow.now side target.now rest.now) made) }
+    ensures { IfOk result (λ made. (view : Items ElementValue)
+        → Prepares store.now.elements view
+        (commands.Bind arrow.now side target.now rest.now) made) }
 {
     let binding = Binding {
         target: target.try_clone()?,
@@ -184,7 +194,8 @@ fn bind(
 
 /// The effect of unbinding an end of an arrow.
 fn unbind(store: &Store, arrow: &Text, side: Side) -> Result<Effect, AllocError>
-    ensures { IfOk result (λ made. (view : Items ElementValue) → Prepares store.now.elements view (commands.Unbind arrow.now side) made) }
+    ensures { IfOk result (λ made. (view : Items ElementValue)
+        → Prepares store.now.elements view (commands.Unbind arrow.now side) made) }
 {
     link(store, arrow, side, None)
 }
@@ -197,7 +208,9 @@ fn link(
     binding: Option<Binding>,
 ) -> Result<Effect, AllocError>
     requires { IfSome binding IsBinding }
-    ensures exact { IfOk result (λ prepared. (e : ElementValue) → made_by prepared e ≡ linking.bound_to arrow.now side binding (linking.old_target store.now.elements arrow.now side) e) }
+    ensures exact { IfOk result (λ prepared. (e : ElementValue)
+        → made_by prepared e ≡ linking.bound_to arrow.now side binding
+        (linking.old_target store.now.elements arrow.now side) e) }
     ensures sound { IfOk result IsSoundEffect }
 {
     let old = old_target(store, arrow, side)?;
@@ -247,7 +260,8 @@ fn named_apart(
     binding: &Option<Binding>,
     other: &Option<Binding>,
 ) -> Result<Option<Text>, AllocError>
-    ensures { IfOk result (λ named. named ≡ apart_from (target_of other.now) (target_of binding.now)) }
+    ensures { IfOk result
+        (λ named. named ≡ apart_from (target_of other.now) (target_of binding.now)) }
 {
     match binding {
         Some(binding) if !names(other, &binding.target) => Ok(Some(binding.target.try_clone()?)),
@@ -277,7 +291,8 @@ fn apart_from_target(binding: &Option<Binding>, id: Option<Text>) -> Option<Text
 
 /// The effect of a text's new container.
 fn label(store: &Store, container: &Text, text: &Text) -> Result<Effect, AllocError>
-    ensures { IfOk result (λ made. (view : Items ElementValue) → Prepares store.now.elements view (commands.Label container.now text.now) made) }
+    ensures { IfOk result (λ made. (view : Items ElementValue)
+        → Prepares store.now.elements view (commands.Label container.now text.now) made) }
 {
     let old = old_container(store, text)?;
     let old = apart_from_id(container, old);
@@ -305,7 +320,8 @@ fn apart_from_id(other: &Text, id: Option<Text>) -> Option<Text>
 
 /// The effect of taking a text out of its container.
 fn unlabel(store: &Store, text: &Text) -> Result<Effect, AllocError>
-    ensures { IfOk result (λ made. (view : Items ElementValue) → Prepares store.now.elements view (commands.Unlabel text.now) made) }
+    ensures { IfOk result (λ made. (view : Items ElementValue)
+        → Prepares store.now.elements view (commands.Unlabel text.now) made) }
 {
     let old = old_container(store, text)?;
     let entry = entry_of(text, Role::Text)?;

@@ -26,7 +26,9 @@ pub(crate) fn check(
     command: &Command,
 ) -> Result<(), Stop<Refusal>>
     ensures ok { OnOk result (refusal_of store.now.elements shown.now command.now ≡ None) }
-    ensures refused { IfErr result (λ stop. OnFault stop (λ refusal. refusal_of store.now.elements shown.now command.now ≡ Some refusal)) }
+    ensures refused { IfErr result
+        (λ stop. OnFault stop
+        (λ refusal. refusal_of store.now.elements shown.now command.now ≡ Some refusal)) }
 {
     check_new(store, command)?;
     check_live(store, command)?;
@@ -37,7 +39,8 @@ pub(crate) fn check(
 /// Fails where a new element's id is stored.
 fn check_new(store: &Store, command: &Command) -> Result<(), Stop<Refusal>>
     ensures ok { OnOk result (existing store.now.elements command.now ≡ None) }
-    ensures refused { IfErr result (λ stop. OnFault stop (λ refusal. existing store.now.elements command.now ≡ Some refusal)) }
+    ensures refused { IfErr result
+        (λ stop. OnFault stop (λ refusal. existing store.now.elements command.now ≡ Some refusal)) }
 {
     match command {
         Command::Create { element, .. } => check_absent(store, element),
@@ -48,7 +51,9 @@ fn check_new(store: &Store, command: &Command) -> Result<(), Stop<Refusal>>
 /// Fails where the element's id is stored.
 fn check_absent(store: &Store, e: &Element) -> Result<(), Stop<Refusal>>
     ensures ok { OnOk result (is_some (element_of store.now.elements e.now.id) ≡ false) }
-    ensures refused { IfErr result (λ stop. OnFault stop (λ refusal. (is_some (element_of store.now.elements e.now.id) ≡ true) × (refusal ≡ told.Exists e.now.id))) }
+    ensures refused { IfErr result
+        (λ stop. OnFault stop (λ refusal. (is_some (element_of store.now.elements e.now.id) ≡ true)
+        × (refusal ≡ told.Exists e.now.id))) }
 {
     let id = e.id.try_clone()?;
     match store.get(&id) {
@@ -60,7 +65,8 @@ fn check_absent(store: &Store, e: &Element) -> Result<(), Stop<Refusal>>
 /// Fails where an id that the command names isn't live.
 fn check_live(store: &Store, command: &Command) -> Result<(), Stop<Refusal>>
     ensures ok { OnOk result (missing store.now.elements command.now ≡ None) }
-    ensures refused { IfErr result (λ stop. OnFault stop (λ refusal. missing store.now.elements command.now ≡ Some refusal)) }
+    ensures refused { IfErr result
+        (λ stop. OnFault stop (λ refusal. missing store.now.elements command.now ≡ Some refusal)) }
 {
     match command {
         Command::Create { spot, .. } => check_spot(store, spot),
@@ -81,7 +87,9 @@ fn check_live(store: &Store, command: &Command) -> Result<(), Stop<Refusal>>
 /// Fails where no live element has the id.
 fn check_id(store: &Store, id: &Text) -> Result<(), Stop<Refusal>>
     ensures ok { OnOk result (first_missing store.now.elements (id.now ∷ []) ≡ None) }
-    ensures refused { IfErr result (λ stop. OnFault stop (λ refusal. first_missing store.now.elements (id.now ∷ []) ≡ Some refusal)) }
+    ensures refused { IfErr result
+        (λ stop. OnFault stop
+        (λ refusal. first_missing store.now.elements (id.now ∷ []) ≡ Some refusal)) }
 {
     if is_live_id(store, id) {
         return Ok(());
@@ -102,7 +110,9 @@ fn is_live_id(store: &Store, id: &Text) -> bool
 /// Fails at the first of two ids that isn't live.
 fn check_two(store: &Store, id: &Text, other: &Text) -> Result<(), Stop<Refusal>>
     ensures ok { OnOk result (first_missing store.now.elements (id.now ∷ other.now ∷ []) ≡ None) }
-    ensures refused { IfErr result (λ stop. OnFault stop (λ refusal. first_missing store.now.elements (id.now ∷ other.now ∷ []) ≡ Some refusal)) }
+    ensures refused { IfErr result
+        (λ stop. OnFault stop
+        (λ refusal. first_missing store.now.elements (id.now ∷ other.now ∷ []) ≡ Some refusal)) }
 {
     check_id(store, id)?;
     check_id(store, other)
@@ -111,7 +121,9 @@ fn check_two(store: &Store, id: &Text, other: &Text) -> Result<(), Stop<Refusal>
 /// Fails at the first of these ids that isn't live.
 fn check_ids(store: &Store, ids: &List<Text>) -> Result<(), Stop<Refusal>>
     ensures ok { OnOk result (first_missing store.now.elements ids.now ≡ None) }
-    ensures refused { IfErr result (λ stop. OnFault stop (λ refusal. first_missing store.now.elements ids.now ≡ Some refusal)) }
+    ensures refused { IfErr result
+        (λ stop. OnFault stop
+        (λ refusal. first_missing store.now.elements ids.now ≡ Some refusal)) }
 {
     for id in ids.as_slice() {
         check_id(store, id)?;
@@ -122,7 +134,9 @@ fn check_ids(store: &Store, ids: &List<Text>) -> Result<(), Stop<Refusal>>
 /// Fails at the first of these ids and one more that isn't live.
 fn check_ids_and(store: &Store, ids: &List<Text>, id: &Text) -> Result<(), Stop<Refusal>>
     ensures ok { OnOk result (first_missing store.now.elements (ids.now ++ id.now ∷ []) ≡ None) }
-    ensures refused { IfErr result (λ stop. OnFault stop (λ refusal. first_missing store.now.elements (ids.now ++ id.now ∷ []) ≡ Some refusal)) }
+    ensures refused { IfErr result
+        (λ stop. OnFault stop
+        (λ refusal. first_missing store.now.elements (ids.now ++ id.now ∷ []) ≡ Some refusal)) }
 {
     check_ids(store, ids)?;
     check_id(store, id)
@@ -131,7 +145,9 @@ fn check_ids_and(store: &Store, ids: &List<Text>, id: &Text) -> Result<(), Stop<
 /// Fails where the id that a spot names isn't live.
 fn check_spot(store: &Store, spot: &Spot) -> Result<(), Stop<Refusal>>
     ensures ok { OnOk result (first_missing store.now.elements (spot_ids spot.now) ≡ None) }
-    ensures refused { IfErr result (λ stop. OnFault stop (λ refusal. first_missing store.now.elements (spot_ids spot.now) ≡ Some refusal)) }
+    ensures refused { IfErr result
+        (λ stop. OnFault stop
+        (λ refusal. first_missing store.now.elements (spot_ids spot.now) ≡ Some refusal)) }
 {
     match spot {
         Spot::Bottom | Spot::Top => Ok(()),
@@ -142,7 +158,9 @@ fn check_spot(store: &Store, spot: &Spot) -> Result<(), Stop<Refusal>>
 /// Fails where an element that gets a place, or the one that it is placed above, isn't live, or where they are one.
 fn check_place(store: &Store, id: &Text, spot: &Spot) -> Result<(), Stop<Refusal>>
     ensures ok { OnOk result (missing store.now.elements (commands.Place id.now spot.now) ≡ None) }
-    ensures refused { IfErr result (λ stop. OnFault stop (λ refusal. missing store.now.elements (commands.Place id.now spot.now) ≡ Some refusal)) }
+    ensures refused { IfErr result
+        (λ stop. OnFault stop
+        (λ refusal. missing store.now.elements (commands.Place id.now spot.now) ≡ Some refusal)) }
 {
     check_id(store, id)?;
     check_spot(store, spot)?;
@@ -157,7 +175,9 @@ fn check_place(store: &Store, id: &Text, spot: &Spot) -> Result<(), Stop<Refusal
 /// Fails where an element isn't of a kind that the command is for.
 fn check_kinds(store: &Store, shown: &[Element], command: &Command) -> Result<(), Stop<Refusal>>
     ensures ok { OnOk result (misfit store.now.elements shown.now command.now ≡ None) }
-    ensures refused { IfErr result (λ stop. OnFault stop (λ refusal. misfit store.now.elements shown.now command.now ≡ Some refusal)) }
+    ensures refused { IfErr result
+        (λ stop. OnFault stop
+        (λ refusal. misfit store.now.elements shown.now command.now ≡ Some refusal)) }
 {
     match command {
         Command::Bind { arrow, target, .. } => {
@@ -181,7 +201,8 @@ fn check_kinds(store: &Store, shown: &[Element], command: &Command) -> Result<()
 /// Fails unless the element of the id is of the right kind.
 fn check_right(is_right: bool, id: &Text) -> Result<(), Stop<Refusal>>
     ensures ok { OnOk result (unless_right is_right id.now ≡ None) }
-    ensures refused { IfErr result (λ stop. OnFault stop (λ refusal. unless_right is_right id.now ≡ Some refusal)) }
+    ensures refused { IfErr result
+        (λ stop. OnFault stop (λ refusal. unless_right is_right id.now ≡ Some refusal)) }
 {
     if is_right {
         return Ok(());
@@ -192,7 +213,8 @@ fn check_right(is_right: bool, id: &Text) -> Result<(), Stop<Refusal>>
 /// Fails at the first of these ids that is a frame's.
 fn check_no_frames(store: &Store, ids: &List<Text>) -> Result<(), Stop<Refusal>>
     ensures ok { OnOk result (first_frame store.now.elements ids.now ≡ None) }
-    ensures refused { IfErr result (λ stop. OnFault stop (λ refusal. first_frame store.now.elements ids.now ≡ Some refusal)) }
+    ensures refused { IfErr result
+        (λ stop. OnFault stop (λ refusal. first_frame store.now.elements ids.now ≡ Some refusal)) }
 {
     for id in ids.as_slice() {
         check_right(!is_frame_id(store, id), id)?;
@@ -257,7 +279,8 @@ fn is_target_of(e: &Element, id: &Text) -> bool
 /// Fails where the member is one that no value can be given.
 fn check_member(command: &Command) -> Result<(), Stop<Refusal>>
     ensures ok { OnOk result (guarded command.now ≡ None) }
-    ensures refused { IfErr result (λ stop. OnFault stop (λ refusal. guarded command.now ≡ Some refusal)) }
+    ensures refused { IfErr result
+        (λ stop. OnFault stop (λ refusal. guarded command.now ≡ Some refusal)) }
 {
     match command {
         Command::Set { member, .. } if is_protected(member) => {

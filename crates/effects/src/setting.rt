@@ -90,7 +90,8 @@ fn put_value(members: &mut Vec<Member>, name: &Text, value: Raw) -> Result<(), A
 
 /// How many of the first members have lesser names.
 fn count_below(members: &Vec<Member>, name: &Text) -> usize
-    ensures count { result ≡ prefix_len (λ member. bytes_less member.name name.now) members.now.items }
+    ensures count { result ≡ prefix_len
+        (λ member. bytes_less member.name name.now) members.now.items }
     ensures bound { result ≤ length members.now.items }
 {
     members
@@ -108,7 +109,8 @@ fn is_below(member: &Member, name: &Text) -> bool
 
 /// Whether a member of this name is at the place.
 fn is_named_at(members: &Vec<Member>, place: usize, name: &Text) -> bool
-    ensures { result ≡ option_map_or (λ member. bytes_eq name.now member.name) (slice_get members.now.items place) false }
+    ensures { result ≡ option_map_or (λ member. bytes_eq name.now member.name)
+        (slice_get members.now.items place) false }
 {
     match members.get(place) {
         Some(member) => *name == member.name,

@@ -29,9 +29,15 @@ pub(crate) fn changes_of(
     requires time { time ≤ greatest_whole }
     requires nonce { nonce ≤ greatest_whole }
     requires sound { IsSoundEffect effect.now }
-    ensures changed { IfOk result (λ changed. changed.items ≡ changes.changes_of (made_by effect.now) time nonce store.now.elements) }
-    ensures none_full { IfOk result (λ _. find (is_full (made_by effect.now)) store.now.elements ≡ None) }
-    ensures full { IfErr result (λ stop. OnFault stop (λ refusal. option_map refusal_at (find (is_full (made_by effect.now)) store.now.elements) ≡ Some refusal)) }
+    ensures changed { IfOk result
+        (λ changed. changed.items ≡ changes.changes_of
+        (made_by effect.now) time nonce store.now.elements) }
+    ensures none_full { IfOk result
+        (λ _. find (is_full (made_by effect.now)) store.now.elements ≡ None) }
+    ensures full { IfErr result
+        (λ stop. OnFault stop
+        (λ refusal. option_map refusal_at
+        (find (is_full (made_by effect.now)) store.now.elements) ≡ Some refusal)) }
 {
     let mut changed = Vec::new(alloc);
     for i in 0..store.len() {
@@ -73,9 +79,12 @@ fn change_of(
     requires time { time ≤ greatest_whole }
     requires nonce { nonce ≤ greatest_whole }
     requires sound { IsSoundEffect effect.now }
-    ensures changed { IfOk result (λ new. new ≡ changes.change_of (made_by effect.now) time nonce e.now) }
+    ensures changed { IfOk result
+        (λ new. new ≡ changes.change_of (made_by effect.now) time nonce e.now) }
     ensures free { IfOk result (λ _. is_full (made_by effect.now) e.now ≡ false) }
-    ensures full { IfErr result (λ stop. OnFault stop (λ refusal. (is_full (made_by effect.now) e.now ≡ true) × (refusal ≡ refusal_at e.now))) }
+    ensures full { IfErr result
+        (λ stop. OnFault stop (λ refusal. (is_full (made_by effect.now) e.now ≡ true)
+        × (refusal ≡ refusal_at e.now))) }
 {
     if !is_live(e) {
         return Ok(None);
@@ -89,7 +98,8 @@ fn change_of(
 /// What an effect makes of an element, if that changes.
 fn changed(alloc: Global, effect: &Effect, e: &Element) -> Result<Option<Element>, AllocError>
     requires sound { IsSoundEffect effect.now }
-    ensures { IfOk result (λ new. new ≡ (if differs e.now (made_by effect.now e.now) then Some (made_by effect.now e.now) else None)) }
+    ensures { IfOk result
+        (λ new. new ≡ (if differs e.now (made_by effect.now e.now) then Some (made_by effect.now e.now) else None)) }
 {
     let Some(new) = effect.apply(alloc, e)? else {
         return Ok(None);
@@ -106,7 +116,8 @@ fn stamped(mut e: Element, time: u64, nonce: u64) -> Result<Element, Stop<Refusa
     requires nonce { nonce ≤ greatest_whole }
     ensures stamped { IfOk result (λ new. new ≡ changes.stamped time nonce e) }
     ensures free { IfOk result (λ _. e.version ≢ greatest_whole) }
-    ensures full { IfErr result (λ stop. OnFault stop (λ refusal. (e.version ≡ greatest_whole) × (refusal ≡ refusal_at e))) }
+    ensures full { IfErr result (λ stop. OnFault stop (λ refusal. (e.version ≡ greatest_whole)
+        × (refusal ≡ refusal_at e))) }
 {
     match stamp(&mut e, time, nonce) {
         Ok(()) => Ok(e),

@@ -15,5 +15,6 @@ pub fn given_are_elements()
     ensures { (stored given : List ElementValue) (command : Command) (time nonce : ℕ)
         → AreElements stored → IsWithinLimits command → IsWrittenCommand command
         → time ≤ greatest_whole → nonce ≤ greatest_whole
-        → outcome stored (shown (live_elements stored)) command time nonce ≡ Ok given → AreElements given }
+        → outcome stored (shown (live_elements stored)) command time nonce ≡ Ok given
+        → AreElements given }
 {}

@@ -14,7 +14,8 @@ abbrev pub AreEntriesOf : List (List Delta) → List (List Pair) → Type 0
 AreEntriesOf [] [] = Unit {0}
 AreEntriesOf [] (pairs ∷ others) = ⊥
 AreEntriesOf (parts ∷ entries) [] = ⊥
-AreEntriesOf (parts ∷ entries) (pairs ∷ others) = IsEntryOf parts pairs × AreEntriesOf entries others
+AreEntriesOf (parts ∷ entries) (pairs ∷ others) =
+    IsEntryOf parts pairs × AreEntriesOf entries others
 
 -- A stack, its topmost entry last, stands for one of pairs, its topmost entry first.
 abbrev pub StackStandsFor : List (List Delta) → List (List Pair) → Type 0

@@ -49,14 +49,16 @@ abbrev pub AreUnseen : List ElementValue → List (List Delta) → Type 0
 AreUnseen store stack = (parts : List Delta) → Contains stack parts → ¬ (IsSeen store parts)
 
 -- The topmost entry of a stack that is seen, what is below it and what is above it.
-pub record IsTopmostSeen (store : List ElementValue) (stack below : List (List Delta)) (parts : List Delta) (above : List (List Delta)) : Type 0 where
+pub record IsTopmostSeen (store : List ElementValue) (stack below : List (List Delta))
+    (parts : List Delta) (above : List (List Delta)) : Type 0 where
   pub split : stack ≡ below ++ parts ∷ above
   pub seen : IsSeen store parts
   pub unseen : AreUnseen store above
 
 -- One step took the topmost entry that is seen from one stack. Those above it went to the other stack one after another,
 -- inverted, and on them one that takes the step back.
-pub record HasStepped (store : List ElementValue) (time nonce : ℕ) (given : List ElementValue) (from to below grown : List (List Delta)) : Type 0 where
+pub record HasStepped (store : List ElementValue) (time nonce : ℕ) (given : List ElementValue)
+    (from to below grown : List (List Delta)) : Type 0 where
   pub parts : List Delta
   pub above : List (List Delta)
   pub made : List Delta
@@ -66,14 +68,17 @@ pub record HasStepped (store : List ElementValue) (time nonce : ℕ) (given : Li
 
 -- One undo, and one redo, from the stacks before to those after.
 abbrev pub HasUndone : List ElementValue → ℕ → ℕ → List ElementValue → Stacks → Stacks → Type 0
-HasUndone store time nonce given old new = HasStepped store time nonce given old.undo old.redo new.undo new.redo
+HasUndone store time nonce given old new =
+    HasStepped store time nonce given old.undo old.redo new.undo new.redo
 
 abbrev pub HasRedone : List ElementValue → ℕ → ℕ → List ElementValue → Stacks → Stacks → Type 0
-HasRedone store time nonce given old new = HasStepped store time nonce given old.redo old.undo new.redo new.undo
+HasRedone store time nonce given old new =
+    HasStepped store time nonce given old.redo old.undo new.redo new.undo
 
 -- The topmost entry of a stack that is seen would change the element of this id, which stands at the greatest version, and no
 -- lesser one.
-pub record StopsAt (store : List ElementValue) (stack : List (List Delta)) (id : List ℕ) : Type 0 where
+pub record StopsAt (store : List ElementValue) (stack : List (List Delta))
+    (id : List ℕ) : Type 0 where
   pub below : List (List Delta)
   pub parts : List Delta
   pub above : List (List Delta)
@@ -115,10 +120,12 @@ side false stacks = stacks.redo
 
 -- Where an entry was made, the stack has more entries than are passed over, once the pending one is noted.
 abbrev pub FitsIn : HistoryStep → Stacks → Type 0
-FitsIn step stacks = IfSome step.made (λ made. step.passed < length (side step.undo (noted step.pending stacks)))
+FitsIn step stacks =
+    IfSome step.made (λ made. step.passed < length (side step.undo (noted step.pending stacks)))
 
 -- what is planned for a stack: nothing where no entry is seen, or the step from the topmost one
-pub record IsPlanned (store : List ElementValue) (time nonce : ℕ) (stack : List (List Delta)) (given : List ElementValue) (made : List Delta) (passed : ℕ) : Type 0 where
+pub record IsPlanned (store : List ElementValue) (time nonce : ℕ) (stack : List (List Delta))
+    (given : List ElementValue) (made : List Delta) (passed : ℕ) : Type 0 where
   pub below : List (List Delta)
   pub parts : List Delta
   pub above : List (List Delta)

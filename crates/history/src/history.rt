@@ -105,12 +105,19 @@ impl History {
         requires pending { HasStoredIds store.now.elements pending }
         requires stored { HaveStoredIds store.now.elements self.now.stacks.undo }
 
-        ensures done { (step : HistoryStep) (given : Items ElementValue) → result ≡ Ok (step, Step.Done given)
-            → HasUndone store.now.elements time nonce given (noted pending self.now.stacks) (put_step step self.now.stacks) }
-        ensures nothing { IfOk result (λ plan. (plan.1 ≡ Step.Nothing) ↔ AreUnseen store.now.elements (noted pending self.now.stacks).undo) }
-        ensures nothing_kept { (step : HistoryStep) → result ≡ Ok (step, Step.Nothing) → put_step step self.now.stacks ≡ noted pending self.now.stacks }
+        ensures done { (step : HistoryStep) (given : Items ElementValue)
+            → result ≡ Ok (step, Step.Done given)
+            → HasUndone store.now.elements time nonce given (noted pending self.now.stacks)
+            (put_step step self.now.stacks) }
+        ensures nothing { IfOk result
+            (λ plan. (plan.1 ≡ Step.Nothing) ↔ AreUnseen store.now.elements
+            (noted pending self.now.stacks).undo) }
+        ensures nothing_kept { (step : HistoryStep) → result ≡ Ok (step, Step.Nothing)
+            → put_step step self.now.stacks ≡ noted pending self.now.stacks }
         ensures fits { IfOk result (λ plan. FitsIn plan.0 self.now.stacks) }
-        ensures full { IfErr result (λ stop. OnFull stop (StopsAt store.now.elements (noted pending self.now.stacks).undo)) }
+        ensures full { IfErr result
+            (λ stop. OnFull stop
+            (StopsAt store.now.elements (noted pending self.now.stacks).undo)) }
     {
         let alloc = *self.undo.allocator();
         let plan = plan_noted(alloc, &pending, &self.undo, store, time, nonce)?;
@@ -129,12 +136,19 @@ impl History {
         requires nonce { nonce ≤ greatest_whole }
         requires stored { HaveStoredIds store.now.elements self.now.stacks.redo }
 
-        ensures done { (step : HistoryStep) (given : Items ElementValue) → result ≡ Ok (step, Step.Done given)
-            → HasRedone store.now.elements time nonce given (noted pending self.now.stacks) (put_step step self.now.stacks) }
-        ensures nothing { IfOk result (λ plan. (plan.1 ≡ Step.Nothing) ↔ AreUnseen store.now.elements (noted pending self.now.stacks).redo) }
-        ensures nothing_kept { (step : HistoryStep) → result ≡ Ok (step, Step.Nothing) → put_step step self.now.stacks ≡ noted pending self.now.stacks }
+        ensures done { (step : HistoryStep) (given : Items ElementValue)
+            → result ≡ Ok (step, Step.Done given)
+            → HasRedone store.now.elements time nonce given (noted pending self.now.stacks)
+            (put_step step self.now.stacks) }
+        ensures nothing { IfOk result
+            (λ plan. (plan.1 ≡ Step.Nothing) ↔ AreUnseen store.now.elements
+            (noted pending self.now.stacks).redo) }
+        ensures nothing_kept { (step : HistoryStep) → result ≡ Ok (step, Step.Nothing)
+            → put_step step self.now.stacks ≡ noted pending self.now.stacks }
         ensures fits { IfOk result (λ plan. FitsIn plan.0 self.now.stacks) }
-        ensures full { IfErr result (λ stop. OnFull stop (StopsAt store.now.elements (noted pending self.now.stacks).redo)) }
+        ensures full { IfErr result
+            (λ stop. OnFull stop
+            (StopsAt store.now.elements (noted pending self.now.stacks).redo)) }
     {
         let alloc = *self.redo.allocator();
         if !is_nothing(&pending) {
@@ -177,8 +191,10 @@ impl History {
 
         ensures done { (given : Items ElementValue) → result ≡ Ok (Step.Done given)
             → HasUndone store.now.elements time nonce given self.old.stacks self.new.stacks }
-        ensures nothing { IfOk result (λ step. (step ≡ Step.Nothing) ↔ AreUnseen store.now.elements self.old.stacks.undo) }
-        ensures full { IfErr result (λ stop. OnFull stop (StopsAt store.now.elements self.old.stacks.undo)) }
+        ensures nothing { IfOk result
+            (λ step. (step ≡ Step.Nothing) ↔ AreUnseen store.now.elements self.old.stacks.undo) }
+        ensures full { IfErr result
+            (λ stop. OnFull stop (StopsAt store.now.elements self.old.stacks.undo)) }
 
         ensures nothing_kept { result ≡ Ok Step.Nothing → self.new.stacks ≡ self.old.stacks }
         ensures err { OnErr result (self.new.stacks ≡ self.old.stacks) }
@@ -198,8 +214,10 @@ impl History {
 
         ensures done { (given : Items ElementValue) → result ≡ Ok (Step.Done given)
             → HasRedone store.now.elements time nonce given self.old.stacks self.new.stacks }
-        ensures nothing { IfOk result (λ step. (step ≡ Step.Nothing) ↔ AreUnseen store.now.elements self.old.stacks.redo) }
-        ensures full { IfErr result (λ stop. OnFull stop (StopsAt store.now.elements self.old.stacks.redo)) }
+        ensures nothing { IfOk result
+            (λ step. (step ≡ Step.Nothing) ↔ AreUnseen store.now.elements self.old.stacks.redo) }
+        ensures full { IfErr result
+            (λ stop. OnFull stop (StopsAt store.now.elements self.old.stacks.redo)) }
 
         ensures nothing_kept { result ≡ Ok Step.Nothing → self.new.stacks ≡ self.old.stacks }
         ensures err { OnErr result (self.new.stacks ≡ self.old.stacks) }

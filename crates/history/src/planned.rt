@@ -31,7 +31,8 @@ pub(crate) struct Plan {
 
 /// The step and the answer of a plan, or of none.
 pub(crate) fn step_of(pending: Entry, undo: bool, plan: Option<Plan>) -> (HistoryStep, Step)
-    ensures none { plan ≡ None → result ≡ (record { pending = pending; made = None; undo = undo; passed = 0 }, Step.Nothing) }
+    ensures none { plan ≡ None
+        → result ≡ (record { pending = pending; made = None; undo = undo; passed = 0 }, Step.Nothing) }
     ensures some { (p : Plan) → plan ≡ Some p
         → result ≡ (record { pending = pending; made = Some p.made; undo = undo; passed = p.passed }, Step.Done p.given) }
 {
@@ -92,7 +93,8 @@ pub(crate) fn shift(from: &mut Vec<Entry>, to: &mut Vec<Entry>, passed: u64, mad
 fn move_last(from: &mut Vec<Entry>, to: &mut Vec<Entry>)
     requires some { 0 < vec_len from.old }
     requires room { vec_len to.old < vec_capacity to.old }
-    ensures moved { (left : Items (Items Delta)) (parts : Items Delta) → from.old.items ≡ left ++ parts ∷ []
+    ensures moved { (left : Items (Items Delta)) (parts : Items Delta)
+        → from.old.items ≡ left ++ parts ∷ []
         → (from.new.items ≡ left) × (to.new.items ≡ to.old.items ++ inverses parts ∷ []) }
     ensures from_count { vec_len from.new + 1 ≡ vec_len from.old }
     ensures to_count { vec_len to.new ≡ vec_len to.old + 1 }

@@ -41,9 +41,15 @@ pub(crate) fn plan_noted(
     requires nonce { nonce ≤ greatest_whole }
     requires pending { HasStoredIds store.now.elements pending.now }
     requires stored { HaveStoredIds store.now.elements stack.now.items }
-    ensures none { IfOk result (λ plan. plan ≡ None → AreUnseen store.now.elements (with_entry pending.now stack.now.items)) }
-    ensures some { IfOk result (λ plan. IfSome plan (λ p. IsPlanned store.now.elements time nonce (with_entry pending.now stack.now.items) p.given p.made p.passed)) }
-    ensures full { IfErr result (λ stop. OnFull stop (StopsAt store.now.elements (with_entry pending.now stack.now.items))) }
+    ensures none { IfOk result (λ plan. plan ≡ None
+        → AreUnseen store.now.elements (with_entry pending.now stack.now.items)) }
+    ensures some { IfOk result
+        (λ plan. IfSome plan
+        (λ p. IsPlanned store.now.elements time nonce
+        (with_entry pending.now stack.now.items) p.given p.made p.passed)) }
+    ensures full { IfErr result
+        (λ stop. OnFull stop
+        (StopsAt store.now.elements (with_entry pending.now stack.now.items))) }
 {
     if is_nothing(pending) {
         plan_back(alloc, stack, store, time, nonce)
@@ -73,9 +79,14 @@ fn plan_over(
     requires nonce { nonce ≤ greatest_whole }
     requires pending { HasStoredIds store.now.elements pending.now }
     requires stored { HaveStoredIds store.now.elements stack.now.items }
-    ensures none { IfOk result (λ plan. plan ≡ None → AreUnseen store.now.elements (stack.now.items ++ pending.now ∷ [])) }
-    ensures some { IfOk result (λ plan. IfSome plan (λ p. IsPlanned store.now.elements time nonce (stack.now.items ++ pending.now ∷ []) p.given p.made p.passed)) }
-    ensures full { IfErr result (λ stop. OnFull stop (StopsAt store.now.elements (stack.now.items ++ pending.now ∷ []))) }
+    ensures none { IfOk result (λ plan. plan ≡ None
+        → AreUnseen store.now.elements (stack.now.items ++ pending.now ∷ [])) }
+    ensures some { IfOk result
+        (λ plan. IfSome plan
+        (λ p. IsPlanned store.now.elements time nonce
+        (stack.now.items ++ pending.now ∷ []) p.given p.made p.passed)) }
+    ensures full { IfErr result
+        (λ stop. OnFull stop (StopsAt store.now.elements (stack.now.items ++ pending.now ∷ []))) }
 {
     let seen = is_seen(alloc, pending, store)?;
     if seen {
@@ -110,8 +121,11 @@ pub(crate) fn plan_back(
     requires time { time ≤ greatest_whole }
     requires nonce { nonce ≤ greatest_whole }
     requires stored { HaveStoredIds store.now.elements stack.now.items }
-    ensures none { IfOk result (λ plan. plan ≡ None → AreUnseen store.now.elements stack.now.items) }
-    ensures some { IfOk result (λ plan. IfSome plan (λ p. IsPlanned store.now.elements time nonce stack.now.items p.given p.made p.passed)) }
+    ensures none { IfOk result (λ plan. plan ≡ None
+        → AreUnseen store.now.elements stack.now.items) }
+    ensures some { IfOk result
+        (λ plan. IfSome plan
+        (λ p. IsPlanned store.now.elements time nonce stack.now.items p.given p.made p.passed)) }
     ensures passed { IfOk result (λ plan. IfSome plan (λ p. p.passed < 18446744073709551615)) }
     ensures full { IfErr result (λ stop. OnFull stop (StopsAt store.now.elements stack.now.items)) }
 {
@@ -133,8 +147,10 @@ fn topmost_seen(
     store: &Store,
 ) -> Result<Option<usize>, AllocError>
     requires { HaveStoredIds store.now.elements stack.now.items }
-    ensures none { IfOk result (λ found. found ≡ None → AreUnseen store.now.elements stack.now.items) }
-    ensures some { IfOk result (λ found. IfSome found (λ i. IsSeenAt store.now.elements stack.now.items i)) }
+    ensures none { IfOk result (λ found. found ≡ None
+        → AreUnseen store.now.elements stack.now.items) }
+    ensures some { IfOk result
+        (λ found. IfSome found (λ i. IsSeenAt store.now.elements stack.now.items i)) }
 {
     let mut count = stack.len();
     while 0 < count {
@@ -185,8 +201,10 @@ fn reverted(alloc: Global, part: &Part, now: &Element) -> Result<Element, AllocE
 
 /// Whether two elements differ outside the stamp and one of them is live.
 fn is_shown_change(now: &Element, e: &Element) -> bool
-    ensures shown { result ≡ true → Differ now.now e.now × ((now.now.deleted ≡ false) ⊎ (e.now.deleted ≡ false)) }
-    ensures hidden { result ≡ false → Differ now.now e.now → ((now.now.deleted ≡ false) ⊎ (e.now.deleted ≡ false)) → ⊥ }
+    ensures shown { result ≡ true → Differ now.now e.now
+        × ((now.now.deleted ≡ false) ⊎ (e.now.deleted ≡ false)) }
+    ensures hidden { result ≡ false → Differ now.now e.now
+        → ((now.now.deleted ≡ false) ⊎ (e.now.deleted ≡ false)) → ⊥ }
 {
     !same_but_stamp(now, e) && !(now.deleted && e.deleted)
 }
@@ -203,9 +221,11 @@ fn planned(
     requires time { time ≤ greatest_whole }
     requires nonce { nonce ≤ greatest_whole }
     requires stored { HasStoredIds store.now.elements entry.now }
-    ensures ok { IfOk result (λ plan. IsStep entry.now store.now.elements time nonce plan.given plan.made) }
+    ensures ok { IfOk result
+        (λ plan. IsStep entry.now store.now.elements time nonce plan.given plan.made) }
     ensures passed { IfOk result (λ plan. plan.passed ≡ passed) }
-    ensures full { IfErr result (λ stop. OnFull stop (λ id. IsLeastFull entry.now store.now.elements id)) }
+    ensures full { IfErr result
+        (λ stop. OnFull stop (λ id. IsLeastFull entry.now store.now.elements id)) }
 {
     let mut given = Vec::new(alloc);
     let mut made = Vec::new(alloc);
@@ -235,10 +255,14 @@ fn revert(
     requires id { part.now.id ≡ now.now.id }
     requires time { time ≤ greatest_whole }
     requires nonce { nonce ≤ greatest_whole }
-    ensures ok { (parts : Items Delta) (store : Items ElementValue) → IsStep parts store time nonce given.old.items made.old.items
-        → are_rising (part_ids (parts ++ part.now ∷ [])) ≡ true → element_of store part.now.id ≡ Some now.now
-        → OnOk result (IsStep (parts ++ part.now ∷ []) store time nonce given.new.items made.new.items) }
-    ensures full { IfErr result (λ stop. OnFull stop (λ id. (id ≡ part.now.id) × IsFull part.now now.now)) }
+    ensures ok { (parts : Items Delta) (store : Items ElementValue)
+        → IsStep parts store time nonce given.old.items made.old.items
+        → are_rising (part_ids (parts ++ part.now ∷ [])) ≡ true
+        → element_of store part.now.id ≡ Some now.now
+        → OnOk result (IsStep
+        (parts ++ part.now ∷ []) store time nonce given.new.items made.new.items) }
+    ensures full { IfErr result (λ stop. OnFull stop (λ id. (id ≡ part.now.id)
+        × IsFull part.now now.now)) }
 {
     if let Some(e) = stamped(alloc, part, now, time, nonce)? {
         add(alloc, given, made, now, e)?;
@@ -258,7 +282,8 @@ fn stamped(
     requires time { time ≤ greatest_whole }
     requires nonce { nonce ≤ greatest_whole }
     ensures ok { IfOk result (ComesOf part.now now.now time nonce) }
-    ensures full { IfErr result (λ stop. OnFull stop (λ id. (id ≡ part.now.id) × IsFull part.now now.now)) }
+    ensures full { IfErr result (λ stop. OnFull stop (λ id. (id ≡ part.now.id)
+        × IsFull part.now now.now)) }
 {
     let mut e = reverted(alloc, part, now)?;
     if same_but_stamp(now, &e) {
@@ -281,7 +306,8 @@ fn add(
     requires id { now.now.id ≡ e.id }
     requires kind { now.now.kind ≡ e.kind }
     ensures given { OnOk result (given.new.items ≡ given.old.items ++ e ∷ []) }
-    ensures made { OnOk result ((part : Delta) × (made.new.items ≡ made.old.items ++ part ∷ []) × PartStandsFor part now.now e) }
+    ensures made { OnOk result ((part : Delta) × (made.new.items ≡ made.old.items ++ part ∷ [])
+        × PartStandsFor part now.now e) }
 {
     made.push(difference(alloc, Some(now), &e)?)?;
     given.push(e)?;

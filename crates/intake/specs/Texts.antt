@@ -20,10 +20,12 @@ pub record Reading (F : Type 0) : Type 1 where
 -- Values with these compact texts stand at the front, one after the other, each behind white space; the rest follows them.
 abbrev pub TextsLead : List ℕ → List (List ℕ) → List ℕ → Type 0
 TextsLead bytes [] rest = bytes ≡ rest
-TextsLead bytes (text ∷ texts) rest = (next : List ℕ) × Stands bytes text next × TextsLead next texts rest
+TextsLead bytes (text ∷ texts) rest =
+    (next : List ℕ) × Stands bytes text next × TextsLead next texts rest
 
 -- The texts that the reader has read lead up to this offset.
-pub record HasReadTo {F : Type 0} (bytes : List ℕ) (reader : Reading F) (texts : List (List ℕ)) (start : ℕ) : Type 0 where
+pub record HasReadTo {F : Type 0} (bytes : List ℕ) (reader : Reading F) (texts : List (List ℕ))
+    (start : ℕ) : Type 0 where
   pub read : reader.has_read texts
   pub within : start ≤ length bytes
   pub lead : TextsLead bytes texts (drop start bytes)
@@ -38,7 +40,8 @@ pub record HasTexts {F : Type 0} (bytes : List ℕ) (reader : Reading F) : Type 
 
 -- Behind the texts that the reader has read it takes a further one, and no value stands there: this is the first fault. It
 -- needs the text, or more than white space is left.
-pub record HasFaultBehind {F : Type 0} (bytes : List ℕ) (reader : Reading F) (fault : JsonFault) : Type 0 where
+pub record HasFaultBehind {F : Type 0} (bytes : List ℕ) (reader : Reading F)
+    (fault : JsonFault) : Type 0 where
   pub texts : List (List ℕ)
   pub start : ℕ
   pub behind : HasReadTo bytes reader texts start
@@ -47,7 +50,8 @@ pub record HasFaultBehind {F : Type 0} (bytes : List ℕ) (reader : Reading F) (
   pub faulty : IsFirstFault bytes start fault
 
 -- Behind texts that the reader has read one stands that it refuses for this fault.
-pub record HasRefusedBehind {F : Type 0} (bytes : List ℕ) (reader : Reading F) (fault : F) : Type 0 where
+pub record HasRefusedBehind {F : Type 0} (bytes : List ℕ) (reader : Reading F)
+    (fault : F) : Type 0 where
   pub texts : List (List ℕ)
   pub start : ℕ
   pub within : start ≤ length bytes
@@ -60,7 +64,8 @@ pub record HasRefusedBehind {F : Type 0} (bytes : List ℕ) (reader : Reading F)
 
 -- Behind the texts that the reader has read it takes no further one, and more than white space is left: behind the white
 -- space a further byte stands at this place.
-pub record HasExtraBehind {F : Type 0} (bytes : List ℕ) (reader : Reading F) (place : ℕ) : Type 0 where
+pub record HasExtraBehind {F : Type 0} (bytes : List ℕ) (reader : Reading F)
+    (place : ℕ) : Type 0 where
   pub texts : List (List ℕ)
   pub start : ℕ
   pub behind : HasReadTo bytes reader texts start
@@ -82,7 +87,8 @@ AreRead bytes reader (Some stopped) = IsStopped bytes reader stopped
 
 -- The feed stands in the stream, of which so much is left, behind texts that lead up to there whatever follows; the reader
 -- has read these. Behind the last text that it takes nothing but white space was used.
-pub record IsLed {F : Type 0} (stream left : List ℕ) (feed : Feeding) (reader : Reading F) : Type 0 where
+pub record IsLed {F : Type 0} (stream left : List ℕ) (feed : Feeding)
+    (reader : Reading F) : Type 0 where
   pub texts : List (List ℕ)
   pub read : reader.has_read texts
   pub start : ℕ
@@ -91,6 +97,8 @@ pub record IsLed {F : Type 0} (stream left : List ℕ) (feed : Feeding) (reader 
   pub skipped : reader.is_full ≡ true → feed.rest ≡ []
 
 -- The texts of the stream so far, of which so much is left: the reader has read those that have ended; or what stopped it, whatever follows.
-abbrev pub StandsIn : {F : Type 0} → List ℕ → List ℕ → Feeding → Reading F → Option (Stopped F) → Type 0
+abbrev pub StandsIn : {F : Type 0} → List ℕ → List ℕ → Feeding → Reading F → Option (Stopped F)
+    → Type 0
 StandsIn stream left feed reader None = IsLed stream left feed reader
-StandsIn stream left feed reader (Some stopped) = (more : List ℕ) → IsStopped (stream ++ more) reader stopped
+StandsIn stream left feed reader (Some stopped) =
+    (more : List ℕ) → IsStopped (stream ++ more) reader stopped

@@ -25,15 +25,20 @@ pub fn read_texts<S: Source, R: Reader>(
 ) -> Result<Option<Stopped<R::Fault>>, Stop<ReadError>>
     requires within { limit < 4294967295 }
     requires unread { (R.seen reader.old).has_read [] }
-    ensures read { IfOk result (λ stop. (bytes : List ℕ) × (length bytes ≤ limit) × Gave (S.seen source.old) (S.seen source.new) bytes
+    ensures read { IfOk result (λ stop. (bytes : List ℕ) × (length bytes ≤ limit)
+        × Gave (S.seen source.old) (S.seen source.new) bytes
         × AreRead bytes (R.seen reader.new) stop) }
     ensures end { OnOk result (IsAtEnd (S.seen source.new)) }
-    ensures failed { result ≡ Err (Stop.Fault ReadError.Failed) → Rose (S.seen source.old).faults (S.seen source.new).faults }
+    ensures failed { result ≡ Err (Stop.Fault ReadError.Failed)
+        → Rose (S.seen source.old).faults (S.seen source.new).faults }
     ensures failed_within { result ≡ Err (Stop.Fault ReadError.Failed)
-        → (some : List ℕ) × (length some ≤ limit) × Gave (S.seen source.old) (S.seen source.new) some }
+        → (some : List ℕ) × (length some ≤ limit)
+        × Gave (S.seen source.old) (S.seen source.new) some }
     ensures too_long { result ≡ Err (Stop.Fault ReadError.TooLong)
-        → (some : List ℕ) × (length some ≡ limit + 1) × Gave (S.seen source.old) (S.seen source.new) some }
-    ensures stopped { OnErr result ((some : List ℕ) × (length some ≤ limit + 1) × Gave (S.seen source.old) (S.seen source.new) some) }
+        → (some : List ℕ) × (length some ≡ limit + 1)
+        × Gave (S.seen source.old) (S.seen source.new) some }
+    ensures stopped { OnErr result ((some : List ℕ) × (length some ≤ limit + 1)
+        × Gave (S.seen source.old) (S.seen source.new) some) }
     ensures counted { (S.seen source.old).faults ≤ (S.seen source.new).faults }
 {
     let mut feed = Feed::new(alloc);
@@ -67,16 +72,22 @@ fn next_piece<S: Source, R: Reader>(
     stop: &mut Option<Stopped<R::Fault>>,
     piece: &mut [u8],
 ) -> Result<usize, Stop<ReadError>>
-    requires { (stream : List ℕ) × StandsIn stream [] feed.old (R.seen reader.old) stop.old × (length stream + length piece.old < 2 ^ 64) }
+    requires { (stream : List ℕ) × StandsIn stream [] feed.old (R.seen reader.old) stop.old
+        × (length stream + length piece.old < 2 ^ 64) }
     ensures bound { IfOk result (λ n. n ≤ length piece.new) }
-    ensures given { IfOk result (λ n. Gave (S.seen source.old) (S.seen source.new) (take n piece.new)) }
-    ensures taken { IfOk result (λ n. (stream : List ℕ) → StandsIn stream [] feed.old (R.seen reader.old) stop.old
+    ensures given { IfOk result
+        (λ n. Gave (S.seen source.old) (S.seen source.new) (take n piece.new)) }
+    ensures taken { IfOk result (λ n. (stream : List ℕ)
+        → StandsIn stream [] feed.old (R.seen reader.old) stop.old
         → StandsIn (stream ++ take n piece.new) [] feed.new (R.seen reader.new) stop.new) }
     ensures end { IfOk result (λ n. n ≡ 0 → 0 < length piece.old → IsAtEnd (S.seen source.new)) }
-    ensures failed { result ≡ Err (Stop.Fault ReadError.Failed) → Rose (S.seen source.old).faults (S.seen source.new).faults }
-    ensures unmoved { result ≡ Err (Stop.Fault ReadError.Failed) → (S.seen source.new).left ≡ (S.seen source.old).left }
+    ensures failed { result ≡ Err (Stop.Fault ReadError.Failed)
+        → Rose (S.seen source.old).faults (S.seen source.new).faults }
+    ensures unmoved { result ≡ Err (Stop.Fault ReadError.Failed)
+        → (S.seen source.new).left ≡ (S.seen source.old).left }
     ensures other { result ≢ Err (Stop.Fault ReadError.TooLong) }
-    ensures stopped { OnErr result ((n : ℕ) × (n ≤ length piece.old) × Gave (S.seen source.old) (S.seen source.new) (take n piece.new)) }
+    ensures stopped { OnErr result ((n : ℕ) × (n ≤ length piece.old)
+        × Gave (S.seen source.old) (S.seen source.new) (take n piece.new)) }
     ensures counted { (S.seen source.old).faults ≤ (S.seen source.new).faults }
 {
     match source.read(piece) {

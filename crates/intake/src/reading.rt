@@ -29,10 +29,12 @@ pub trait Reader {
     /// Reads the next text, or refuses it for its fault. Behind a text that it refuses it gets none.
     fn read(&mut self, alloc: Global, text: &Raw) -> Result<(), Stop<Self::Fault>>
         requires { (seen self.old).is_full ≡ false }
-        ensures read { OnOk result ((texts : List (List ℕ)) → (seen self.old).has_read texts → (seen self.new).has_read (texts ++ text.now ∷ [])) }
+        ensures read { OnOk result ((texts : List (List ℕ)) → (seen self.old).has_read texts
+            → (seen self.new).has_read (texts ++ text.now ∷ [])) }
         ensures enough { OnOk result ((seen self.new).needs_text ≡ false) }
         ensures refused { (fault : Self.Fault) → result ≡ Err (Stop.Fault fault)
-            → (texts : List (List ℕ)) → (seen self.old).has_read texts → (seen self.new).refuses texts text.now fault };
+            → (texts : List (List ℕ)) → (seen self.old).has_read texts
+            → (seen self.new).refuses texts text.now fault };
 }
 
 /// Why no further text is handed on.
@@ -65,12 +67,16 @@ fn next_text<R: Reader>(
     requires some { 0 < length piece.now }
     ensures within { (used : ℕ) → result ≡ Ok (Next.On used) → used ≤ length piece.now }
     ensures less { (used : ℕ) → result ≡ Ok (Next.On used)
-        → 2 * (length piece.now - used) + min 1 (length feed.new.rest) < 2 * length piece.now + min 1 (length feed.old.rest) }
-    ensures counted { (used : ℕ) → result ≡ Ok (Next.On used) → feed.new.used ≡ feed.old.used + used }
+        → 2 * (length piece.now - used) + min 1
+        (length feed.new.rest) < 2 * length piece.now + min 1 (length feed.old.rest) }
+    ensures counted { (used : ℕ) → result ≡ Ok (Next.On used)
+        → feed.new.used ≡ feed.old.used + used }
     ensures led { (used : ℕ) → result ≡ Ok (Next.On used) → (stream : List ℕ)
-        → IsLed stream piece.now feed.old (R.seen reader.old) → IsLed stream (drop used piece.now) feed.new (R.seen reader.new) }
+        → IsLed stream piece.now feed.old (R.seen reader.old)
+        → IsLed stream (drop used piece.now) feed.new (R.seen reader.new) }
     ensures stopped { (why : Stopped R.Fault) → result ≡ Ok (Next.Stopped why) → (stream : List ℕ)
-        → IsLed stream piece.now feed.old (R.seen reader.old) → (more : List ℕ) → IsStopped (stream ++ more) (R.seen reader.new) why }
+        → IsLed stream piece.now feed.old (R.seen reader.old) → (more : List ℕ)
+        → IsStopped (stream ++ more) (R.seen reader.new) why }
 {
     if reader.is_full() {
         return skip_piece::<R>(feed, piece);
@@ -96,12 +102,18 @@ fn skip_piece<R: Reader>(feed: &mut Feed, piece: &[u8]) -> Result<Next<R::Fault>
     requires some { 0 < length piece.now }
     ensures within { (used : ℕ) → result ≡ Ok (Next.On used) → used ≤ length piece.now }
     ensures less { (used : ℕ) → result ≡ Ok (Next.On used)
-        → 2 * (length piece.now - used) + min 1 (length feed.new.rest) < 2 * length piece.now + min 1 (length feed.old.rest) }
-    ensures counted { (used : ℕ) → result ≡ Ok (Next.On used) → feed.new.used ≡ feed.old.used + used }
-    ensures led { (used : ℕ) → result ≡ Ok (Next.On used) → (stream : List ℕ) (reader : R) → (R.seen reader).is_full ≡ true
-        → IsLed stream piece.now feed.old (R.seen reader) → IsLed stream (drop used piece.now) feed.new (R.seen reader) }
-    ensures stopped { (why : Stopped R.Fault) → result ≡ Ok (Next.Stopped why) → (stream : List ℕ) (reader : R) → (R.seen reader).is_full ≡ true
-        → IsLed stream piece.now feed.old (R.seen reader) → (more : List ℕ) → IsStopped (stream ++ more) (R.seen reader) why }
+        → 2 * (length piece.now - used) + min 1
+        (length feed.new.rest) < 2 * length piece.now + min 1 (length feed.old.rest) }
+    ensures counted { (used : ℕ) → result ≡ Ok (Next.On used)
+        → feed.new.used ≡ feed.old.used + used }
+    ensures led { (used : ℕ) → result ≡ Ok (Next.On used) → (stream : List ℕ) (reader : R)
+        → (R.seen reader).is_full ≡ true
+        → IsLed stream piece.now feed.old (R.seen reader)
+        → IsLed stream (drop used piece.now) feed.new (R.seen reader) }
+    ensures stopped { (why : Stopped R.Fault) → result ≡ Ok (Next.Stopped why)
+        → (stream : List ℕ) (reader : R) → (R.seen reader).is_full ≡ true
+        → IsLed stream piece.now feed.old (R.seen reader) → (more : List ℕ)
+        → IsStopped (stream ++ more) (R.seen reader) why }
 {
     let at = skip_space(piece, 0);
     if at < piece.len() {
@@ -123,8 +135,10 @@ pub(crate) fn take_piece<R: Reader>(
     stop: &mut Option<Stopped<R::Fault>>,
     piece: &[u8],
 ) -> Result<(), AllocError>
-    requires { (stream : List ℕ) × StandsIn stream [] feed.old (R.seen reader.old) stop.old × (length stream + length piece.now < 2 ^ 64) }
-    ensures { OnOk result ((stream : List ℕ) → StandsIn stream [] feed.old (R.seen reader.old) stop.old
+    requires { (stream : List ℕ) × StandsIn stream [] feed.old (R.seen reader.old) stop.old
+        × (length stream + length piece.now < 2 ^ 64) }
+    ensures { OnOk result ((stream : List ℕ)
+        → StandsIn stream [] feed.old (R.seen reader.old) stop.old
         → StandsIn (stream ++ piece.now) [] feed.new (R.seen reader.new) stop.new) }
 {
     let mut at = 0;
@@ -144,7 +158,8 @@ pub(crate) fn finish<R: Reader>(
     reader: &mut R,
     stop: Option<Stopped<R::Fault>>,
 ) -> Result<Option<Stopped<R::Fault>>, AllocError>
-    ensures { IfOk result (λ found. (stream : List ℕ) → StandsIn stream [] feed.old (R.seen reader.old) stop
+    ensures { IfOk result (λ found. (stream : List ℕ)
+        → StandsIn stream [] feed.old (R.seen reader.old) stop
         → AreRead stream (R.seen reader.new) found) }
 {
     if stop.is_some() {

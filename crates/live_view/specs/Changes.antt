@@ -9,7 +9,8 @@ use Rattle.view.specs.Shown.{is_live, shown}
 -- two lists of elements have the same element of each other id than these
 abbrev pub AreSameButAt : List (List ℕ) → List ElementValue → List ElementValue → Type 0
 AreSameButAt ids elements others =
-    (id : List ℕ) → list_any (bytes_eq id) ids ≡ false → element_of elements id ≡ element_of others id
+    (id : List ℕ) → list_any (bytes_eq id) ids ≡ false
+    → element_of elements id ≡ element_of others id
 
 -- the element without its stamp, its file and its further members, at which no rule of what is shown looks
 abbrev pub outline : ElementValue → ElementValue
@@ -27,14 +28,17 @@ redrawn_as new e = record e {
 
 -- At one place these elements, whose ids rise, have one that differs from the new one at most in what no rule looks at, and
 -- at the other what is shown of it, which becomes that element.
-pub record IsRedrawn (live : List ElementValue) (new : ElementValue) (held_at shown_at : ℕ) (redrawn : ElementValue) : Type 0 where
+pub record IsRedrawn (live : List ElementValue) (new : ElementValue) (held_at shown_at : ℕ)
+    (redrawn : ElementValue) : Type 0 where
   pub ordered : are_rising (ids_of live) ≡ true
   pub is_live : is_live new ≡ true
   pub held : IsSomeAnd (slice_get live held_at) (λ old. outline old ≡ outline new)
-  pub shown : IsSomeAnd (slice_get (shown live) shown_at) (λ e. (e.id ≡ new.id) × (redrawn ≡ redrawn_as new e))
+  pub shown : IsSomeAnd (slice_get (shown live) shown_at) (λ e. (e.id ≡ new.id)
+      × (redrawn ≡ redrawn_as new e))
 
 -- The element of the new one's id has its outline, and the new one has taken its place.
-pub record HasRedrawn (live : List ElementValue) (new : ElementValue) (redrawn : List ElementValue) : Type 0 where
+pub record HasRedrawn (live : List ElementValue) (new : ElementValue)
+    (redrawn : List ElementValue) : Type 0 where
   pub ordered : are_rising (ids_of live) ≡ true
   pub is_live : is_live new ≡ true
   pub old : IsSomeAnd (element_of live new.id) (λ e. outline e ≡ outline new)

@@ -16,7 +16,8 @@ IsWithin elements put = put.at < length elements
 
 -- the element at its place has its id and its index
 abbrev pub IsInPlace : List ElementValue → Put → Type 0
-IsInPlace elements put = IsSomeAnd (slice_get elements put.at) (λ e. (e.id ≡ put.e.id) × (e.index ≡ put.e.index))
+IsInPlace elements put =
+    IsSomeAnd (slice_get elements put.at) (λ e. (e.id ≡ put.e.id) × (e.index ≡ put.e.index))
 
 -- elements after others were put at their places, one after the other
 abbrev pub all_put : List Put → List ElementValue → List ElementValue

@@ -26,13 +26,16 @@ named_of row = row.named
 -- the rows are those of what each element names
 abbrev pub HaveRowsOf : List ElementValue → List LinkRow → Type 0
 HaveRowsOf elements rows =
-    (named namer : List ℕ) → has_row rows (record { named = named; namer = namer }) ≡ option_map_or (names_id named) (element_of elements namer) false
+    (named namer : List ℕ)
+    → has_row rows (record { named = named; namer = namer }) ≡ option_map_or (names_id named) (element_of elements namer) false
 
 -- The ids of one list are among others, as is what is one step of naming from some of them.
 pub record HaveStepped (elements : List ElementValue) (over from to : List (List ℕ)) : Type 0 where
   pub kept : (id : List ℕ) → is_among from id ≡ true → is_among to id ≡ true
-  pub named : (e : ElementValue) (id : List ℕ) → Contains elements e → is_among over e.id ≡ true → names_id id e ≡ true → is_among to id ≡ true
-  pub namers : (e : ElementValue) (id : List ℕ) → Contains elements e → is_among over id ≡ true → names_id id e ≡ true → is_among to e.id ≡ true
+  pub named : (e : ElementValue) (id : List ℕ) → Contains elements e → is_among over e.id ≡ true
+      → names_id id e ≡ true → is_among to id ≡ true
+  pub namers : (e : ElementValue) (id : List ℕ) → Contains elements e → is_among over id ≡ true
+      → names_id id e ≡ true → is_among to e.id ≡ true
 
 -- The ids of one list were reached from those of another in three steps of naming.
 pub record HaveReached (elements : List ElementValue) (from to : List (List ℕ)) : Type 0 where
@@ -44,7 +47,8 @@ pub record HaveReached (elements : List ElementValue) (from to : List (List ℕ)
 
 -- The ids of these elements, and those that they name, are among others.
 abbrev pub IsStartedBy : List (List ℕ) → ElementValue → Type 0
-IsStartedBy ids e = (is_among ids e.id ≡ true) × ((id : List ℕ) → names_id id e ≡ true → is_among ids id ≡ true)
+IsStartedBy ids e =
+    (is_among ids e.id ≡ true) × ((id : List ℕ) → names_id id e ≡ true → is_among ids id ≡ true)
 
 abbrev pub AreStartedBy : List (List ℕ) → List ElementValue → Type 0
 AreStartedBy ids elements = All (IsStartedBy ids) elements

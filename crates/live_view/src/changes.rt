@@ -34,7 +34,8 @@ impl LiveView {
     /// order. For want of memory it is unchanged.
     pub fn take(&mut self, store: &Store, changed: &[Element]) -> Result<(), AllocError>
         requires { self.old ≡ live_elements store.now.elements }
-        ensures view { OnOk result (self.new ≡ live_elements (taken_all changed.now store.now.elements)) }
+        ensures view { OnOk result
+            (self.new ≡ live_elements (taken_all changed.now store.now.elements)) }
         ensures err { OnErr result (self.new ≡ self.old) }
     {
         if self.take_one(store, changed)? || self.take_near(store, changed)? {
@@ -81,7 +82,8 @@ impl LiveView {
     /// Redraws the one changed element, if that is all that changes.
     fn take_one(&mut self, store: &Store, changed: &[Element]) -> Result<bool, AllocError>
         requires { self.old ≡ live_elements store.now.elements }
-        ensures new { result ≡ Ok true → self.new ≡ live_elements (taken_all changed.now store.now.elements) }
+        ensures new { result ≡ Ok true
+            → self.new ≡ live_elements (taken_all changed.now store.now.elements) }
         ensures old { OnErr result (self.new ≡ self.old) }
         ensures other { result ≡ Ok false → self.new ≡ self.old }
     {
@@ -97,7 +99,8 @@ impl LiveView {
     /// Follows what is stored of the changed ones' ids once these are taken, if all are found near their places.
     fn take_near(&mut self, store: &Store, changed: &[Element]) -> Result<bool, AllocError>
         requires { self.old ≡ live_elements store.now.elements }
-        ensures new { result ≡ Ok true → self.new ≡ live_elements (taken_all changed.now store.now.elements) }
+        ensures new { result ≡ Ok true
+            → self.new ≡ live_elements (taken_all changed.now store.now.elements) }
         ensures old { OnErr result (self.new ≡ self.old) }
         ensures other { result ≡ Ok false → self.new ≡ self.old }
     {

@@ -125,7 +125,9 @@ fn place_for(live: &Vec<Element>, shown: &Vec<Element>, e: &Element) -> Option<u
 fn comes_behind(live: &Vec<Element>, shown: &Vec<Element>, place: usize, e: &Element) -> bool
     requires ordered { are_rising (ids_of live.now.items) ≡ true }
     requires within { place ≤ length shown.now.items }
-    ensures { IsTrue result → (i : ℕ) (d : ElementValue) → i + 1 ≡ place → comes_before (slice_index_or (all_stored live.now.items shown.now.items) i d) e.now ≡ true }
+    ensures { IsTrue result → (i : ℕ) (d : ElementValue) → i + 1 ≡ place
+        → comes_before (slice_index_or
+        (all_stored live.now.items shown.now.items) i d) e.now ≡ true }
 {
     place == 0 || scene_order(stored_of(live, &shown[place - 1]), e).is_lt()
 }
@@ -134,7 +136,9 @@ fn comes_behind(live: &Vec<Element>, shown: &Vec<Element>, place: usize, e: &Ele
 fn comes_ahead(live: &Vec<Element>, shown: &Vec<Element>, place: usize, e: &Element) -> bool
     requires ordered { are_rising (ids_of live.now.items) ≡ true }
     requires within { place ≤ length shown.now.items }
-    ensures { IsTrue result → (d : ElementValue) → place < length shown.now.items → comes_before e.now (slice_index_or (all_stored live.now.items shown.now.items) place d) ≡ true }
+    ensures { IsTrue result → (d : ElementValue) → place < length shown.now.items
+        → comes_before e.now (slice_index_or
+        (all_stored live.now.items shown.now.items) place d) ≡ true }
 {
     place == shown.len() || scene_order(e, stored_of(live, &shown[place])).is_lt()
 }
@@ -149,7 +153,8 @@ fn draw_coming(
 ) -> Result<Option<Coming>, AllocError>
     requires ordered { are_rising (ids_of live.now.items) ≡ true }
     requires table { HaveRowsOf live.now.items table.now.rows }
-    ensures { IfOk result (λ found. IfSome found (λ c. (c.held ≡ e.now) × IsComing live.now.items shown.now.items e.now c.own c.puts.items)) }
+    ensures { IfOk result (λ found. IfSome found (λ c. (c.held ≡ e.now)
+        × IsComing live.now.items shown.now.items e.now c.own c.puts.items)) }
 {
     let around = find_around(alloc, live, table, e)?;
     let news = alone(alloc, e)?;
@@ -177,7 +182,8 @@ fn draw_going(
 ) -> Result<Option<Vec<Put>>, AllocError>
     requires ordered { are_rising (ids_of live.now.items) ≡ true }
     requires table { HaveRowsOf live.now.items table.now.rows }
-    ensures { IfOk result (λ found. IfSome found (λ puts. IsGoing live.now.items shown.now.items e.now puts.items)) }
+    ensures { IfOk result
+        (λ found. IfSome found (λ puts. IsGoing live.now.items shown.now.items e.now puts.items)) }
 {
     let around = find_around(alloc, live, table, e)?;
     let others = around.wide.without(alloc, &e.id)?;
@@ -194,7 +200,8 @@ fn find_around(
 ) -> Result<Around, AllocError>
     requires ordered { are_rising (ids_of live.now.items) ≡ true }
     requires table { HaveRowsOf live.now.items table.now.rows }
-    ensures around { IfOk result (λ a. AreAround live.now.items e.now a.near.list.items a.wide.list.items) }
+    ensures around { IfOk result
+        (λ a. AreAround live.now.items e.now a.near.list.items a.wide.list.items) }
     ensures near { IfOk result (λ a. AreIds a.near.list.items a.near.seen) }
     ensures wide { IfOk result (λ a. AreIds a.wide.list.items a.wide.seen) }
 {
@@ -242,7 +249,9 @@ fn puts_beside(
     id: &Text,
 ) -> Result<Option<Vec<Put>>, AllocError>
     requires { AreIds near.now.list.items near.now.seen }
-    ensures { IfOk result (λ found. IfSome found (λ puts. ArePutBeside shown.now.items part near.now.list.items id.now puts.items)) }
+    ensures { IfOk result
+        (λ found. IfSome found
+        (λ puts. ArePutBeside shown.now.items part near.now.list.items id.now puts.items)) }
 {
     let others = near.without(alloc, id)?;
     puts_near(alloc, live, shown, part, &others)

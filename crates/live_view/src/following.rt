@@ -28,7 +28,8 @@ pub(crate) fn picked(
     store: &Store,
     ids: &[Text],
 ) -> Result<Option<Vec<Element>>, AllocError>
-    ensures picked { IfOk result (λ found. IfSome found (λ news. ArePicked store.now.elements ids.now news.items)) }
+    ensures picked { IfOk result
+        (λ found. IfSome found (λ news. ArePicked store.now.elements ids.now news.items)) }
     ensures ordered { are_rising (ids_of store.now.elements) ≡ true }
 {
     // So that it is known that the ids rise.
@@ -64,8 +65,10 @@ pub(crate) fn taken_of(
 
 /// Puts what is stored of an id into the store, if it has no element of this id.
 fn begin_with(news: &mut Store, store: &Store, id: &Text) -> Result<(), AllocError>
-    ensures same { OnOk result ((other : Items ℕ) → element_after store.now.elements news.new.elements other ≡ element_after store.now.elements news.old.elements other) }
-    ensures known { OnOk result (element_of news.new.elements id.now ≡ element_after store.now.elements news.old.elements id.now) }
+    ensures same { OnOk result ((other : Items ℕ)
+        → element_after store.now.elements news.new.elements other ≡ element_after store.now.elements news.old.elements other) }
+    ensures known { OnOk result
+        (element_of news.new.elements id.now ≡ element_after store.now.elements news.old.elements id.now) }
 {
     if is_stored(news, id) {
         return Ok(());
@@ -100,7 +103,8 @@ pub(crate) fn store_after(
     store: &Store,
     changed: &[Element],
 ) -> Result<Store, AllocError>
-    ensures stored { IfOk result (λ after. AreStored (store.now.elements ++ changed.now) after.elements) }
+    ensures stored { IfOk result
+        (λ after. AreStored (store.now.elements ++ changed.now) after.elements) }
     ensures ordered { are_rising (ids_of store.now.elements) ≡ true }
 {
     // So that it is known that the ids rise.

@@ -40,7 +40,8 @@ impl Ids {
     pub(crate) fn add(&mut self, id: &Text) -> Result<(), AllocError>
         requires { AreIds self.old.list.items self.old.seen }
         ensures are { OnOk result (AreIds self.new.list.items self.new.seen) }
-        ensures ids { OnOk result ((other : Items ℕ) → is_among self.new.list.items other ≡ (bytes_eq other id.now || is_among self.old.list.items other)) }
+        ensures ids { OnOk result ((other : Items ℕ)
+            → is_among self.new.list.items other ≡ (bytes_eq other id.now || is_among self.old.list.items other)) }
     {
         if see(&mut self.seen, id)? {
             self.list.push(id.try_clone()?)?;
@@ -52,7 +53,8 @@ impl Ids {
     pub(crate) fn add_all(&mut self, ids: &[Text]) -> Result<(), AllocError>
         requires { AreIds self.old.list.items self.old.seen }
         ensures are { OnOk result (AreIds self.new.list.items self.new.seen) }
-        ensures ids { OnOk result ((other : Items ℕ) → is_among self.new.list.items other ≡ (is_among ids.now other || is_among self.old.list.items other)) }
+        ensures ids { OnOk result ((other : Items ℕ)
+            → is_among self.new.list.items other ≡ (is_among ids.now other || is_among self.old.list.items other)) }
     {
         for id in ids {
             self.add(id)?;
@@ -78,7 +80,8 @@ impl Ids {
     /// The same ids, copied.
     pub(crate) fn copied(&self, alloc: Global) -> Result<Ids, AllocError>
         ensures are { IfOk result (λ ids. AreIds ids.list.items ids.seen) }
-        ensures ids { IfOk result (λ ids. (id : Items ℕ) → is_among ids.list.items id ≡ is_among self.now.list.items id) }
+        ensures ids { IfOk result (λ ids. (id : Items ℕ)
+            → is_among ids.list.items id ≡ is_among self.now.list.items id) }
     {
         let mut ids = Ids::new(alloc);
         ids.add_all(self.list.as_slice())?;
@@ -89,7 +92,8 @@ impl Ids {
 /// Notes that an id is seen, and tells whether it is for the first time.
 fn see(seen: &mut BTreeSet<Text>, id: &Text) -> Result<bool, AllocError>
     ensures first { IfOk result (λ first. first ≡ not (has_seen seen.old id.now)) }
-    ensures seen { OnOk result ((other : Items ℕ) → has_seen seen.new other ≡ (bytes_eq other id.now || has_seen seen.old other)) }
+    ensures seen { OnOk result ((other : Items ℕ)
+        → has_seen seen.new other ≡ (bytes_eq other id.now || has_seen seen.old other)) }
 {
     Ok(seen.insert(id.try_clone()?)?)
 }

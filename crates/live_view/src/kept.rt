@@ -65,11 +65,13 @@ impl Kept {
     pub(crate) fn elements(&self) -> &[Element]
         ensures exact { result.now ≡ shown self.now }
         ensures keys { HaveRisingKeys result.now }
-        ensures order { (ordered : Items ElementValue) × IsSceneOrder self.now ordered × (ids_of result.now ≡ ids_of ordered) }
+        ensures order { (ordered : Items ElementValue) × IsSceneOrder self.now ordered
+            × (ids_of result.now ≡ ids_of ordered) }
         ensures ids { IsPermutation (ids_of self.now) (ids_of result.now) }
         ensures others { IsPermutation (map bare self.now) (map bare result.now) }
         ensures settled { AreSettled result.now }
-        ensures again { (stored : Items ElementValue) → IsPermutation result.now stored → shown (live_elements stored) ≡ result.now }
+        ensures again { (stored : Items ElementValue) → IsPermutation result.now stored
+            → shown (live_elements stored) ≡ result.now }
     {
         self.shown.as_slice()
     }

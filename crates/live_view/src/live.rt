@@ -66,13 +66,15 @@ impl LiveView {
     pub fn elements(&self) -> &[Element]
         ensures exact { result.now ≡ shown self.now }
         ensures keys { HaveRisingKeys result.now }
-        ensures order { (ordered : Items ElementValue) × IsSceneOrder self.now ordered × (ids_of result.now ≡ ids_of ordered) }
+        ensures order { (ordered : Items ElementValue) × IsSceneOrder self.now ordered
+            × (ids_of result.now ≡ ids_of ordered) }
         ensures ids { IsPermutation (ids_of self.now) (ids_of result.now) }
         ensures others { IsPermutation (map bare self.now) (map bare result.now) }
         ensures settled { AreSettled result.now }
 
         // The view of these elements, in any order, is this view.
-        ensures again { (stored : Items ElementValue) → IsPermutation result.now stored → shown (live_elements stored) ≡ result.now }
+        ensures again { (stored : Items ElementValue) → IsPermutation result.now stored
+            → shown (live_elements stored) ≡ result.now }
     {
         self.kept.elements()
     }
@@ -158,7 +160,8 @@ impl LiveView {
 
 /// The twin after an element was redrawn, unless it is lost for want of memory.
 fn redrawn_twin(twin: Option<Kept>, new: &Element) -> Option<Kept>
-    ensures drawn { IfSome result (λ after. IfSome twin (λ before. HasRedrawn before new.now after)) }
+    ensures drawn { IfSome result
+        (λ after. IfSome twin (λ before. HasRedrawn before new.now after)) }
     ensures there { IsSome result → IsSome twin }
 {
     let mut twin = twin?;
@@ -171,7 +174,8 @@ fn redrawn_twin(twin: Option<Kept>, new: &Element) -> Option<Kept>
 /// The twin after it followed these elements, unless it is lost for want of memory.
 fn followed_twin(twin: Option<Kept>, news: &Vec<Element>) -> Option<Kept>
     requires { are_rising (ids_of news.now.items) ≡ true }
-    ensures followed { IfSome result (λ after. IfSome twin (λ before. HaveFollowed before news.now.items after)) }
+    ensures followed { IfSome result
+        (λ after. IfSome twin (λ before. HaveFollowed before news.now.items after)) }
     ensures there { IsSome result → IsSome twin }
 {
     let mut twin = twin?;

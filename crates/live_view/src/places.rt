@@ -24,7 +24,8 @@ pub(crate) struct Put {
 /// The place of the element of an id among elements in the order of their ids, or that which it would have.
 pub(crate) fn place_of(elements: &Vec<Element>, id: &Text) -> Result<usize, usize>
     ensures found { IfOk result (IsAt elements.now.items id.now) }
-    ensures absent { are_rising (ids_of elements.now.items) ≡ true → IfErr result (IsGapFor elements.now.items id.now) }
+    ensures absent { are_rising (ids_of elements.now.items) ≡ true
+        → IfErr result (IsGapFor elements.now.items id.now) }
 {
     elements.binary_search_by(|e| id_order(e, id))
 }

@@ -38,7 +38,8 @@ pub(crate) fn reached(
     requires ordered { are_rising (ids_of live.now.items) ≡ true }
     requires table { HaveRowsOf live.now.items table.now.rows }
     ensures are { IfOk result (λ ids. AreIds ids.list.items ids.seen) }
-    ensures reached { IfOk result (λ ids. HaveReached live.now.items from.now.list.items ids.list.items) }
+    ensures reached { IfOk result
+        (λ ids. HaveReached live.now.items from.now.list.items ids.list.items) }
 {
     let one = stepped(alloc, from, live, table)?;
     let two = stepped(alloc, &one, live, table)?;
@@ -55,7 +56,8 @@ fn stepped(
     requires ordered { are_rising (ids_of live.now.items) ≡ true }
     requires table { HaveRowsOf live.now.items table.now.rows }
     ensures are { IfOk result (λ ids. AreIds ids.list.items ids.seen) }
-    ensures stepped { IfOk result (λ ids. HaveStepped live.now.items from.now.list.items from.now.list.items ids.list.items) }
+    ensures stepped { IfOk result
+        (λ ids. HaveStepped live.now.items from.now.list.items from.now.list.items ids.list.items) }
 {
     let mut to = from.copied(alloc)?;
     for id in &from.list {
@@ -76,7 +78,8 @@ fn add_neighbours(
     requires ordered { are_rising (ids_of live.now.items) ≡ true }
     requires table { HaveRowsOf live.now.items table.now.rows }
     ensures are { OnOk result (AreIds ids.new.list.items ids.new.seen) }
-    ensures stepped { OnOk result (HaveStepped live.now.items (id.now ∷ []) ids.old.list.items ids.new.list.items) }
+    ensures stepped { OnOk result
+        (HaveStepped live.now.items (id.now ∷ []) ids.old.list.items ids.new.list.items) }
 {
     add_named_by(alloc, ids, id, live)?;
     ids.add_all(table.namers(id))
@@ -92,8 +95,11 @@ fn add_named_by(
     requires ids { AreIds ids.old.list.items ids.old.seen }
     requires ordered { are_rising (ids_of live.now.items) ≡ true }
     ensures are { OnOk result (AreIds ids.new.list.items ids.new.seen) }
-    ensures kept { OnOk result ((other : Items ℕ) → is_among ids.old.list.items other ≡ true → is_among ids.new.list.items other ≡ true) }
-    ensures named { OnOk result ((e : ElementValue) (other : Items ℕ) → element_of live.now.items id.now ≡ Some e → names_id other e ≡ true → is_among ids.new.list.items other ≡ true) }
+    ensures kept { OnOk result ((other : Items ℕ) → is_among ids.old.list.items other ≡ true
+        → is_among ids.new.list.items other ≡ true) }
+    ensures named { OnOk result ((e : ElementValue) (other : Items ℕ)
+        → element_of live.now.items id.now ≡ Some e → names_id other e ≡ true
+        → is_among ids.new.list.items other ≡ true) }
 {
     match element_of(live, id) {
         Some(e) => add_named(alloc, ids, e),
@@ -105,7 +111,8 @@ fn add_named_by(
 fn add_named(alloc: Global, ids: &mut Ids, e: &Element) -> Result<(), AllocError>
     requires { AreIds ids.old.list.items ids.old.seen }
     ensures are { OnOk result (AreIds ids.new.list.items ids.new.seen) }
-    ensures ids { OnOk result ((id : Items ℕ) → is_among ids.new.list.items id ≡ (names_id id e.now || is_among ids.old.list.items id)) }
+    ensures ids { OnOk result ((id : Items ℕ)
+        → is_among ids.new.list.items id ≡ (names_id id e.now || is_among ids.old.list.items id)) }
 {
     let named = named_in(alloc, rows_of(alloc, e)?)?;
     ids.add_all(named.as_slice())

@@ -61,7 +61,8 @@ fn held_puts(
     live: &Vec<Element>,
     news: &Vec<Element>,
 ) -> Result<Option<Vec<Put>>, AllocError>
-    ensures { IfOk result (λ found. IfSome found (λ puts. (puts_of puts.items ≡ news.now.items) × All (IsInPlace live.now.items) puts.items)) }
+    ensures { IfOk result (λ found. IfSome found (λ puts. (puts_of puts.items ≡ news.now.items)
+        × All (IsInPlace live.now.items) puts.items)) }
 {
     let mut puts = Vec::with_capacity(alloc, news.len())?;
     for e in news {
@@ -93,7 +94,9 @@ fn held_of(
     news: &Vec<Element>,
 ) -> Result<Vec<Element>, AllocError>
     requires { are_rising (ids_of live.now.items) ≡ true }
-    ensures { IfOk result (λ held. held.items ≡ filter_map (λ (e : ElementValue). updates.element_of live.now.items e.id) news.now.items) }
+    ensures { IfOk result
+        (λ held. held.items ≡ filter_map
+        (λ (e : ElementValue). updates.element_of live.now.items e.id) news.now.items) }
 {
     let mut held = Vec::new(alloc);
     for new in news {
@@ -130,7 +133,9 @@ fn shown_puts(
     requires live { are_rising (ids_of live.now.items) ≡ true }
     requires news { are_rising (ids_of news.now.items) ≡ true }
     requires table { HaveRowsOf live.now.items table.now.rows }
-    ensures { IfOk result (λ found. IfSome found (λ puts. AreRepairs live.now.items shown.now.items news.now.items puts.items)) }
+    ensures { IfOk result
+        (λ found. IfSome found
+        (λ puts. AreRepairs live.now.items shown.now.items news.now.items puts.items)) }
 {
     let near = reached(alloc, &started_by(alloc, news)?, live, table)?;
     let wide = reached(alloc, &near, live, table)?;
@@ -148,7 +153,10 @@ pub(crate) fn settled_after(
     requires live { are_rising (ids_of live.now.items) ≡ true }
     requires news { are_rising (ids_of news.now.items) ≡ true }
     requires distinct { IsDistinct bytes_eq ids.now.items }
-    ensures { IfOk result (λ part. part ≡ settled (in_scene_order (filter_map (replacing.element_after live.now.items news.now.items) ids.now.items))) }
+    ensures { IfOk result
+        (λ part. part ≡ settled
+        (in_scene_order
+        (filter_map (replacing.element_after live.now.items news.now.items) ids.now.items))) }
 {
     let mut elements = elements_after(alloc, live, news, ids)?;
     order::sort(&mut elements)?;
@@ -164,7 +172,9 @@ fn elements_after(
 ) -> Result<Vec<Element>, AllocError>
     requires live { are_rising (ids_of live.now.items) ≡ true }
     requires news { are_rising (ids_of news.now.items) ≡ true }
-    ensures { IfOk result (λ found. found.items ≡ filter_map (replacing.element_after live.now.items news.now.items) ids.now.items) }
+    ensures { IfOk result
+        (λ found. found.items ≡ filter_map
+        (replacing.element_after live.now.items news.now.items) ids.now.items) }
 {
     let mut found = Vec::new(alloc);
     for id in ids {
@@ -202,7 +212,8 @@ pub(crate) fn puts_near(
 ) -> Result<Option<Vec<Put>>, AllocError>
     requires { AreIds near.now.list.items near.now.seen }
     ensures { IfOk result (λ found. IfSome found (λ puts. All (IsInPlace shown.now.items) puts.items
-        × (map without_index (puts_of puts.items) ≡ map without_index (filter (λ (e : ElementValue). is_among near.now.list.items e.id) elements)))) }
+        × (map without_index (puts_of puts.items) ≡ map without_index
+        (filter (λ (e : ElementValue). is_among near.now.list.items e.id) elements)))) }
 {
     let mut puts = Vec::new(alloc);
     for e in elements.into_vec() {

@@ -32,7 +32,10 @@ pub(crate) fn keys_with(
 ) -> Result<Option<Rekeying>, AllocError>
     requires ordered { are_rising (ids_of live.now.items) ≡ true }
     requires within { place ≤ length shown.now.items }
-    ensures { IfOk result (λ found. IfSome found (λ r. AreKeysWith (stored_keys live.now.items shown.now.items) index.now place r.start r.keys)) }
+    ensures { IfOk result
+        (λ found. IfSome found
+        (λ r. AreKeysWith
+        (stored_keys live.now.items shown.now.items) index.now place r.start r.keys)) }
 {
     let start = run_start(live, shown, place);
     let end = end_with(live, shown, place, index);
@@ -53,7 +56,9 @@ pub(crate) fn keys_without(
 ) -> Result<Option<Rekeying>, AllocError>
     requires ordered { are_rising (ids_of live.now.items) ≡ true }
     requires within { place < length shown.now.items }
-    ensures { IfOk result (λ found. IfSome found (λ r. AreKeysWithout (stored_keys live.now.items shown.now.items) place r.start r.keys)) }
+    ensures { IfOk result
+        (λ found. IfSome found
+        (λ r. AreKeysWithout (stored_keys live.now.items shown.now.items) place r.start r.keys)) }
 {
     let start = run_start(live, shown, place);
     let end = run_end(live, shown, place + 1);
@@ -78,7 +83,9 @@ fn repaired(
 ) -> Result<Option<List<Key>>, AllocError>
     requires ordered { are_rising (ids_of live.now.items) ≡ true }
     requires within { end ≤ length shown.now.items }
-    ensures { IfOk result (λ found. IfSome found (AreRepaired (stored_keys live.now.items shown.now.items) part.items end)) }
+    ensures { IfOk result
+        (λ found. IfSome found
+        (AreRepaired (stored_keys live.now.items shown.now.items) part.items end)) }
 {
     if !may_be_cut(live, shown, &part, end) {
         return Ok(None);
@@ -97,8 +104,12 @@ fn may_be_cut(
 ) -> bool
     requires ordered { are_rising (ids_of live.now.items) ≡ true }
     requires within { end ≤ length shown.now.items }
-    ensures cut { result ≡ true → runs.is_cut part.now.items (drop end (stored_keys live.now.items shown.now.items)) ≡ true }
-    ensures below { result ≡ true → repair.are_below (first_of (drop end (stored_keys live.now.items shown.now.items))) part.now.items ≡ true }
+    ensures cut { result ≡ true
+        → runs.is_cut part.now.items (drop end
+        (stored_keys live.now.items shown.now.items)) ≡ true }
+    ensures below { result ≡ true
+        → repair.are_below (first_of
+        (drop end (stored_keys live.now.items shown.now.items))) part.now.items ≡ true }
 {
     if end == shown.len() {
         return are_below(None, part);
@@ -212,7 +223,8 @@ fn keys_between(
 ) -> Result<Vec<Option<Key>>, AllocError>
     requires ordered { are_rising (ids_of live.now.items) ≡ true }
     requires within { (start ≤ end) × (end ≤ length shown.now.items) }
-    ensures { IfOk result (λ keys. keys.items ≡ part_of (stored_keys live.now.items shown.now.items) start end) }
+    ensures { IfOk result
+        (λ keys. keys.items ≡ part_of (stored_keys live.now.items shown.now.items) start end) }
 {
     let mut keys = Vec::new(alloc);
     for at in start..end {
@@ -226,7 +238,8 @@ fn keys_between(
 fn key_at<'a>(live: &'a Vec<Element>, shown: &'a Vec<Element>, at: usize) -> Option<&'a Key>
     requires ordered { are_rising (ids_of live.now.items) ≡ true }
     requires within { at ≤ length shown.now.items }
-    ensures { option_copied result ≡ first_of (drop at (stored_keys live.now.items shown.now.items)) }
+    ensures { option_copied result ≡ first_of
+        (drop at (stored_keys live.now.items shown.now.items)) }
 {
     if at == shown.len() {
         return None;

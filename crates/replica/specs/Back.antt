@@ -15,12 +15,14 @@ use Rattle.replica.specs.State.{State, captured, stored_with, undo_on, redo_on, 
 pub record AgreesWith (old now : List ElementValue) : Type 0 where
   pub each : (id : List ℕ) (e : ElementValue) → element_of old id ≡ Some e
       → (other : ElementValue) × (element_of now id ≡ Some other) × (unstamped other ≡ unstamped e)
-  pub others : (id : List ℕ) (e : ElementValue) → element_of old id ≡ None → element_of now id ≡ Some e → e.deleted ≡ true
+  pub others : (id : List ℕ) (e : ElementValue) → element_of old id ≡ None
+      → element_of now id ≡ Some e → e.deleted ≡ true
 
 -- A state is as another one was: what is stored agrees, and what is shown is the same but for the stamps.
 pub record IsAs (was now : State) : Type 0 where
   pub agrees : AgreesWith was.stored now.stored
-  pub looks : map unstamped (shown (live_elements now.stored)) ≡ map unstamped (shown (live_elements was.stored))
+  pub looks : map unstamped (shown (live_elements now.stored)) ≡ map unstamped
+      (shown (live_elements was.stored))
 
 -- Nothing is pending: no stored element differs from that of the snapshot. One that the snapshot lacks counts as deleted before.
 abbrev pub HasNothingPending : State → Type 0
@@ -75,7 +77,8 @@ pub record IsDone (call : Call) (found : Option (Result Turn (List ℕ))) : Type
 abbrev pub IsFound : List ElementValue → Option (Result Turn (List ℕ)) → Type 0
 IsFound stored None = ⊥
 IsFound stored (Some (Ok turn)) = Unit {0}
-IsFound stored (Some (Err id)) = (e : ElementValue) × (element_of stored id ≡ Some e) × (e.version ≡ greatest_whole)
+IsFound stored (Some (Err id)) =
+    (e : ElementValue) × (element_of stored id ≡ Some e) × (e.version ≡ greatest_whole)
 
 -- after successive undos, and after successive redos
 abbrev pub undone_all : List Call → State → State
@@ -89,8 +92,10 @@ redone_all (call ∷ more) s = redone_all more (after_redo call.time call.nonce 
 -- Each of them is done.
 abbrev pub AreUndos : List Call → State → Type 0
 AreUndos [] s = Unit {0}
-AreUndos (call ∷ more) s = IsDone call (undo_on call.time call.nonce s) × AreUndos more (after_undo call.time call.nonce s)
+AreUndos (call ∷ more) s =
+    IsDone call (undo_on call.time call.nonce s) × AreUndos more (after_undo call.time call.nonce s)
 
 abbrev pub AreRedos : List Call → State → Type 0
 AreRedos [] s = Unit {0}
-AreRedos (call ∷ more) s = IsDone call (redo_on call.time call.nonce s) × AreRedos more (after_redo call.time call.nonce s)
+AreRedos (call ∷ more) s =
+    IsDone call (redo_on call.time call.nonce s) × AreRedos more (after_redo call.time call.nonce s)

@@ -43,7 +43,8 @@ pub record ToldStandsFor (t : Told) (s : State) : Type 0 where
 
 -- Each id of these elements is one of those.
 abbrev pub AreKnown : List ElementValue → List ElementValue → Type 0
-AreKnown elements stored = (id : List ℕ) → IsSome (element_of elements id) → IsSome (element_of stored id)
+AreKnown elements stored =
+    (id : List ℕ) → IsSome (element_of elements id) → IsSome (element_of stored id)
 
 -- What holds of every board: it shows what is stored; of stored elements and snapshot the ids rise, and they are elements;
 -- the ids of the snapshot and of both stacks are stored.
@@ -136,7 +137,8 @@ StacksComeBy undo stored time nonce (Done given) old new =
 StacksComeBy undo stored time nonce Nothing old new = AreUnseen stored (side undo old) × (new ≡ old)
 
 -- One step of undo or redo, from what was pending on.
-pub record HasTurned (undo : Bool) (old : Told) (time nonce : ℕ) (step : Step) (new : Told) : Type 0 where
+pub record HasTurned (undo : Bool) (old : Told) (time nonce : ℕ) (step : Step)
+    (new : Told) : Type 0 where
   pub entry : List Delta
   pub stands : EntryStandsFor entry (pending old.snapshot old.stored)
   pub comes : StacksComeBy undo old.stored time nonce step (noted entry old.stacks) new.stacks

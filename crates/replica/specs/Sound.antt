@@ -16,7 +16,8 @@ AreStoredAlike snapshot stored =
 -- Each element of the entries of a stack is stored.
 abbrev pub AreStoredIds : List (List Pair) → List ElementValue → Type 0
 AreStoredIds stack stored =
-    (entry : List Pair) (pair : Pair) → Contains stack entry → Contains entry pair → IsSome (element_of stored pair.after.id)
+    (entry : List Pair) (pair : Pair) → Contains stack entry → Contains entry pair
+    → IsSome (element_of stored pair.after.id)
 
 -- What holds of every state that a replica stands for: of stored elements and snapshot the ids rise; they are elements; the
 -- snapshot's are stored, with the stored kind; and so are the ids of both stacks.

@@ -49,7 +49,8 @@ carried_with list s = record (stored_with list s) { snapshot = carried_all (taki
 -- ---- a change
 -- the changed elements of a command, or its refusal
 abbrev pub outcome_on : Command → ℕ → ℕ → State → Result (List ElementValue) Refusal
-outcome_on command time nonce s = outcome s.stored (shown (live_elements s.stored)) command time nonce
+outcome_on command time nonce s =
+    outcome s.stored (shown (live_elements s.stored)) command time nonce
 
 -- after these were changed: now captured with what was pending, or later, or carried into the snapshot
 abbrev pub after_given : Capture → List ElementValue → State → State
@@ -62,7 +63,8 @@ after_outcome capture (Ok given) s = after_given capture given s
 after_outcome capture (Err refusal) s = s
 
 abbrev pub after_change : Command → Capture → ℕ → ℕ → State → State
-after_change command capture time nonce s = after_outcome capture (outcome_on command time nonce s) s
+after_change command capture time nonce s =
+    after_outcome capture (outcome_on command time nonce s) s
 
 -- ---- a delivery
 -- after a list was delivered: the elements whose ids aren't held are taken

@@ -74,8 +74,13 @@ impl Board {
         requires time { time ≤ greatest_whole }
         requires nonce { nonce ≤ greatest_whole }
         requires limits { IsWithinLimits command.now }
-        ensures exact { IfOk result (λ given. outcome self.now.store.elements (shown self.now.view) command.now time nonce ≡ Ok given) }
-        ensures refused { IfErr result (λ stop. OnFault stop (λ refusal. outcome self.now.store.elements (shown self.now.view) command.now time nonce ≡ Err refusal)) }
+        ensures exact { IfOk result
+            (λ given. outcome self.now.store.elements
+            (shown self.now.view) command.now time nonce ≡ Ok given) }
+        ensures refused { IfErr result
+            (λ stop. OnFault stop
+            (λ refusal. outcome self.now.store.elements
+            (shown self.now.view) command.now time nonce ≡ Err refusal)) }
     {
         let shown = self.view.elements();
         changed(alloc, &self.store, shown, command, time, nonce)
@@ -90,7 +95,8 @@ impl Board {
     ) -> Result<(), AllocError>
         requires board { IsBoard self.old }
         requires given { BecomeStored self.old.store.elements given.now }
-        ensures ok { OnOk result (HasStoredGiven capture (told self.old) given.now (told self.new)) }
+        ensures ok { OnOk result
+            (HasStoredGiven capture (told self.old) given.now (told self.new)) }
         ensures err { OnErr result (told self.new ≡ told self.old) }
         ensures untouched { IsUntouched self.new }
     {
@@ -159,7 +165,8 @@ impl Board {
         requires board { IsBoard self.old }
         requires time { time ≤ greatest_whole }
         requires nonce { nonce ≤ greatest_whole }
-        ensures ok { IfOk result (λ step. HasTurned true (told self.old) time nonce step (told self.new)) }
+        ensures ok { IfOk result
+            (λ step. HasTurned true (told self.old) time nonce step (told self.new)) }
         ensures full { IfErr result (λ stop. OnFull stop (HasStopped true (told self.old))) }
         ensures err { OnErr result (told self.new ≡ told self.old) }
         ensures untouched { IsUntouched self.new }
@@ -181,7 +188,8 @@ impl Board {
         requires board { IsBoard self.old }
         requires time { time ≤ greatest_whole }
         requires nonce { nonce ≤ greatest_whole }
-        ensures ok { IfOk result (λ step. HasTurned false (told self.old) time nonce step (told self.new)) }
+        ensures ok { IfOk result
+            (λ step. HasTurned false (told self.old) time nonce step (told self.new)) }
         ensures full { IfErr result (λ stop. OnFull stop (HasStopped false (told self.old))) }
         ensures err { OnErr result (told self.new ≡ told self.old) }
         ensures untouched { IsUntouched self.new }
@@ -207,7 +215,9 @@ impl Board {
         requires room { length captured ≤ self.old.snapshot.spare }
         requires spare { 0 < self.old.history.spare }
         requires fits { FitsIn planned self.old.history.stacks }
-        ensures ok { OnOk result (HasPutStep (told self.old) step.now (stacks.put_step planned self.old.history.stacks) (told self.new)) }
+        ensures ok { OnOk result
+            (HasPutStep (told self.old) step.now (stacks.put_step planned self.old.history.stacks)
+            (told self.new)) }
         ensures err { OnErr result (told self.new ≡ told self.old) }
         ensures untouched { IsUntouched self.new }
     {
@@ -228,9 +238,12 @@ impl Board {
         requires captured { with_all_put captured self.old.snapshot.elements ≡ self.old.store.elements }
         requires room { length captured ≤ self.old.snapshot.spare }
         ensures elements { OnOk result (GivesElements step.now) }
-        ensures stored { OnOk result (self.new.store.elements ≡ stored_by step.now self.old.store.elements) }
-        ensures view { OnOk result (self.new.view ≡ live_elements (stored_by step.now self.old.store.elements)) }
-        ensures snapshot { OnOk result (self.new.snapshot.elements ≡ stored_by step.now self.old.store.elements) }
+        ensures stored { OnOk result
+            (self.new.store.elements ≡ stored_by step.now self.old.store.elements) }
+        ensures view { OnOk result
+            (self.new.view ≡ live_elements (stored_by step.now self.old.store.elements)) }
+        ensures snapshot { OnOk result
+            (self.new.snapshot.elements ≡ stored_by step.now self.old.store.elements) }
         ensures history { self.new.history ≡ self.old.history }
         ensures err { OnErr result (told self.new ≡ told self.old) }
         ensures untouched { IsUntouched self.new }
@@ -250,9 +263,12 @@ impl Board {
         requires board { IsBoard self.old }
         requires given { BecomeStored self.old.store.elements given.now }
         ensures elements { OnOk result (AreElements given.now) }
-        ensures stored { OnOk result (self.new.store.elements ≡ taken_all given.now self.old.store.elements) }
-        ensures view { OnOk result (self.new.view ≡ live_elements (taken_all given.now self.old.store.elements)) }
-        ensures snapshot { OnOk result (self.new.snapshot.elements ≡ taken_all given.now self.old.store.elements) }
+        ensures stored { OnOk result
+            (self.new.store.elements ≡ taken_all given.now self.old.store.elements) }
+        ensures view { OnOk result
+            (self.new.view ≡ live_elements (taken_all given.now self.old.store.elements)) }
+        ensures snapshot { OnOk result
+            (self.new.snapshot.elements ≡ taken_all given.now self.old.store.elements) }
         ensures history { self.new.history ≡ self.old.history }
         ensures err { OnErr result (told self.new ≡ told self.old) }
         ensures untouched { IsUntouched self.new }

@@ -13,13 +13,17 @@ ghost use Rattle.replica.specs.State.{State, after_delivery, undo_on, redo_on};
 /// was stored then is stored the same but for the stamp, every other one is deleted, and what is shown is the same but for
 /// stamps. So it is as it was before them all after as many undos. While changes are left, undo finds an entry.
 pub fn undo_brings_back()
-    ensures back { (s : State) (givens : List (List ElementValue)) → IsSoundState s → HasNothingPending s → AreChanges givens s
+    ensures back { (s : State) (givens : List (List ElementValue)) → IsSoundState s
+        → HasNothingPending s → AreChanges givens s
         → (undos : List Call) → length undos ≤ length givens → AreUndos undos (changed_all givens s)
-        → IsAs (changed_all (take (length givens - length undos) givens) s) (undone_all undos (changed_all givens s)) }
-    ensures all { (s : State) (givens : List (List ElementValue)) → IsSoundState s → HasNothingPending s → AreChanges givens s
+        → IsAs (changed_all (take (length givens - length undos) givens) s)
+        (undone_all undos (changed_all givens s)) }
+    ensures all { (s : State) (givens : List (List ElementValue)) → IsSoundState s
+        → HasNothingPending s → AreChanges givens s
         → (undos : List Call) → length undos ≤ length givens → AreUndos undos (changed_all givens s)
         → length undos ≡ length givens → IsAs s (undone_all undos (changed_all givens s)) }
-    ensures found { (s : State) (givens : List (List ElementValue)) → IsSoundState s → HasNothingPending s → AreChanges givens s
+    ensures found { (s : State) (givens : List (List ElementValue)) → IsSoundState s
+        → HasNothingPending s → AreChanges givens s
         → (undos : List Call) → length undos ≤ length givens → AreUndos undos (changed_all givens s)
         → length undos < length givens
         → (time nonce : ℕ) → undo_on time nonce (undone_all undos (changed_all givens s)) ≢ None }
@@ -28,20 +32,28 @@ pub fn undo_brings_back()
 /// After at most as many redos behind the undos it is as it was after as many more of the changes. So it is as it was after
 /// them all after as many redos as undos. While undos are left, redo finds an entry.
 pub fn redo_repeats()
-    ensures again { (s : State) (givens : List (List ElementValue)) → IsSoundState s → HasNothingPending s → AreChanges givens s
+    ensures again { (s : State) (givens : List (List ElementValue)) → IsSoundState s
+        → HasNothingPending s → AreChanges givens s
         → (undos : List Call) → length undos ≤ length givens → AreUndos undos (changed_all givens s)
-        → (redos : List Call) → length redos ≤ length undos → AreRedos redos (undone_all undos (changed_all givens s))
+        → (redos : List Call) → length redos ≤ length undos
+        → AreRedos redos (undone_all undos (changed_all givens s))
         → IsAs (changed_all (take (length redos + (length givens - length undos)) givens) s)
         (redone_all redos (undone_all undos (changed_all givens s))) }
-    ensures all { (s : State) (givens : List (List ElementValue)) → IsSoundState s → HasNothingPending s → AreChanges givens s
+    ensures all { (s : State) (givens : List (List ElementValue)) → IsSoundState s
+        → HasNothingPending s → AreChanges givens s
         → (undos : List Call) → length undos ≤ length givens → AreUndos undos (changed_all givens s)
-        → (redos : List Call) → length redos ≤ length undos → AreRedos redos (undone_all undos (changed_all givens s))
-        → length redos ≡ length undos → IsAs (changed_all givens s) (redone_all redos (undone_all undos (changed_all givens s))) }
-    ensures found { (s : State) (givens : List (List ElementValue)) → IsSoundState s → HasNothingPending s → AreChanges givens s
+        → (redos : List Call) → length redos ≤ length undos
+        → AreRedos redos (undone_all undos (changed_all givens s))
+        → length redos ≡ length undos
+        → IsAs (changed_all givens s) (redone_all redos (undone_all undos (changed_all givens s))) }
+    ensures found { (s : State) (givens : List (List ElementValue)) → IsSoundState s
+        → HasNothingPending s → AreChanges givens s
         → (undos : List Call) → length undos ≤ length givens → AreUndos undos (changed_all givens s)
-        → (redos : List Call) → length redos ≤ length undos → AreRedos redos (undone_all undos (changed_all givens s))
+        → (redos : List Call) → length redos ≤ length undos
+        → AreRedos redos (undone_all undos (changed_all givens s))
         → length redos < length undos
-        → (time nonce : ℕ) → redo_on time nonce (redone_all redos (undone_all undos (changed_all givens s))) ≢ None }
+        → (time nonce : ℕ)
+        → redo_on time nonce (redone_all redos (undone_all undos (changed_all givens s))) ≢ None }
 {}
 
 /// A delivery of which nothing becomes stored leaves the state as it is.

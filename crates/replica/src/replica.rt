@@ -87,9 +87,15 @@ impl Replica {
         requires time { time ≤ greatest_whole }
         requires nonce { nonce ≤ greatest_whole }
         requires limits { IsWithinLimits command.now }
-        ensures given { IfOk result (λ given. outcome self.old.stored (shown (live_elements self.old.stored)) command.now time nonce ≡ Ok given) }
-        ensures refused { IfErr result (λ stop. OnFault stop (λ refusal. outcome self.old.stored (shown (live_elements self.old.stored)) command.now time nonce ≡ Err refusal)) }
-        ensures after { OnOk result ((s : State) → ReplicaStandsFor self.old s → ReplicaStandsFor self.new (state.after_change command.now capture time nonce s)) }
+        ensures given { IfOk result
+            (λ given. outcome self.old.stored
+            (shown (live_elements self.old.stored)) command.now time nonce ≡ Ok given) }
+        ensures refused { IfErr result
+            (λ stop. OnFault stop
+            (λ refusal. outcome self.old.stored
+            (shown (live_elements self.old.stored)) command.now time nonce ≡ Err refusal)) }
+        ensures after { OnOk result ((s : State) → ReplicaStandsFor self.old s
+            → ReplicaStandsFor self.new (state.after_change command.now capture time nonce s)) }
         ensures err { OnErr result (self.new ≡ self.old) }
     {
         let given = self.board.given(self.alloc, command, time, nonce)?;
@@ -101,8 +107,10 @@ impl Replica {
     /// Takes the elements of a list whose ids aren't held, carries those that become stored into the snapshot, and tells how
     /// many were taken.
     pub fn deliver(&mut self, list: &[Element]) -> Result<u64, AllocError>
-        ensures count { IfOk result (λ count. count ≡ length (free_elements self.old.held list.now)) }
-        ensures after { OnOk result ((s : State) → ReplicaStandsFor self.old s → ReplicaStandsFor self.new (state.after_delivery list.now s)) }
+        ensures count { IfOk result
+            (λ count. count ≡ length (free_elements self.old.held list.now)) }
+        ensures after { OnOk result ((s : State) → ReplicaStandsFor self.old s
+            → ReplicaStandsFor self.new (state.after_delivery list.now s)) }
         ensures err { OnErr result (self.new ≡ self.old) }
     {
         let free = free_copies(self.alloc, list, &self.held)?;
@@ -134,9 +142,12 @@ impl Replica {
     pub fn undo(&mut self, time: u64, nonce: u64) -> Result<Step, Stop<VersionFull>>
         requires time { time ≤ greatest_whole }
         requires nonce { nonce ≤ greatest_whole }
-        ensures step { IfOk result (λ step. (s : State) → ReplicaStandsFor self.old s → state.IsStepAnswer step (state.undo_on time nonce s)) }
-        ensures full { IfErr result (λ stop. OnFull stop (λ id. (s : State) → ReplicaStandsFor self.old s → state.undo_on time nonce s ≡ Some (Err id))) }
-        ensures after { OnOk result ((s : State) → ReplicaStandsFor self.old s → ReplicaStandsFor self.new (state.after_undo time nonce s)) }
+        ensures step { IfOk result (λ step. (s : State) → ReplicaStandsFor self.old s
+            → state.IsStepAnswer step (state.undo_on time nonce s)) }
+        ensures full { IfErr result (λ stop. OnFull stop (λ id. (s : State)
+            → ReplicaStandsFor self.old s → state.undo_on time nonce s ≡ Some (Err id))) }
+        ensures after { OnOk result ((s : State) → ReplicaStandsFor self.old s
+            → ReplicaStandsFor self.new (state.after_undo time nonce s)) }
         ensures err { OnErr result (self.new ≡ self.old) }
     {
         self.board.undo(self.alloc, time, nonce)
@@ -146,9 +157,12 @@ impl Replica {
     pub fn redo(&mut self, time: u64, nonce: u64) -> Result<Step, Stop<VersionFull>>
         requires time { time ≤ greatest_whole }
         requires nonce { nonce ≤ greatest_whole }
-        ensures step { IfOk result (λ step. (s : State) → ReplicaStandsFor self.old s → state.IsStepAnswer step (state.redo_on time nonce s)) }
-        ensures full { IfErr result (λ stop. OnFull stop (λ id. (s : State) → ReplicaStandsFor self.old s → state.redo_on time nonce s ≡ Some (Err id))) }
-        ensures after { OnOk result ((s : State) → ReplicaStandsFor self.old s → ReplicaStandsFor self.new (state.after_redo time nonce s)) }
+        ensures step { IfOk result (λ step. (s : State) → ReplicaStandsFor self.old s
+            → state.IsStepAnswer step (state.redo_on time nonce s)) }
+        ensures full { IfErr result (λ stop. OnFull stop (λ id. (s : State)
+            → ReplicaStandsFor self.old s → state.redo_on time nonce s ≡ Some (Err id))) }
+        ensures after { OnOk result ((s : State) → ReplicaStandsFor self.old s
+            → ReplicaStandsFor self.new (state.after_redo time nonce s)) }
         ensures err { OnErr result (self.new ≡ self.old) }
     {
         self.board.redo(self.alloc, time, nonce)

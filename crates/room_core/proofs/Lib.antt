@@ -6,4 +6,5 @@ mod Served
 mod MemberLaws
 mod Closing
 mod Traces
+mod Scripts
 pub mod CallerLemmas

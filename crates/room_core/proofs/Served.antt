@@ -1,18 +1,18 @@
 -- How a room that is served ends, event by event.
-use Rattle.std.proofs.Common.{◌≡◌, ℕ, ◌+◌, ◌-◌, ◌*◌, ◌<◌, ◌≤◌, Bool, true, false, cond, ◌&&◌, [], ◌∷◌, Option, Some, None, nat_lt, nat_le, refl, ap, subst, append_assoc, Result, Ok, Err, is_err, OnOk, OnErr, arith}
+use Rattle.std.proofs.Common.{◌≡◌, ℕ, ◌+◌, ◌-◌, ◌*◌, ◌<◌, ◌≤◌, Bool, true, false, cond, ◌&&◌, List, [], ◌∷◌, ◌++◌, Option, Some, None, nat_lt, nat_le, refl, sym, ap, subst, ◌∙◌, append-nil, append_assoc, Result, Ok, Err, is_err, OnOk, OnErr, arith}
 use Rattle.std.proofs.lemmas.Bool.{leb-false}
 use Rattle.std.proofs.lemmas.Nat.{mul-add-lt}
 use Rattle.board_ends.specs.Events.{opening_of}
 use Rattle.board_ends.specs.declared.links.LinkEvent.{LinkEvent}
 use Rattle.board_ends.specs.declared.links.LinkEvent.TheVariants.{Opened, Text, Closed, Idle}
-use Rattle.room_core.specs.Rooms.{RoomState}
+use Rattle.room_core.specs.Rooms.{RoomState, IsRoomStep, without}
 use Rattle.board_ends.specs.Ends.{LinksEnd}
-use Rattle.room_core.specs.Told.{Tells}
+use Rattle.room_core.specs.Told.{HaveTried, Tells, texts_tried}
 use Rattle.room_core.specs.Serving.{Serving, AreRounds, EndsBy, IsServed, IsServedEvent, IsServedRound, IsCutEvent, end_of, serving_of, serving_at, step_count, idles_after, is_none_joined}
 use Rattle.room_core.specs.declared.limits.RoomLimits.{RoomLimits}
 use Rattle.room_core.specs.declared.limits.ServeEnd.{ServeEnd}
 use Rattle.room_core.specs.declared.limits.ServeEnd.TheVariants.{AllClosed, Idle as IdleEnd, LinkFault, LinksFull, EventsFull, Memory}
-use Rattle.room_core.specs.declared.serving.Tally.{Tally}
+use Rattle.room_core.specs.declared.tally.Tally.{Tally}
 use Rattle.room_core.proofs.Tries.{tells-twice}
 
 -- an event opens one link at most
@@ -32,19 +32,19 @@ goes_on false true idle h = absurd cc
 goes_on false false true h = absurd cc
 goes_on false false false h = (refl, refl)
 
-never_fault : (closed full idle : Bool) → chosen closed full idle ≡ Some LinkFault → ⊥
+pub never_fault : (closed full idle : Bool) → chosen closed full idle ≡ Some LinkFault → ⊥
 never_fault true full idle h = cc
 never_fault false true idle h = cc
 never_fault false false true h = cc
 never_fault false false false h = cc
 
-never_full : (closed full idle : Bool) → chosen closed full idle ≡ Some LinksFull → ⊥
+pub never_full : (closed full idle : Bool) → chosen closed full idle ≡ Some LinksFull → ⊥
 never_full true full idle h = cc
 never_full false true idle h = cc
 never_full false false true h = cc
 never_full false false false h = cc
 
-never_memory : (closed full idle : Bool) → chosen closed full idle ≡ Some Memory → ⊥
+pub never_memory : (closed full idle : Bool) → chosen closed full idle ≡ Some Memory → ⊥
 never_memory true full idle h = cc
 never_memory false true idle h = cc
 never_memory false false true h = cc
@@ -94,6 +94,25 @@ ended-here limits now a b LinkFault is told = absurd (never_fault _ _ _ is)
 ended-here limits now a b LinksFull is told = absurd (never_full _ _ _ is)
 ended-here limits now a b Memory is told = absurd (never_memory _ _ _ is)
 
+-- a step whose texts were tried and whose lost links left is a served event
+module _ (old same new after : RoomState) (event : LinkEvent) (texts : List (ℕ × List ℕ)) (a b : LinksEnd) (is : same ≡ old) (step : IsRoomStep same event new texts) where
+  of_old : IsRoomStep old event new texts
+  of_old = subst (λ room. IsRoomStep room event new texts) is step
+
+  pub event-served : (gone left : List ℕ) → HaveTried a b texts gone [] → left ≡ gone → after ≡ record new { joined = without new.joined left } → IsServedEvent old event after a b
+  event-served gone left sent same_links closed = record {
+    round = record { event = event; happening = of_old.happening; stepped = new; tries = sent.tries; after = after };
+    of = refl;
+    is_round = record {
+      heard = of_old.heard;
+      stepped = of_old.after;
+      tried = sym (append-nil (texts_tried sent.tries)) ∙ sym sent.tried ∙ of_old.told;
+      after = closed ∙ ap (λ links. record new { joined = without new.joined links }) (same_links ∙ sym sent.gone_links);
+    };
+    room_after = refl;
+    told = sent.told;
+  }
+
 -- a served event is a round
 pub served-round : (limits : RoomLimits) (room new : RoomState) (old tally : Tally) (event : LinkEvent) (a b c : LinksEnd) → old.opened + opening_of event ≤ limits.links
     → tally.opened ≡ old.opened + opening_of event → tally.stepped ≡ old.stepped + step_count event → tally.idles ≡ idles_after old.idles event
@@ -116,7 +135,7 @@ fewer-idles events idle stepped idles i = omega arith
 fewer-steps : (events idle stepped idles : ℕ) → stepped < events → (idle + 1) * (events - (stepped + 1)) + (idle - 0) < (idle + 1) * (events - stepped) + (idle - idles)
 fewer-steps events idle stepped idles s = omega (arith, mul-add-lt (events - (stepped + 1)) (idle + 1) idle (events - stepped) (omega arith) (omega arith))
 
-fewer : (events idle stepped idles : ℕ) (event : LinkEvent) → stepped < events → idles < idle
+pub fewer : (events idle stepped idles : ℕ) (event : LinkEvent) → stepped < events → idles < idle
     → (idle + 1) * (events - (stepped + step_count event)) + (idle - idles_after idles event) < (idle + 1) * (events - stepped) + (idle - idles)
 fewer events idle stepped idles Idle s i =
     let same : stepped ≡ stepped + 0 = omega arith in

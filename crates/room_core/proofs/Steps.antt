@@ -1,67 +1,99 @@
--- What an event gives a room, from what each part of a step gives.
-use Rattle.std.proofs.Common.{◌≡◌, ℕ, true, false, List, [], ◌∷◌, Result, Ok, Err, IfOk, OnOk, OnErr, refl, sym, ap, subst, append-nil}
+-- What is planned for an event, from the parts of a plan; and the step that a plan makes.
+use Rattle.std.proofs.Common.{◌≡◌, ℕ, true, false, List, [], ◌∷◌, None, Result, Ok, Err, IfOk, refl, ap, subst, ◌∙◌, append-nil}
 use Rattle.std.specs.declared.alloc.AllocError.{AllocError}
 use Rattle.frac_keys.specs.Rising.{are_rising}
 use Rattle.elem.specs.ElementValue.{ElementValue}
 use Rattle.elem_store.specs.Updates.{ids_of}
 use Rattle.elem_store.proofs.CallerLemmas.{AreStored-itself}
-use Rattle.reconcile.specs.Ids.{free_elements}
-use Rattle.board_ends.specs.declared.links.LinkEvent.TheVariants.{Opened, Text, Closed}
+use Rattle.board_ends.specs.declared.links.LinkEvent.{LinkEvent}
+use Rattle.board_ends.specs.declared.links.LinkEvent.TheVariants.{Opened, Text, Closed, Idle}
 use Rattle.room_msg.specs.Messages.{IsReadAs}
 use Rattle.room_msg.specs.Texts.{message_text}
 use Rattle.room_msg.specs.declared.fault.MsgFault.{MsgFault}
 use Rattle.room_msg.specs.declared.message.Message.{Message}
-use Rattle.room_msg.specs.declared.message.Message.TheVariants.{Init}
-use Rattle.room_core.specs.Rooms.{RoomState, Joined, Heard, Left, Nothing, IsRoomStep, HaveHeard, HaveTaken, is_among, with_link, without, text_for_each, invalid_text, message_updates}
+use Rattle.room_msg.specs.declared.message.Message.TheVariants.{Init, Update, Presence}
+use Rattle.room_core.specs.Planned.{IsPlanned, IsChanged, change_by, joined_by, record_in, record_of_message, taken_by, texts_told}
+use Rattle.room_core.specs.Rooms.{RoomState, Joined, Heard, Left, Nothing, IsRoomStep, HaveTaken, invalid_text, is_among, message_updates, text_for_each, without}
+use Rattle.room_core.specs.declared.plan.Change.{Change}
+use Rattle.room_core.specs.declared.plan.Change.TheVariants.{Join, Leave, Unchanged}
+use Rattle.room_core.specs.declared.plan.Plan.{Plan}
 
--- where no id is held all elements are free
-pub free-all : (elements : List ElementValue) → free_elements [] elements ≡ elements
-free-all [] = refl
-free-all (e ∷ elements) = ap (λ others. e ∷ others) (free-all elements)
+-- a plan that tells nothing
+abbrev quiet : Change → Plan
+quiet change = record { change = change; told = record { links = []; text = [] }; own_record = None }
 
 -- no updates change nothing
 pub none_taken : (old new : List ElementValue) → new ≡ old → HaveTaken old [] new
 none_taken old new same updates are = rw (append-nil updates, same) are
 
-pub heard-message : (old : List ElementValue) (joined : List ℕ) (sender : ℕ) (bytes : List ℕ) (new : List ElementValue) (message : Message) (r : Result (List (ℕ × List ℕ)) AllocError)
-    → IsReadAs bytes (Ok message) → IfOk r (λ told. told ≡ text_for_each (without joined (sender ∷ [])) (message_text message))
-    → OnOk r (HaveTaken old (message_updates message) new) → IfOk r (HaveHeard old joined sender bytes new)
-heard-message old joined sender bytes new message (Ok texts) read told taken = record { answer = Ok message; read = read; told = told; taken = taken }
-heard-message old joined sender bytes new message (Err e) read told taken = tt
+-- what is taken leaves the ids that are stored rising
+pub taken-rises : (old taken new : List ElementValue) → are_rising (ids_of old) ≡ true → HaveTaken old taken new → are_rising (ids_of new) ≡ true
+taken-rises old taken new rises have = (have old (AreStored-itself old rises)).ordered
 
-pub heard-fault : (old : List ElementValue) (joined : List ℕ) (sender : ℕ) (bytes : List ℕ) (new : List ElementValue) (fault : MsgFault) (text : List ℕ) (r : Result (List (ℕ × List ℕ)) AllocError)
-    → IsReadAs bytes (Err fault) → text ≡ invalid_text fault → IfOk r (λ told. told ≡ (sender, text) ∷ []) → new ≡ old → IfOk r (HaveHeard old joined sender bytes new)
-heard-fault old joined sender bytes new fault text (Ok texts) read is told same =
-    record { answer = Err fault; read = read; told = rw is at told; taken = none_taken old new same }
-heard-fault old joined sender bytes new fault text (Err e) read is told same = tt
+-- what a message changes is that its updates are taken, and no link joins or leaves
+taken-updates : (message : Message) → taken_by (change_by message) ≡ message_updates message
+taken-updates (Init elements) = refl
+taken-updates (Update elements) = refl
+taken-updates (Presence value) = refl
 
--- what is heard leaves the ids that are stored rising
-pub heard-rises : (old : List ElementValue) (joined : List ℕ) (sender : ℕ) (bytes : List ℕ) (new : List ElementValue) (r : Result (List (ℕ × List ℕ)) AllocError)
-    → are_rising (ids_of old) ≡ true → IfOk r (HaveHeard old joined sender bytes new) → OnErr r (new ≡ old) → are_rising (ids_of new) ≡ true
-heard-rises old joined sender bytes new (Ok texts) rises heard same = (heard.taken old (AreStored-itself old rises)).ordered
-heard-rises old joined sender bytes new (Err e) rises heard same = subst (λ elements. are_rising (ids_of elements) ≡ true) (sym same) rises
+joined-stay : (joined : List ℕ) (message : Message) → joined_by joined (change_by message) ≡ joined
+joined-stay joined (Init elements) = refl
+joined-stay joined (Update elements) = refl
+joined-stay joined (Presence value) = refl
 
-pub step-opened : (old new : RoomState) (link : ℕ) (r : Result (List (ℕ × List ℕ)) AllocError) → new.elements ≡ old.elements → OnOk r (new.joined ≡ with_link old.joined link)
-    → IfOk r (λ told. told ≡ (link, message_text (Init old.elements)) ∷ []) → IfOk r (IsRoomStep old (Opened link) new)
-step-opened old new link (Ok texts) same joined told =
-    record { happening = Joined link; heard = refl; told = told; after = record { elements = none_taken old.elements new.elements same; joined = joined } }
-step-opened old new link (Err e) same joined told = tt
+pub planned-joined : (old : RoomState) (link : ℕ) (links text : List ℕ) → links ≡ link ∷ [] → text ≡ message_text (Init old.elements)
+    → IsPlanned old (Opened link) (record { change = Join link; told = record { links = links; text = text }; own_record = None })
+planned-joined old link links text one is = record { happening = Joined link; heard = refl; told = rw (one, is) refl; taken = refl; joined = refl; kept = refl }
 
-pub step-text : (old new : RoomState) (link : ℕ) (bytes : List ℕ) (r : Result (List (ℕ × List ℕ)) AllocError) → is_among old.joined link ≡ true → new.joined ≡ old.joined
-    → IfOk r (HaveHeard old.elements old.joined link bytes new.elements) → IfOk r (IsRoomStep old (Text link bytes) new)
-step-text old new link bytes (Ok texts) member same heard = record {
-  happening = Heard link heard.answer;
-  heard = rw member (heard.answer, heard.read, refl);
-  told = heard.told;
-  after = record { elements = heard.taken; joined = same };
+pub planned-ignored : (old : RoomState) (link : ℕ) (bytes : List ℕ) → is_among old.joined link ≡ false → IsPlanned old (Text link bytes) (quiet Unchanged)
+planned-ignored old link bytes other = record { happening = Nothing; heard = rw other refl; told = refl; taken = refl; joined = refl; kept = refl }
+
+pub planned-closed : (old : RoomState) (link : ℕ) → IsPlanned old (Closed link) (quiet (Leave link))
+planned-closed old link = record { happening = Left (link ∷ []); heard = refl; told = refl; taken = refl; joined = refl; kept = refl }
+
+pub planned-idle : (old : RoomState) → IsPlanned old Idle (quiet Unchanged)
+planned-idle old = record { happening = Nothing; heard = refl; told = refl; taken = refl; joined = refl; kept = refl }
+
+pub planned-message : (old : RoomState) (sender : ℕ) (bytes : List ℕ) (message : Message) (plan : Plan) → is_among old.joined sender ≡ true → IsReadAs bytes (Ok message)
+    → texts_told plan.told ≡ text_for_each (without old.joined (sender ∷ [])) (message_text message) → plan.change ≡ change_by message
+    → record_in plan ≡ record_of_message message → IsPlanned old (Text sender bytes) plan
+planned-message old sender bytes message plan member read told change kept = record {
+  happening = Heard sender (Ok message);
+  heard = rw member (Ok message, read, refl);
+  told = told;
+  taken = ap taken_by change ∙ taken-updates message;
+  joined = ap (joined_by old.joined) change ∙ joined-stay old.joined message;
+  kept = kept;
 }
-step-text old new link bytes (Err e) member same heard = tt
 
-pub step-ignored : (old : RoomState) (link : ℕ) (bytes : List ℕ) (texts : List (ℕ × List ℕ)) → is_among old.joined link ≡ false → texts ≡ [] → IsRoomStep old (Text link bytes) old texts
-step-ignored old link bytes texts other none =
-    record { happening = Nothing; heard = rw other refl; told = none; after = record { elements = none_taken old.elements old.elements refl; joined = refl } }
+pub planned-fault : (old : RoomState) (sender : ℕ) (bytes : List ℕ) (fault : MsgFault) (links text : List ℕ) → is_among old.joined sender ≡ true
+    → IsReadAs bytes (Err fault) → links ≡ sender ∷ [] → text ≡ invalid_text fault
+    → IsPlanned old (Text sender bytes) (record { change = Unchanged; told = record { links = links; text = text }; own_record = None })
+planned-fault old sender bytes fault links text member read one is = record {
+  happening = Heard sender (Err fault);
+  heard = rw member (Err fault, read, refl);
+  told = rw (one, is) refl;
+  taken = refl;
+  joined = refl;
+  kept = refl;
+}
 
-pub step-closed : (old new : RoomState) (link : ℕ) (texts : List (ℕ × List ℕ)) → new.elements ≡ old.elements → new.joined ≡ without old.joined (link ∷ [])
-    → texts ≡ [] → IsRoomStep old (Closed link) new texts
-step-closed old new link texts same left none =
-    record { happening = Left (link ∷ []); heard = refl; told = none; after = record { elements = none_taken old.elements new.elements same; joined = left } }
+pub relay-planned : (joined : List ℕ) (sender : ℕ) (bytes : List ℕ) (message : Message) (r : Result Plan AllocError) → is_among joined sender ≡ true → IsReadAs bytes (Ok message)
+    → IfOk r (λ plan. texts_told plan.told ≡ text_for_each (without joined (sender ∷ [])) (message_text message)) → IfOk r (λ plan. plan.change ≡ change_by message)
+    → IfOk r (λ plan. record_in plan ≡ record_of_message message)
+    → IfOk r (λ plan. (elements : List ElementValue) → IsPlanned (record { elements = elements; joined = joined }) (Text sender bytes) plan)
+relay-planned joined sender bytes message (Ok plan) member read told change kept =
+    λ elements. planned-message (record { elements = elements; joined = joined }) sender bytes message plan member read told change kept
+relay-planned joined sender bytes message (Err e) member read told change kept = tt
+
+-- a plan that is put makes the step of the event that it was planned for
+pub put-stepped : (old new : RoomState) (event : LinkEvent) (plan : Plan) → IsPlanned old event plan → IsChanged old plan.change new → IsRoomStep old event new (texts_told plan.told)
+put-stepped old new event plan planned changed = record {
+  happening = planned.happening;
+  heard = planned.heard;
+  told = planned.told;
+  after = record {
+    elements = subst (λ taken. HaveTaken old.elements taken new.elements) planned.taken changed.elements;
+    joined = changed.joined ∙ planned.joined;
+  };
+}

@@ -61,7 +61,7 @@ after-once room a b happening rises one two =
     let own = AreStored-itself room.elements rises in
     room-same a b (store-unique (room.elements ++ taken_of happening) a.elements b.elements (one.elements room.elements own) (two.elements room.elements own)) (one.joined ∙ sym two.joined)
 
-after-rises : (room new : RoomState) (happening : Happening) → are_rising (ids_of room.elements) ≡ true → IsRoomAfter room happening new → are_rising (ids_of new.elements) ≡ true
+pub after-rises : (room new : RoomState) (happening : Happening) → are_rising (ids_of room.elements) ≡ true → IsRoomAfter room happening new → are_rising (ids_of new.elements) ≡ true
 after-rises room new happening rises after = (after.elements room.elements (AreStored-itself room.elements rises)).ordered
 
 round-same : (p q : Round) → p.event ≡ q.event → p.happening ≡ q.happening → p.stepped ≡ q.stepped → p.tries ≡ q.tries → p.after ≡ q.after → p ≡ q
@@ -90,7 +90,7 @@ round-once room p q r s n rises one two event lost =
       rest = same.rest;
     }
 
-round-rises : (room : RoomState) (round : Round) → are_rising (ids_of room.elements) ≡ true → IsRound room round → are_rising (ids_of round.after.elements) ≡ true
+pub round-rises : (room : RoomState) (round : Round) → are_rising (ids_of room.elements) ≡ true → IsRound room round → are_rising (ids_of round.after.elements) ≡ true
 round-rises room round rises is =
     subst (λ (new : RoomState). are_rising (ids_of new.elements) ≡ true) (sym is.after) (after-rises room round.stepped round.happening rises is.stepped)
 

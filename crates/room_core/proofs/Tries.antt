@@ -1,10 +1,11 @@
 -- What links tell, call after call.
 use Rattle.std.proofs.Common.{◌≡◌, ℕ, zero, suc, ◌+◌, ◌<◌, Bool, true, false, not, List, [], ◌∷◌, ◌++◌, Option, Some, None, option_map, IfSome, length, map, filter, drop, get_or, refl, sym, ap, ap₂, subst, ◌∙◌, append_assoc, append-nil, length-append, Result, Ok, Err, OnErr, arith}
-use Rattle.std.proofs.lemmas.List.{map-append}
+use Rattle.std.proofs.lemmas.List.{get_or-map, length-map, map-append}
 use Rattle.std.proofs.lemmas.List.Elements.{filter-append}
 use Rattle.board_ends.specs.Events.{with_last, with_lost}
 use Rattle.board_ends.specs.declared.links.LinkEvent.{LinkEvent}
 use Rattle.board_ends.specs.Ends.{LinksEnd}
+use Rattle.room_core.specs.Rooms.{text_for_each}
 use Rattle.room_core.specs.Told.{Try, Tells, HaveTried, texts_tried, texts_sent, links_gone, texts_lost}
 
 map-twice : {X : Type 0} (told : Option (List X)) (xs ys : List X) → option_map (λ t. t ++ ys) (option_map (λ t. t ++ xs) told) ≡ option_map (λ t. t ++ (xs ++ ys)) told
@@ -99,6 +100,16 @@ tried-next a b c texts gone i try l at tried told = let more : suc i ≡ i + 1 =
   gone_links = links_gone-append tried.tries (try ∷ []) ∙ ap (λ links. links ++ links_gone (try ∷ [])) tried.gone_links;
   told = tells-twice a b c [] [] tried.tries (try ∷ []) tried.told told;
 }
+
+-- one more link was tried for a text
+pub told-next : (a b c : LinksEnd) (links text gone : List ℕ) (i : ℕ) (try : Try) → i < length links → get_or links i 0 ≡ try.link → text ≡ try.text
+    → HaveTried a b (text_for_each links text) gone (drop i (text_for_each links text)) → Tells b c [] (try ∷ [])
+    → HaveTried a c (text_for_each links text) (gone ++ links_gone (try ∷ [])) (drop (i + 1) (text_for_each links text))
+told-next a b c links text gone i try l at is tried told =
+    let within : i < length (text_for_each links text) = omega (arith, l, length-map {B = ℕ × List ℕ} links (λ (link : ℕ). (link, text))) in
+    let here : get_or (text_for_each links text) i (try.link, try.text) ≡ (try.link, try.text) =
+    get_or-map (λ (link : ℕ). (link, text)) links i 0 (try.link, try.text) l ∙ ap₂ (λ (link : ℕ) (words : List ℕ). (link, words)) at is in
+    tried-next a b c (text_for_each links text) gone i try within here tried told
 
 pub tried-none : (a b : LinksEnd) (texts : List (ℕ × List ℕ)) → b ≡ a → HaveTried a b texts [] texts
 tried-none a b texts same = record { tries = []; tried = refl; gone_links = refl; told = rw same (tells-nothing a a refl refl refl) }

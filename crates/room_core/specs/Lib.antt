@@ -1,5 +1,7 @@
 pub mod Closing
 pub mod Members
+pub mod Planned
 pub mod Rooms
+pub mod Scripts
 pub mod Serving
 pub mod Told

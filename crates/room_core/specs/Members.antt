@@ -32,7 +32,8 @@ has_message joined sender link = sender == link || is_among (without joined (sen
 -- that it was sent, and of its own.
 abbrev pub updates_after : ℕ → RoomState → List ElementValue → Happening → List ElementValue
 updates_after link room had (Joined other) = if other == link then room.elements else had
-updates_after link room had (Heard sender (Ok message)) = if has_message room.joined sender link then had ++ message_updates message else had
+updates_after link room had (Heard sender (Ok message)) =
+    if has_message room.joined sender link then had ++ message_updates message else had
 updates_after link room had (Heard sender (Err fault)) = had
 updates_after link room had (Left links) = had
 updates_after link room had Nothing = had
@@ -40,4 +41,5 @@ updates_after link room had Nothing = had
 -- the updates that a link has after these steps, and those that it had before them
 abbrev pub member_updates : ℕ → RoomState → List ElementValue → List Step → List ElementValue
 member_updates link room had [] = had
-member_updates link room had (step ∷ steps) = member_updates link step.after (updates_after link room had step.happening) steps
+member_updates link room had (step ∷ steps) =
+    member_updates link step.after (updates_after link room had step.happening) steps

@@ -20,13 +20,21 @@ pub record RoomState : Type 0 where
   pub elements : List ElementValue
   pub joined : List ℕ
 
+-- A room as a value: its state; and how many new ids, and how many new links, there is room for. "As before" is said of the
+-- state: what there is room for may have grown.
+pub record RoomStock : Type 0 where
+  pub state : RoomState
+  pub spare_ids : ℕ
+  pub spare_links : ℕ
+
 -- whether a link is among these
 abbrev pub is_among : List ℕ → ℕ → Bool
 is_among links link = list_any (λ other. other == link) links
 
 -- rising links with this one in its place
 abbrev pub with_link : List ℕ → ℕ → List ℕ
-with_link links link = filter (λ other. nat_lt other link) links ++ (link ∷ filter (λ other. nat_lt link other) links)
+with_link links link =
+    filter (λ other. nat_lt other link) links ++ (link ∷ filter (λ other. nat_lt link other) links)
 
 -- links without these
 abbrev pub without : List ℕ → List ℕ → List ℕ
@@ -44,7 +52,8 @@ pub data Happening : Type 0 where
 abbrev pub IsHeardAs : List ℕ → LinkEvent → Happening → Type 0
 IsHeardAs joined (Opened link) happening = happening ≡ Joined link
 IsHeardAs joined (Text link bytes) happening =
-    MatchBool (is_among joined link) ((answer : Result Message MsgFault) × IsReadAs bytes answer × (happening ≡ Heard link answer)) (happening ≡ Nothing)
+    MatchBool (is_among joined link) ((answer : Result Message MsgFault) × IsReadAs bytes answer
+    × (happening ≡ Heard link answer)) (happening ≡ Nothing)
 IsHeardAs joined (Closed link) happening = happening ≡ Left (link ∷ [])
 IsHeardAs joined Idle happening = happening ≡ Nothing
 
@@ -82,21 +91,16 @@ text_for_each links text = map (λ link. (link, text)) links
 -- joined link, in rising order; a fault is told to the sender alone.
 abbrev pub texts_of : RoomState → Happening → List (ℕ × List ℕ)
 texts_of room (Joined link) = (link, message_text (Init room.elements)) ∷ []
-texts_of room (Heard link (Ok message)) = text_for_each (without room.joined (link ∷ [])) (message_text message)
+texts_of room (Heard link (Ok message)) =
+    text_for_each (without room.joined (link ∷ [])) (message_text message)
 texts_of room (Heard link (Err fault)) = (link, invalid_text fault) ∷ []
 texts_of room (Left links) = []
 texts_of room Nothing = []
 
 -- What is stored of a list of updates is, with these at its end, stored as the new elements.
 abbrev pub HaveTaken : List ElementValue → List ElementValue → List ElementValue → Type 0
-HaveTaken old taken new = (updates : List ElementValue) → AreStored updates old → AreStored (updates ++ taken) new
-
--- What bytes of a joined link are read as, the texts that this gives, and what is stored then.
-pub record HaveHeard (old : List ElementValue) (joined : List ℕ) (sender : ℕ) (bytes : List ℕ) (new : List ElementValue) (texts : List (ℕ × List ℕ)) : Type 0 where
-  pub answer : Result Message MsgFault
-  pub read : IsReadAs bytes answer
-  pub told : texts ≡ texts_of (record { elements = old; joined = joined }) (Heard sender answer)
-  pub taken : HaveTaken old (taken_of (Heard sender answer)) new
+HaveTaken old taken new =
+    (updates : List ElementValue) → AreStored updates old → AreStored (updates ++ taken) new
 
 -- A room after this happened in the old one.
 pub record IsRoomAfter (old : RoomState) (happening : Happening) (new : RoomState) : Type 0 where
@@ -104,7 +108,8 @@ pub record IsRoomAfter (old : RoomState) (happening : Happening) (new : RoomStat
   pub joined : new.joined ≡ joined_after old.joined happening
 
 -- What an event of the links gives a room: the new room, and the texts to send.
-pub record IsRoomStep (old : RoomState) (event : LinkEvent) (new : RoomState) (texts : List (ℕ × List ℕ)) : Type 0 where
+pub record IsRoomStep (old : RoomState) (event : LinkEvent) (new : RoomState) (texts : List (ℕ
+    × List ℕ)) : Type 0 where
   pub happening : Happening
   pub heard : IsHeardAs old.joined event happening
   pub told : texts ≡ texts_of old happening

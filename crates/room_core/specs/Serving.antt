@@ -7,7 +7,7 @@ use Rattle.room_core.specs.Rooms.{RoomState, Happening, Left, IsHeardAs, IsRoomA
 use Rattle.room_core.specs.Members.{Step}
 use Rattle.board_ends.specs.Ends.{LinksEnd}
 use Rattle.room_core.specs.Told.{Try, Tells, texts_tried, links_gone}
-use Rattle.room_core.specs.declared.serving.Tally.{Tally}
+use Rattle.room_core.specs.declared.tally.Tally.{Tally}
 use Rattle.room_core.specs.declared.limits.RoomLimits.{RoomLimits}
 use Rattle.room_core.specs.declared.limits.ServeEnd.{ServeEnd}
 use Rattle.room_core.specs.declared.limits.ServeEnd.TheVariants.{AllClosed, Idle as IdleEnd, LinkFault, LinksFull, EventsFull, Memory}
@@ -84,11 +84,13 @@ end_of limits now = end_by limits now.opened now.stepped now.idles now.room.join
 abbrev pub AreRounds : RoomLimits → Serving → List Round → Type 0
 AreRounds limits now [] = Unit {0}
 AreRounds limits now (round ∷ rounds) =
-    (end_of limits now ≡ None) × (now.opened + opening_of round.event ≤ limits.links) × IsRound now.room round × AreRounds limits (serving_after now round) rounds
+    (end_of limits now ≡ None) × (now.opened + opening_of round.event ≤ limits.links)
+    × IsRound now.room round × AreRounds limits (serving_after now round) rounds
 
 -- A step that ended for want of memory: it was not made, and nothing was sent; or it was made, and the first of its texts
 -- were tried.
-pub record IsHalfStep (room : RoomState) (event : LinkEvent) (new : RoomState) (tries : List Try) : Type 0 where
+pub record IsHalfStep (room : RoomState) (event : LinkEvent) (new : RoomState)
+    (tries : List Try) : Type 0 where
   pub happening : Happening
   pub heard : IsHeardAs room.joined event happening
   pub stepped : IsRoomAfter room happening new
@@ -97,20 +99,27 @@ pub record IsHalfStep (room : RoomState) (event : LinkEvent) (new : RoomState) (
 
 abbrev pub IsCutShort : RoomState → Option LinkEvent → RoomState → List Try → Type 0
 IsCutShort room None new tries = (new ≡ room) × (tries ≡ [])
-IsCutShort room (Some event) new tries = ((new ≡ room) × (tries ≡ [])) ⊎ IsHalfStep room event new tries
+IsCutShort room (Some event) new tries =
+    ((new ≡ room) × (tries ≡ [])) ⊎ IsHalfStep room event new tries
 
 -- The end of a room under way after its whole rounds, by its cause; the last event, if one was given that was not stepped
 -- whole, and the texts tried for it.
-abbrev pub EndsBy : RoomLimits → Serving → Option LinkEvent → RoomState → List Try → ServeEnd → Type 0
-EndsBy limits now last new tries LinkFault = (end_of limits now ≡ None) × (last ≡ None) × (new ≡ now.room) × (tries ≡ [])
+abbrev pub EndsBy : RoomLimits → Serving → Option LinkEvent → RoomState → List Try → ServeEnd
+    → Type 0
+EndsBy limits now last new tries LinkFault =
+    (end_of limits now ≡ None) × (last ≡ None) × (new ≡ now.room) × (tries ≡ [])
 EndsBy limits now last new tries LinksFull =
-    (end_of limits now ≡ None) × (now.opened ≡ limits.links) × ((link : ℕ) × (last ≡ Some (Opened link))) × (new ≡ now.room) × (tries ≡ [])
-EndsBy limits now last new tries Memory = (end_of limits now ≡ None) × IsCutShort now.room last new tries
-EndsBy limits now last new tries end = (end_of limits now ≡ Some end) × (last ≡ None) × (new ≡ now.room) × (tries ≡ [])
+    (end_of limits now ≡ None) × (now.opened ≡ limits.links)
+    × ((link : ℕ) × (last ≡ Some (Opened link))) × (new ≡ now.room) × (tries ≡ [])
+EndsBy limits now last new tries Memory =
+    (end_of limits now ≡ None) × IsCutShort now.room last new tries
+EndsBy limits now last new tries end =
+    (end_of limits now ≡ Some end) × (last ≡ None) × (new ≡ now.room) × (tries ≡ [])
 
 -- A room was served from here on to its end: rounds, and then what ended it; and the links told just these events, and the
 -- texts tried for them.
-pub record IsServed (limits : RoomLimits) (now : Serving) (new : RoomState) (before after : LinksEnd) (end : ServeEnd) : Type 0 where
+pub record IsServed (limits : RoomLimits) (now : Serving) (new : RoomState)
+    (before after : LinksEnd) (end : ServeEnd) : Type 0 where
   pub rounds : List Round
   pub are_rounds : AreRounds limits now rounds
   pub last : Option LinkEvent
@@ -131,7 +140,8 @@ abbrev pub serving_of : RoomState → Tally → Serving
 serving_of room tally = record { room = room; opened = tally.opened; stepped = tally.stepped; idles = tally.idles }
 
 -- One event was served: a round, and the texts that were tried for it are told.
-pub record IsServedEvent (room : RoomState) (event : LinkEvent) (new : RoomState) (before after : LinksEnd) : Type 0 where
+pub record IsServedEvent (room : RoomState) (event : LinkEvent) (new : RoomState)
+    (before after : LinksEnd) : Type 0 where
   pub round : Round
   pub of : round.event ≡ event
   pub is_round : IsRound room round
@@ -139,13 +149,15 @@ pub record IsServedEvent (room : RoomState) (event : LinkEvent) (new : RoomState
   pub told : Tells before after [] round.tries
 
 -- An event whose step ended for want of memory, and the texts that were tried for it.
-pub record IsCutEvent (room : RoomState) (event : LinkEvent) (new : RoomState) (before after : LinksEnd) : Type 0 where
+pub record IsCutEvent (room : RoomState) (event : LinkEvent) (new : RoomState)
+    (before after : LinksEnd) : Type 0 where
   pub tries : List Try
   pub cut : IsCutShort room (Some event) new tries
   pub told : Tells before after [] tries
 
 -- One event was given and served whole.
-pub record IsServedRound (limits : RoomLimits) (now next : Serving) (before after : LinksEnd) : Type 0 where
+pub record IsServedRound (limits : RoomLimits) (now next : Serving)
+    (before after : LinksEnd) : Type 0 where
   pub round : Round
   pub within : now.opened + opening_of round.event ≤ limits.links
   pub is_round : IsRound now.room round

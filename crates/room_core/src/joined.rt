@@ -1,6 +1,6 @@
 //! Links that are joined, in rising order.
 
-ghost use Rattle.std.specs.Prelude.{◌≡◌, ◌∷◌, [], OnOk, OnErr, IfOk, not};
+ghost use Rattle.std.specs.Prelude.{◌≡◌, ◌<◌, ◌∷◌, [], IfOk, not, vec_capacity, vec_len};
 ghost use Rattle.std.specs.List.Sorted.{IsStrictlyIncreasing};
 ghost use Rattle.room_core.specs.Rooms.{is_among, with_link, without};
 
@@ -13,16 +13,16 @@ pub(crate) fn has_link(links: &[u64], link: u64) -> bool
     links.contains(&link)
 }
 
-/// Puts the link in its place. For want of memory nothing is changed.
-pub(crate) fn insert_link(joined: &mut Vec<u64>, link: u64) -> Result<(), AllocError>
-    requires { IsStrictlyIncreasing joined.old.items }
-    ensures ok { OnOk result (joined.new.items ≡ with_link joined.old.items link) }
-    ensures err { OnErr result (joined.new.items ≡ joined.old.items) }
+/// Puts the link in its place. There is room for it, so it takes no memory.
+pub(crate) fn insert_link(joined: &mut Vec<u64>, link: u64)
+    requires rising { IsStrictlyIncreasing joined.old.items }
+    requires room { vec_len joined.old < vec_capacity joined.old }
+    ensures with_link { joined.new.items ≡ with_link joined.old.items link }
     ensures rising { IsStrictlyIncreasing joined.new.items }
 {
     match joined.binary_search(&link) {
-        Ok(_) => Ok(()),
-        Err(at) => Ok(joined.insert(at, link)?),
+        Ok(_) => {}
+        Err(at) => joined.insert(at, link).unwrap(),
     }
 }
 

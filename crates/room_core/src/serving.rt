@@ -1,14 +1,13 @@
 //! A room that is served over links.
 
-ghost use Rattle.std.specs.Prelude.{◌≡◌, ℕ, ◌<◌, ◌≤◌, ◌+◌, IsTrue, IsFalse, IsSome, IfErr, OnOk, OnErr, Err, None, []};
+ghost use Rattle.std.specs.Prelude.{◌≡◌, ◌≤◌, IsSome, IfErr, OnOk, OnErr, Err, None, []};
 ghost use Rattle.board_ends.specs.Counts.{Rose};
-ghost use Rattle.board_ends.specs.Events.{opening_of};
-ghost use Rattle.room_core.specs.Rooms.{RoomState};
-ghost use Rattle.room_core.specs.Serving.{Serving, at_start, IsServed, IsServedRound, IsServedEvent, IsCutEvent, end_by, end_of, serving_of, step_count, idles_after};
+ghost use Rattle.room_core.specs.Serving.{at_start, IsServed, IsServedRound, IsServedEvent, IsCutEvent, end_of, serving_of};
 
 use crate::limits::{RoomLimits, ServeEnd};
 use crate::room::Room;
 use crate::sending::send_all;
+use crate::tally::{Tally, opens_link};
 use board_ends::{LinkError, LinkEvent, Links};
 use std::alloc::{AllocError, Global};
 
@@ -23,83 +22,24 @@ pub fn serve_room<L: Links>(
     requires links { 1 ≤ limits.now.links }
     requires idle { 1 ≤ limits.now.idle }
     requires events { 1 ≤ limits.now.events }
-    requires fresh { room.old.joined ≡ [] }
+    requires fresh { room.old.state.joined ≡ [] }
     requires listening { IsSome (L.seen links.old).port }
-    ensures served { IsServed limits.now (at_start room.old) room.new
+    ensures served { IsServed limits.now (at_start room.old.state) room.new.state
         (L.seen links.old) (L.seen links.new) result }
-    ensures fault { result ≡ ServeEnd.LinkFault → Rose (L.seen links.old).faults (L.seen links.new).faults }
+    ensures fault { result ≡ ServeEnd.LinkFault
+        → Rose (L.seen links.old).faults (L.seen links.new).faults }
     ensures port { (L.seen links.new).port ≡ (L.seen links.old).port }
     ensures listens { (L.seen links.new).listens ≡ (L.seen links.old).listens }
     ensures counted { (L.seen links.old).faults ≤ (L.seen links.new).faults }
     ensures gone_counted { (L.seen links.old).gone ≤ (L.seen links.new).gone }
 {
-    let mut tally = Tally {
-        opened: 0,
-        stepped: 0,
-        idles: 0,
-    };
+    let mut tally = Tally::new();
     loop {
         match serve_round(alloc, room, links, limits, &mut tally) {
             Ok(()) => {}
             Err(end) => return end,
         }
     }
-}
-
-/// What was counted since a room is served: links opened, events stepped, and answers Idle last in a row.
-#[derive(Drop)]
-struct Tally {
-    opened: u64,
-    stepped: u64,
-    idles: u64,
-}
-
-impl Tally {
-    /// Counts an event that is stepped.
-    fn count(&mut self, event: &LinkEvent, limits: &RoomLimits)
-        requires opened { self.old.opened + opening_of event.now ≤ limits.now.links }
-        requires stepped { self.old.stepped < limits.now.events }
-        requires idles { self.old.idles < limits.now.idle }
-        ensures opened { self.new.opened ≡ self.old.opened + opening_of event.now }
-        ensures stepped { self.new.stepped ≡ self.old.stepped + step_count event.now }
-        ensures idles { self.new.idles ≡ idles_after self.old.idles event.now }
-    {
-        match event {
-            LinkEvent::Idle => self.idles = one_more(self.idles, limits.idle),
-            LinkEvent::Opened(_) => {
-                self.opened = one_more(self.opened, limits.links);
-                self.stepped = one_more(self.stepped, limits.events);
-                self.idles = 0;
-            }
-            LinkEvent::Text(..) | LinkEvent::Closed(_) => {
-                self.stepped = one_more(self.stepped, limits.events);
-                self.idles = 0;
-            }
-        }
-    }
-
-    /// What ends the room by now.
-    fn end(&self, limits: &RoomLimits, joined: &[u64]) -> Option<ServeEnd>
-        ensures { result ≡ end_by limits.now self.now.opened self.now.stepped self.now.idles joined.now }
-    {
-        if self.opened > 0 && joined.is_empty() {
-            Some(ServeEnd::AllClosed)
-        } else if self.stepped >= limits.events {
-            Some(ServeEnd::EventsFull)
-        } else if self.idles >= limits.idle {
-            Some(ServeEnd::Idle)
-        } else {
-            None
-        }
-    }
-}
-
-/// One more than a count that is below its limit.
-fn one_more(count: u64, limit: u64) -> u64
-    requires { count < limit }
-    ensures { result ≡ count + 1 }
-{
-    count + 1
 }
 
 /// One event: it is stepped, its texts are tried, and what comes of it is counted.
@@ -110,15 +50,19 @@ fn serve_round<L: Links>(
     limits: &RoomLimits,
     tally: &mut Tally,
 ) -> Result<(), ServeEnd>
-    requires running { end_of limits.now (serving_of room.old tally.old) ≡ None }
+    requires running { end_of limits.now (serving_of room.old.state tally.old) ≡ None }
     requires within { tally.old.opened ≤ limits.now.links }
     requires listening { IsSome (L.seen links.old).port }
-    ensures on { OnOk result (IsServedRound limits.now (serving_of room.old tally.old) (serving_of room.new tally.new)
+    ensures on { OnOk result
+        (IsServedRound limits.now (serving_of room.old.state tally.old)
+        (serving_of room.new.state tally.new)
         (L.seen links.old) (L.seen links.new)) }
-    ensures ended { IfErr result (IsServed limits.now (serving_of room.old tally.old) room.new
+    ensures ended { IfErr result
+        (IsServed limits.now (serving_of room.old.state tally.old) room.new.state
         (L.seen links.old) (L.seen links.new)) }
-    ensures fault { result ≡ Err ServeEnd.LinkFault → Rose (L.seen links.old).faults (L.seen links.new).faults }
-    ensures running { OnOk result (end_of limits.now (serving_of room.new tally.new) ≡ None) }
+    ensures fault { result ≡ Err ServeEnd.LinkFault
+        → Rose (L.seen links.old).faults (L.seen links.new).faults }
+    ensures running { OnOk result (end_of limits.now (serving_of room.new.state tally.new) ≡ None) }
     ensures within { OnOk result (tally.new.opened ≤ limits.now.links) }
     ensures port { (L.seen links.new).port ≡ (L.seen links.old).port }
     ensures listens { (L.seen links.new).listens ≡ (L.seen links.old).listens }
@@ -143,17 +87,6 @@ fn serve_round<L: Links>(
     }
 }
 
-/// Whether the event opens a link.
-fn opens_link(event: &LinkEvent) -> bool
-    ensures opens { IsTrue result → (link : ℕ) × (event.now ≡ LinkEvent.Opened link) }
-    ensures other { IsFalse result → opening_of event.now ≡ 0 }
-{
-    match event {
-        LinkEvent::Opened(_) => true,
-        LinkEvent::Text(..) | LinkEvent::Closed(_) | LinkEvent::Idle => false,
-    }
-}
-
 /// Steps the room by the event, tries the texts of the step, and takes the links out that are gone.
 fn serve_event<L: Links>(
     alloc: Global,
@@ -161,17 +94,18 @@ fn serve_event<L: Links>(
     links: &mut L,
     event: &LinkEvent,
 ) -> Result<(), AllocError>
-    ensures whole { OnOk result (IsServedEvent room.old event.now room.new
+    ensures whole { OnOk result (IsServedEvent room.old.state event.now room.new.state
         (L.seen links.old) (L.seen links.new)) }
-    ensures cut { OnErr result (IsCutEvent room.old event.now room.new
+    ensures cut { OnErr result (IsCutEvent room.old.state event.now room.new.state
         (L.seen links.old) (L.seen links.new)) }
     ensures port { (L.seen links.new).port ≡ (L.seen links.old).port }
     ensures listens { (L.seen links.new).listens ≡ (L.seen links.old).listens }
     ensures counted { (L.seen links.old).faults ≤ (L.seen links.new).faults }
     ensures gone_counted { (L.seen links.old).gone ≤ (L.seen links.new).gone }
 {
-    let texts = room.step(event)?;
-    let gone = send_all(alloc, links, texts.as_slice())?;
+    let plan = room.plan(event)?;
+    let told = room.put(plan);
+    let gone = send_all(alloc, links, &told)?;
     room.close_all(&gone);
     Ok(())
 }

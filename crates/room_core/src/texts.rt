@@ -6,7 +6,6 @@ ghost use Rattle.elem.specs.Texts.{element_text};
 ghost use Rattle.room_msg.specs.Texts.{message_text};
 ghost use Rattle.room_msg.specs.declared.message.Message.{Message};
 ghost use Rattle.room_core.specs.Rooms as rooms;
-ghost use Rattle.room_core.specs.Rooms.{text_for_each};
 
 use board_base::Bytes;
 use elem::push_element;
@@ -29,7 +28,8 @@ pub(crate) fn init_text(alloc: Global, store: &Store) -> Result<Bytes, AllocErro
 
 /// Appends the texts of all stored elements, in the order of their ids, with commas between them.
 fn push_stored(out: &mut Vec<u8>, store: &Store) -> Result<(), AllocError>
-    ensures { OnOk result (out.new.items ≡ out.old.items ++ join_with_byte 44 (map element_text store.now.elements)) }
+    ensures { OnOk result
+        (out.new.items ≡ out.old.items ++ join_with_byte 44 (map element_text store.now.elements)) }
 {
     for i in 0..store.len() {
         if let Some(e) = store.at(i) {
@@ -50,19 +50,4 @@ pub(crate) fn invalid_text(alloc: Global, fault: MsgFault) -> Result<Bytes, Allo
     push_quoted(&mut out, words.as_str())?;
     out.extend_from_slice(b"}}")?;
     Ok(Bytes::from_vec(out))
-}
-
-/// The text for each of these links.
-pub(crate) fn text_for(
-    alloc: Global,
-    links: &[u64],
-    text: &Bytes,
-) -> Result<Vec<(u64, Bytes)>, AllocError>
-    ensures { IfOk result (λ texts. texts.items ≡ text_for_each links.now text.now) }
-{
-    let mut texts = Vec::with_capacity(alloc, links.len())?;
-    for link in links {
-        texts.push((*link, text.try_clone()?))?;
-    }
-    Ok(texts)
 }

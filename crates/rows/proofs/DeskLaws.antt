@@ -77,7 +77,7 @@ module _ (stored snapshot : List ElementValue) (time nonce : ℕ) (old new : Sta
       let ids = ids-stored stored given time nonce old.undo old.redo new.undo new.redo stepped desk.undo desk.redo in
       record { known = desk.known; undo = ids.0; redo = ids.1 }
 
-  redone : (given : List ElementValue) → HasRedone stored time nonce given old new → IsDesk stored snapshot new
+  pub redone : (given : List ElementValue) → HasRedone stored time nonce given old new → IsDesk stored snapshot new
   redone given stepped =
       let ids = ids-stored stored given time nonce old.redo old.undo new.redo new.undo stepped desk.redo desk.undo in
       record { known = desk.known; undo = ids.1; redo = ids.0 }
@@ -96,9 +96,7 @@ module _ (stored snapshot : List ElementValue) (time nonce : ℕ) (old new : Sta
   redone-desk (Err stop) done nothing err = same-desk err
 
 -- a step that was planned is put
-pub planned-desk : (stored snapshot : List ElementValue) (time nonce : ℕ) (old from after new : Stacks) (answer : Step) → IsDesk stored snapshot old → from ≡ old → new ≡ after
-    → ((given : List ElementValue) → answer ≡ Done given → HasUndone stored time nonce given from after) → (answer ≡ Nothing → after ≡ from) → IsDesk stored snapshot new
-planned-desk stored snapshot time nonce old from after new (Done given) desk same is done nothing =
-    subst (IsDesk stored snapshot) (sym is)
-    (undone stored snapshot time nonce from after (subst (IsDesk stored snapshot) (sym same) desk) given (done given refl))
-planned-desk stored snapshot time nonce old from after new Nothing desk same is done nothing = subst (IsDesk stored snapshot) (sym (is ∙ nothing refl ∙ same)) desk
+pub planned-desk : (stored snapshot : List ElementValue) (from after new : Stacks) (answer : Step) → IsDesk stored snapshot from → new ≡ after
+    → ((given : List ElementValue) → answer ≡ Done given → IsDesk stored snapshot after) → (answer ≡ Nothing → after ≡ from) → IsDesk stored snapshot new
+planned-desk stored snapshot from after new (Done given) desk is done nothing = subst (IsDesk stored snapshot) (sym is) (done given refl)
+planned-desk stored snapshot from after new Nothing desk is done nothing = subst (IsDesk stored snapshot) (sym (is ∙ nothing refl)) desk

@@ -30,8 +30,12 @@ pub(crate) enum Act {
     Undo,
     /// The same, planned and then put.
     UndoPlanned,
+    /// What is pending is captured, and is undone as the entry that is noted first; both planned and then put.
+    UndoPending,
     /// An undo is undone, and what that gives is taken.
     Redo,
+    /// The same, planned and then put.
+    RedoPlanned,
 }
 
 /// The store, the snapshot with the ids that were stored since it was taken, and the history. Each id that the snapshot or
@@ -111,7 +115,9 @@ impl Desk {
             Act::Pending => self.pending(told),
             Act::Undo => self.undo(told),
             Act::UndoPlanned => self.undo_planned(alloc, told),
+            Act::UndoPending => self.undo_pending(told),
             Act::Redo => self.redo(told),
+            Act::RedoPlanned => self.redo_planned(alloc, told),
         }
     }
 
@@ -170,6 +176,36 @@ impl Desk {
         self.history.reserve()?;
         match self.history.plan_undo(pending, &self.store, 9, 8) {
             Ok((step, answer)) => {
+                self.history.put(step);
+                self.settle(told, Ok(answer))
+            }
+            Err(stop) => self.settle(told, Err(stop)),
+        }
+    }
+
+    /// Plans to take an undo back where nothing is pending, and puts it.
+    fn redo_planned(&mut self, alloc: Global, told: &mut Vec<u8>) -> Result<(), Fail> {
+        let pending = Entry {
+            parts: List::new(alloc),
+        };
+        self.history.reserve()?;
+        match self.history.plan_redo(pending, &self.store, 9, 8) {
+            Ok((step, answer)) => {
+                self.history.put(step);
+                self.settle(told, Ok(answer))
+            }
+            Err(stop) => self.settle(told, Err(stop)),
+        }
+    }
+
+    /// Plans a capture and to take an entry back once it is noted, and puts both.
+    fn undo_pending(&mut self, told: &mut Vec<u8>) -> Result<(), Fail> {
+        let (captured, pending) = self.snapshot.plan_capture(&self.store, &self.touched, &[])?;
+        self.history.reserve()?;
+        match self.history.plan_undo(pending, &self.store, 9, 8) {
+            Ok((step, answer)) => {
+                self.snapshot.put(captured);
+                self.touched.clear();
                 self.history.put(step);
                 self.settle(told, Ok(answer))
             }

@@ -4,8 +4,8 @@ ghost use Rattle.std.specs.Prelude.{◌≤◌, ◌<◌, IfOk};
 
 use board_base::{Bytes, List, Stop};
 use board_ends::{
-    Failed, LinkError, LinkEvent, Links, MemSink, MemSource, ReadError, ScriptLinks, SendError,
-    Sink, Source, StdSink, StdSource, read_all, write_all,
+    Failed, Journal, LinkError, LinkEvent, Links, MemJournal, MemSink, MemSource, ReadError,
+    ScriptLinks, SendError, Sink, Source, StdSink, StdSource, SureSink, read_all, write_all,
 };
 use std::alloc::{AllocError, Global};
 use std::io;
@@ -124,6 +124,7 @@ impl Write for Interrupted {
     }
 
     fn flush(&mut self) -> io::Result<()> {
+        self.answer(0)?;
         Ok(())
     }
 }
@@ -160,6 +161,33 @@ fn a_std_sink_retries_and_fails(rt: HostRuntime) -> Result<(), Fail> {
         let mut sink = StdSink::new(Interrupted { times, answer });
         assert!(rt; sink.write(piece.as_bytes()) == written);
     }
+    Ok(())
+}
+
+#[test]
+fn a_std_sink_is_flushed_once_unless_interrupted(rt: HostRuntime) {
+    for (times, answer, synced) in [
+        (1000u32, Some(0usize), Ok(())),
+        (1001, Some(0), Err(Failed)),
+        (0, None, Err(Failed)),
+    ] {
+        let mut sink = StdSink::new(Interrupted { times, answer });
+        assert!(rt; sink.sync() == synced);
+    }
+}
+
+#[test]
+fn a_journal_keeps_what_is_safe(rt: HostRuntime) -> Result<(), Fail> {
+    let sink = MemSink::new(rt.alloc(), 4, 10, only(rt.alloc(), 3)?)?;
+    let mut journal = MemJournal::new(sink, only(rt.alloc(), 1)?);
+    assert!(rt; write_all(&mut journal, b"ab").is_ok() && journal.safe() == 0);
+    assert!(rt; journal.sync().is_ok() && journal.safe() == 2);
+    assert!(rt; write_all(&mut journal, b"cd").is_ok() && journal.safe() == 2);
+    assert!(rt; journal.sync() == Err(Failed) && journal.safe() == 2);
+    assert!(rt; write_all(&mut journal, b"efghi").is_err() && journal.safe() == 2);
+    assert!(rt; journal.sync().is_ok() && journal.safe() == journal.held().len());
+    assert!(rt; journal.held() == b"abcdefgh".as_slice());
+    assert!(rt; SureSink::new(1).sync().is_ok());
     Ok(())
 }
 

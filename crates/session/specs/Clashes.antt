@@ -8,4 +8,5 @@ abbrev pub HaveClashes : List ElementValue → List ElementValue → ℕ → Typ
 HaveClashes before [] count = count ≡ 0
 HaveClashes before (e ∷ elements) count =
     (IsLikeFirst before e × HaveClashes (before ++ e ∷ []) elements count)
-    ⊎ ((others : ℕ) × HasClash before e × (count ≡ others + 1) × HaveClashes (before ++ e ∷ []) elements others)
+    ⊎ ((others : ℕ) × HasClash before e × (count ≡ others + 1)
+    × HaveClashes (before ++ e ∷ []) elements others)

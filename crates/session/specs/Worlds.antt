@@ -124,18 +124,23 @@ after_seat at seat w = record w { seats = slice_set w.seats at seat; events = w.
 -- what is picked of messages: a whole one, or one element, if the message has so many
 abbrev pub picked : List (List ElementValue) → Pick → List ElementValue
 picked messages (All message) = slice_index_or messages message []
-picked messages (One message element) = option_to_list (slice_get (slice_index_or messages message []) element)
+picked messages (One message element) =
+    option_to_list (slice_get (slice_index_or messages message []) element)
 
 abbrev pub all_picked : List (List ElementValue) → List Pick → List ElementValue
 all_picked messages picks = flat_map (picked messages) picks
 
 -- what an event makes of a world
 abbrev pub after_event : Event → World → World
-after_event (Change at time capture command) w = after_act at (change_on command capture time (nonce_at w at) (state_at w at)) w
+after_event (Change at time capture command) w =
+    after_act at (change_on command capture time (nonce_at w at) (state_at w at)) w
 after_event (Update elements) w = record w { messages = w.messages ++ elements ∷ []; events = w.events + 1 }
-after_event (Deliver to picks) w = after_seat to (delivered (all_picked w.messages picks) (seat_at w to)) w
-after_event (Hold at id) w = after_seat at (holding (with_id id (state_at w at).held) (seat_at w at)) w
-after_event (Release at id) w = after_seat at (holding (without_id id (state_at w at).held) (seat_at w at)) w
+after_event (Deliver to picks) w =
+    after_seat to (delivered (all_picked w.messages picks) (seat_at w to)) w
+after_event (Hold at id) w =
+    after_seat at (holding (with_id id (state_at w at).held) (seat_at w at)) w
+after_event (Release at id) w =
+    after_seat at (holding (without_id id (state_at w at).held) (seat_at w at)) w
 after_event (Undo at time) w = after_act at (undo_of time (nonce_at w at) (state_at w at)) w
 after_event (Redo at time) w = after_act at (redo_of time (nonce_at w at) (state_at w at)) w
 
@@ -149,7 +154,8 @@ abbrev pub opening_elements : Session → List ElementValue
 opening_elements session = option_map_or (λ (scene : Scene). scene.elements) session.scene []
 
 abbrev pub head_of : Session → Heading
-head_of session = option_map_or (λ (scene : Scene). scene.head) session.scene (record { source = None; app_state = []; files = [] })
+head_of session =
+    option_map_or (λ (scene : Scene). scene.head) session.scene (record { source = None; app_state = []; files = [] })
 
 -- the world before the first event: each replica was delivered the elements of the scene
 abbrev pub opened : Session → World
@@ -170,4 +176,5 @@ last_world session = after_events session.events (opened session)
 
 -- all elements that there were: those of the scene, and then those of all messages
 abbrev pub all_elements : Session → World → List ElementValue
-all_elements session w = opening_elements session ++ flat_map (λ (message : List ElementValue). message) w.messages
+all_elements session w =
+    opening_elements session ++ flat_map (λ (message : List ElementValue). message) w.messages

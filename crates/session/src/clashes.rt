@@ -17,7 +17,9 @@ pub(crate) fn clashes_among(
     opening: &[Element],
     messages: &Vec<List<Element>>,
 ) -> Result<u64, AllocError>
-    ensures { IfOk result (HaveClashes [] (opening.now ++ flat_map (λ (message : Items ElementValue). message) messages.now.items)) }
+    ensures { IfOk result
+        (HaveClashes []
+        (opening.now ++ flat_map (λ (message : Items ElementValue). message) messages.now.items)) }
 {
     let mut clash = Clash::new(alloc);
     let mut count = note_all(&mut clash, opening)?;
@@ -30,8 +32,10 @@ pub(crate) fn clashes_among(
 
 /// Notes these elements, and tells how many of them clash with an earlier one.
 fn note_all(clash: &mut Clash, elements: &[Element]) -> Result<u64, AllocError>
-    ensures count { IfOk result (λ count. (before : Items ElementValue) → clash.old ≡ firsts_of before → HaveClashes before elements.now count) }
-    ensures noted { OnOk result ((before : Items ElementValue) → clash.old ≡ firsts_of before → clash.new ≡ firsts_of (before ++ elements.now)) }
+    ensures count { IfOk result (λ count. (before : Items ElementValue)
+        → clash.old ≡ firsts_of before → HaveClashes before elements.now count) }
+    ensures noted { OnOk result ((before : Items ElementValue) → clash.old ≡ firsts_of before
+        → clash.new ≡ firsts_of (before ++ elements.now)) }
 {
     let mut count = 0;
     for e in elements {

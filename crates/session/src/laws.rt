@@ -12,7 +12,8 @@ ghost use Rattle.session_text.specs.declared.session.Session.{Session};
 
 /// The world after all events is the last one.
 pub fn all_events_lead_to_the_last_world()
-    ensures { (session : Session) → world_after session (length session.events) ≡ last_world session }
+    ensures { (session : Session)
+        → world_after session (length session.events) ≡ last_world session }
 {}
 
 /// After every event each replica stores the best of the updates that it took, for each id, and nothing else.
@@ -31,12 +32,16 @@ pub fn taken_updates_were_made()
 /// Replicas that took the same updates, in whatever order, grouping and repetition, store and show the same.
 pub fn replicas_converge()
     ensures stored { (session : Session) (count : ℕ) (s other : Seat)
-        → Contains (world_after session count).seats s → Contains (world_after session count).seats other
-        → AreElements s.taken → HaveSameUpdates s.taken other.taken → s.state.stored ≡ other.state.stored }
-    ensures shown { (session : Session) (count : ℕ) (s other : Seat)
-        → Contains (world_after session count).seats s → Contains (world_after session count).seats other
+        → Contains (world_after session count).seats s
+        → Contains (world_after session count).seats other
         → AreElements s.taken → HaveSameUpdates s.taken other.taken
-        → scene_text (head_of session) (shown_at s) ≡ scene_text (head_of session) (shown_at other) }
+        → s.state.stored ≡ other.state.stored }
+    ensures shown { (session : Session) (count : ℕ) (s other : Seat)
+        → Contains (world_after session count).seats s
+        → Contains (world_after session count).seats other
+        → AreElements s.taken → HaveSameUpdates s.taken other.taken
+        → scene_text (head_of session) (shown_at s) ≡ scene_text (head_of session)
+        (shown_at other) }
 {}
 
 /// Elements have one number of clashes.

@@ -29,7 +29,8 @@ fn push_picked(
     messages: &Vec<List<Element>>,
     pick: &Pick,
 ) -> Result<(), AllocError>
-    ensures { OnOk result (copies.new.items ≡ copies.old.items ++ picked messages.now.items pick.now) }
+    ensures { OnOk result
+        (copies.new.items ≡ copies.old.items ++ picked messages.now.items pick.now) }
 {
     match pick {
         Pick::All(message) => push_copies(copies, message_at(messages, *message)),
@@ -59,7 +60,8 @@ fn push_copies(copies: &mut Vec<Element>, elements: &[Element]) -> Result<(), Al
 
 /// Appends a copy of the element at this place, if there is one.
 fn push_copy(copies: &mut Vec<Element>, elements: &[Element], place: u64) -> Result<(), AllocError>
-    ensures { OnOk result (copies.new.items ≡ copies.old.items ++ option_to_list (slice_get elements.now place)) }
+    ensures { OnOk result
+        (copies.new.items ≡ copies.old.items ++ option_to_list (slice_get elements.now place)) }
 {
     match elements.get(place as usize) {
         Some(e) => {

@@ -22,7 +22,8 @@ pub(crate) fn report_of(
     session: &Session,
     world: World,
 ) -> Result<Report, AllocError>
-    ensures { IfOk result (λ report. (w : worlds.World) → WorldStandsFor world w → IsReportOf session.now w report) }
+    ensures { IfOk result (λ report. (w : worlds.World) → WorldStandsFor world w
+        → IsReportOf session.now w report) }
 {
     let World {
         seats,
@@ -46,7 +47,8 @@ fn replicas_of(
     session: &Session,
     seats: Vec<Seat>,
 ) -> Result<List<ReplicaReport>, AllocError>
-    ensures { IfOk result (λ reports. (ss : Items worlds.Seat) → SeatsStandFor seats.items ss → AreReplicaReports (worlds.head_of session.now) ss reports) }
+    ensures { IfOk result (λ reports. (ss : Items worlds.Seat) → SeatsStandFor seats.items ss
+        → AreReplicaReports (worlds.head_of session.now) ss reports) }
 {
     match &session.scene {
         Some(scene) => replicas_under(alloc, &scene.head, seats),
@@ -60,7 +62,8 @@ fn replicas_under(
     head: &Head,
     seats: Vec<Seat>,
 ) -> Result<List<ReplicaReport>, AllocError>
-    ensures { IfOk result (λ reports. (ss : Items worlds.Seat) → SeatsStandFor seats.items ss → AreReplicaReports head.now ss reports) }
+    ensures { IfOk result (λ reports. (ss : Items worlds.Seat) → SeatsStandFor seats.items ss
+        → AreReplicaReports head.now ss reports) }
 {
     let mut reports = Vec::with_capacity(alloc, seats.len())?;
     for seat in seats {
@@ -71,7 +74,8 @@ fn replicas_under(
 
 /// The report on a replica.
 fn replica_of(alloc: Global, head: &Head, seat: Seat) -> Result<ReplicaReport, AllocError>
-    ensures { IfOk result (λ report. (s : worlds.Seat) → SeatStandsFor seat s → IsReplicaReport head.now s report) }
+    ensures { IfOk result (λ report. (s : worlds.Seat) → SeatStandsFor seat s
+        → IsReplicaReport head.now s report) }
 {
     let Seat { replica, taken } = seat;
     let store = replica.store();

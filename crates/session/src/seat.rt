@@ -48,7 +48,8 @@ impl Seat {
         requires time { time ≤ greatest_whole }
         requires nonce { nonce ≤ greatest_whole }
         requires limits { IsWithinLimits command.now }
-        ensures { IfOk result (λ outcome. (s : worlds.Seat) → SeatStandsFor self.old s → IsActed (change_on command.now capture time nonce s.state) s outcome self.new) }
+        ensures { IfOk result (λ outcome. (s : worlds.Seat) → SeatStandsFor self.old s
+            → IsActed (change_on command.now capture time nonce s.state) s outcome self.new) }
     {
         match self.replica.change(command, capture, time, nonce) {
             Ok(given) => {
@@ -64,7 +65,8 @@ impl Seat {
     pub(crate) fn undo(&mut self, time: u64, nonce: u64) -> Result<Outcome, AllocError>
         requires time { time ≤ greatest_whole }
         requires nonce { nonce ≤ greatest_whole }
-        ensures { IfOk result (λ outcome. (s : worlds.Seat) → SeatStandsFor self.old s → IsActed (undo_of time nonce s.state) s outcome self.new) }
+        ensures { IfOk result (λ outcome. (s : worlds.Seat) → SeatStandsFor self.old s
+            → IsActed (undo_of time nonce s.state) s outcome self.new) }
     {
         match self.replica.undo(time, nonce) {
             Ok(Step::Done(given)) => {
@@ -83,7 +85,8 @@ impl Seat {
     pub(crate) fn redo(&mut self, time: u64, nonce: u64) -> Result<Outcome, AllocError>
         requires time { time ≤ greatest_whole }
         requires nonce { nonce ≤ greatest_whole }
-        ensures { IfOk result (λ outcome. (s : worlds.Seat) → SeatStandsFor self.old s → IsActed (redo_of time nonce s.state) s outcome self.new) }
+        ensures { IfOk result (λ outcome. (s : worlds.Seat) → SeatStandsFor self.old s
+            → IsActed (redo_of time nonce s.state) s outcome self.new) }
     {
         match self.replica.redo(time, nonce) {
             Ok(Step::Done(given)) => {
@@ -100,7 +103,8 @@ impl Seat {
 
     /// Takes what is delivered, but for the held ids.
     pub(crate) fn deliver(&mut self, list: &[Element]) -> Result<(), AllocError>
-        ensures { OnOk result ((s : worlds.Seat) → SeatStandsFor self.old s → SeatStandsFor self.new (delivered list.now s)) }
+        ensures { OnOk result ((s : worlds.Seat) → SeatStandsFor self.old s
+            → SeatStandsFor self.new (delivered list.now s)) }
     {
         let count = self.replica.deliver(list)?;
         self.count(count)?;
@@ -109,7 +113,8 @@ impl Seat {
 
     /// Holds an id.
     pub(crate) fn hold(&mut self, id: &Text) -> Result<(), AllocError>
-        ensures { OnOk result ((s : worlds.Seat) → SeatStandsFor self.old s → SeatStandsFor self.new (holding (with_id id.now s.state.held) s)) }
+        ensures { OnOk result ((s : worlds.Seat) → SeatStandsFor self.old s
+            → SeatStandsFor self.new (holding (with_id id.now s.state.held) s)) }
     {
         self.replica.hold(id)?;
         Ok(())
@@ -117,7 +122,8 @@ impl Seat {
 
     /// Holds an id no more.
     pub(crate) fn release(&mut self, id: &Text)
-        ensures { (s : worlds.Seat) → SeatStandsFor self.old s → SeatStandsFor self.new (holding (without_id id.now s.state.held) s) }
+        ensures { (s : worlds.Seat) → SeatStandsFor self.old s
+            → SeatStandsFor self.new (holding (without_id id.now s.state.held) s) }
     {
         self.replica.release(id)
     }

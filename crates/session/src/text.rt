@@ -31,7 +31,8 @@ pub fn report_text(alloc: Global, report: &Report) -> Result<Bytes, AllocError>
 
 /// Appends the texts of the reports on replicas, with commas between them.
 fn push_replicas(out: &mut Vec<u8>, reports: &[ReplicaReport]) -> Result<(), AllocError>
-    ensures { OnOk result (out.new.items ≡ out.old.items ++ join_with_byte 44 (map texts.replica_text reports.now)) }
+    ensures { OnOk result
+        (out.new.items ≡ out.old.items ++ join_with_byte 44 (map texts.replica_text reports.now)) }
 {
     for (i, report) in reports.iter().enumerate() {
         push_comma(out, i)?;
@@ -57,7 +58,8 @@ fn push_replica(out: &mut Vec<u8>, report: &ReplicaReport) -> Result<(), AllocEr
 
 /// Appends a comma and a member whose value is a number.
 fn push_number(out: &mut Vec<u8>, name: &str, number: u64) -> Result<(), AllocError>
-    ensures { OnOk result (out.new.items ≡ out.old.items ++ 44 ∷ member_text (name.now, decimal number)) }
+    ensures { OnOk result
+        (out.new.items ≡ out.old.items ++ 44 ∷ member_text (name.now, decimal number)) }
 {
     out.push(b',')?;
     push_quoted(out, name)?;
@@ -67,7 +69,8 @@ fn push_number(out: &mut Vec<u8>, name: &str, number: u64) -> Result<(), AllocEr
 
 /// Appends the texts of the reports on refused events, with commas between them.
 fn push_refused(out: &mut Vec<u8>, events: &[RefusedEvent]) -> Result<(), AllocError>
-    ensures { OnOk result (out.new.items ≡ out.old.items ++ join_with_byte 44 (map texts.refused_text events.now)) }
+    ensures { OnOk result
+        (out.new.items ≡ out.old.items ++ join_with_byte 44 (map texts.refused_text events.now)) }
 {
     for (i, event) in events.iter().enumerate() {
         push_comma(out, i)?;

@@ -85,7 +85,9 @@ impl World {
         requires room { self.old.events + 1 < 2 ^ 64 }
         requires time { time ≤ greatest_whole }
         requires limits { IsWithinLimits command.now }
-        ensures { OnOk result (IsWorldAfter self.old (after_event (Event.Change at time capture command.now)) self.new) }
+        ensures { OnOk result
+            (IsWorldAfter self.old
+            (after_event (Event.Change at time capture command.now)) self.new) }
     {
         let nonce = draw(&mut self.generator, at);
         let seat = &mut self.seats[at as usize];
@@ -138,7 +140,8 @@ impl World {
     /// Elements from elsewhere are a message.
     fn update(&mut self, elements: &List<Element>) -> Result<(), AllocError>
         requires { self.old.events + 1 < 2 ^ 64 }
-        ensures { OnOk result (IsWorldAfter self.old (after_event (Event.Update elements.now)) self.new) }
+        ensures { OnOk result
+            (IsWorldAfter self.old (after_event (Event.Update elements.now)) self.new) }
     {
         self.messages
             .push(elements.try_clone_with(Element::try_clone)?)?;
@@ -150,7 +153,8 @@ impl World {
     fn deliver(&mut self, to: u64, picks: &List<Pick>) -> Result<(), AllocError>
         requires to { to < vec_len self.old.seats }
         requires room { self.old.events + 1 < 2 ^ 64 }
-        ensures { OnOk result (IsWorldAfter self.old (after_event (Event.Deliver to picks.now)) self.new) }
+        ensures { OnOk result
+            (IsWorldAfter self.old (after_event (Event.Deliver to picks.now)) self.new) }
     {
         let alloc = *self.messages.allocator();
         let list = all_picked(alloc, &self.messages, picks.as_slice())?;
@@ -164,7 +168,8 @@ impl World {
     fn hold(&mut self, at: u64, id: &Text) -> Result<(), AllocError>
         requires at { at < vec_len self.old.seats }
         requires room { self.old.events + 1 < 2 ^ 64 }
-        ensures { OnOk result (IsWorldAfter self.old (after_event (Event.Hold at id.now)) self.new) }
+        ensures { OnOk result
+            (IsWorldAfter self.old (after_event (Event.Hold at id.now)) self.new) }
     {
         let seat = &mut self.seats[at as usize];
         seat.hold(id)?;
@@ -176,7 +181,8 @@ impl World {
     fn release(&mut self, at: u64, id: &Text) -> Result<(), AllocError>
         requires at { at < vec_len self.old.seats }
         requires room { self.old.events + 1 < 2 ^ 64 }
-        ensures { OnOk result (IsWorldAfter self.old (after_event (Event.Release at id.now)) self.new) }
+        ensures { OnOk result
+            (IsWorldAfter self.old (after_event (Event.Release at id.now)) self.new) }
     {
         let seat = &mut self.seats[at as usize];
         seat.release(id);
@@ -202,8 +208,10 @@ fn note_outcome(
     event: u64,
     outcome: Outcome,
 ) -> Result<(), AllocError>
-    ensures message { OnOk result (messages.new.items ≡ messages.old.items ++ given_of outcome ∷ []) }
-    ensures refused { OnOk result (refused.new.items ≡ with_refused event outcome refused.old.items) }
+    ensures message { OnOk result
+        (messages.new.items ≡ messages.old.items ++ given_of outcome ∷ []) }
+    ensures refused { OnOk result
+        (refused.new.items ≡ with_refused event outcome refused.old.items) }
 {
     let given = match outcome {
         Outcome::Given(given) => given,
@@ -218,7 +226,8 @@ fn note_outcome(
 
 /// So many replicas to which these elements were delivered.
 fn seats_of(alloc: Global, count: u64, elements: &[Element]) -> Result<Vec<Seat>, AllocError>
-    ensures seats { IfOk result (λ seats. SeatsStandFor seats.items (replicate count (delivered elements.now fresh))) }
+    ensures seats { IfOk result
+        (λ seats. SeatsStandFor seats.items (replicate count (delivered elements.now fresh))) }
     ensures count { IfOk result (λ seats. vec_len seats ≡ count) }
 {
     let mut seats = Vec::new(alloc);

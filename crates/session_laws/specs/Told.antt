@@ -44,4 +44,5 @@ pub record IsToldAll (session : Session) : Type 0 where
   pub last : List Event
   pub events : session.events ≡ first ++ last
   pub deliveries : AllByRecursion IsDelivery last
-  pub told : (at message : ℕ) → at < session.replicas → message < made_after 0 first → IsDelivered last at message
+  pub told : (at message : ℕ) → at < session.replicas → message < made_after 0 first
+      → IsDelivered last at message

@@ -52,7 +52,8 @@ pub record IsRedoAt (at : ℕ) (event : Event) (w : World) : Type 0 where
 abbrev pub AreAmong : (ℕ → Event → World → Type 0) → ℕ → List Event → World → ℕ → Type 0
 AreAmong Is at [] w zero = Unit {0}
 AreAmong Is at [] w (suc n) = ⊥
-AreAmong Is at (event ∷ events) w zero = KeepsAway at event w × AreAmong Is at events (after_event event w) zero
+AreAmong Is at (event ∷ events) w zero =
+    KeepsAway at event w × AreAmong Is at events (after_event event w) zero
 AreAmong Is at (event ∷ events) w (suc n) =
     (Is at event w × AreAmong Is at events (after_event event w) n)
     ⊎ (KeepsAway at event w × AreAmong Is at events (after_event event w) (suc n))

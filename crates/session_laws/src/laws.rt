@@ -26,7 +26,8 @@ pub fn states_are_sound()
         → Contains (world_after session count).seats s → IsSoundState s.state }
     ensures taken { (session : Session) (count : ℕ) (s : Seat) → IsSession session
         → Contains (world_after session count).seats s → AreElements s.taken }
-    ensures messages { (session : Session) (count : ℕ) (message : List ElementValue) → IsSession session
+    ensures messages { (session : Session) (count : ℕ) (message : List ElementValue)
+        → IsSession session
         → Contains (world_after session count).messages message → AreElements message }
 {}
 
@@ -34,12 +35,15 @@ pub fn states_are_sound()
 /// replica shows has strictly rising keys and agrees on its links, frames and groups.
 pub fn replicas_converge()
     ensures stored { (session : Session) (count : ℕ) (s other : Seat) → IsSession session
-        → Contains (world_after session count).seats s → Contains (world_after session count).seats other
+        → Contains (world_after session count).seats s
+        → Contains (world_after session count).seats other
         → HaveSameUpdates s.taken other.taken → s.state.stored ≡ other.state.stored }
     ensures shown { (session : Session) (count : ℕ) (s other : Seat) → IsSession session
-        → Contains (world_after session count).seats s → Contains (world_after session count).seats other
+        → Contains (world_after session count).seats s
+        → Contains (world_after session count).seats other
         → HaveSameUpdates s.taken other.taken
-        → scene_text (head_of session) (shown_at s) ≡ scene_text (head_of session) (shown_at other) }
+        → scene_text (head_of session) (shown_at s) ≡ scene_text (head_of session)
+        (shown_at other) }
     ensures rise { (session : Session) (count : ℕ) (s : Seat) → IsSession session
         → Contains (world_after session count).seats s → HaveRisingKeys (shown_at s) }
     ensures settled { (session : Session) (count : ℕ) (s : Seat) → IsSession session
@@ -51,7 +55,8 @@ pub fn nothing_is_pending()
     ensures none { (session : Session) (count at : ℕ) → IsSession session → at < session.replicas
         → AllByRecursion (λ (event : Event). IsLaterAt at event → ⊥) (take count session.events)
         → HasNothingPending (state_at (world_after session count) at) }
-    ensures captured { (session : Session) (count at : ℕ) → IsSession session → at < session.replicas
+    ensures captured { (session : Session) (count at : ℕ) → IsSession session
+        → at < session.replicas
         → AllByRecursion (λ (event : Event). IsLaterAt at event → ⊥) (take count session.events)
         → IsCaptured (state_at (world_after session count) at) }
 {}
@@ -61,28 +66,33 @@ pub fn nothing_is_pending()
 /// after each of several undos: as it was before as many of the last changes. While changes are left, undo finds an entry,
 /// and is refused for a full version alone.
 pub fn undo_brings_back()
-    ensures back { (session : Session) (count at n : ℕ) (changes undos rest : List Event) → IsSession session
+    ensures back { (session : Session) (count at n : ℕ) (changes undos rest : List Event)
+        → IsSession session
         → drop count session.events ≡ changes ++ undos ++ rest → at < session.replicas
         → HasNothingPending (state_at (world_after session count) at)
         → AreChangesAt at changes (world_after session count) n
         → AreUndosAt at undos (after_events changes (world_after session count)) n
         → IsAs (state_at (world_after session count) at)
         (state_at (after_events undos (after_events changes (world_after session count))) at) }
-    ensures captured { (session : Session) (count at n : ℕ) (changes rest : List Event) → IsSession session
+    ensures captured { (session : Session) (count at n : ℕ) (changes rest : List Event)
+        → IsSession session
         → drop count session.events ≡ changes ++ rest → at < session.replicas
         → AreChangesAt at changes (world_after session count) n → 1 ≤ n
         → IsCaptured (state_at (after_events changes (world_after session count)) at) }
-    ensures none { (session : Session) (count at n : ℕ) (changes rest : List Event) → IsSession session
+    ensures none { (session : Session) (count at n : ℕ) (changes rest : List Event)
+        → IsSession session
         → drop count session.events ≡ changes ++ rest → at < session.replicas
         → AreChangesAt at changes (world_after session count) n → 1 ≤ n
         → HasNothingPending (state_at (after_events changes (world_after session count)) at) }
-    ensures found { (session : Session) (count at n j : ℕ) (changes undos rest : List Event) → IsSession session
+    ensures found { (session : Session) (count at n j : ℕ) (changes undos rest : List Event)
+        → IsSession session
         → drop count session.events ≡ changes ++ undos ++ rest → at < session.replicas
         → HasNothingPending (state_at (world_after session count) at)
         → AreChangesAt at changes (world_after session count) n
         → AreUndosAt at undos (after_events changes (world_after session count)) j → j < n
         → (time nonce : ℕ)
-        → let s = state_at (after_events undos (after_events changes (world_after session count))) at in
+        → let s = state_at (after_events undos
+        (after_events changes (world_after session count))) at in
         IsFound s.stored (undo_on time nonce s) }
 {}
 
@@ -90,22 +100,29 @@ pub fn undo_brings_back()
 /// done as there were first changes: it is as it was after these, whatever else happens meanwhile that keeps away from it.
 /// While undos are left, redo finds an entry, and is refused for a full version alone.
 pub fn redo_repeats()
-    ensures again { (session : Session) (count at r l : ℕ) (again others undos redos rest : List Event) → IsSession session
-        → drop count session.events ≡ again ++ others ++ undos ++ redos ++ rest → at < session.replicas
+    ensures again { (session : Session) (count at r l : ℕ)
+        (again others undos redos rest : List Event) → IsSession session
+        → drop count session.events ≡ again ++ others ++ undos ++ redos ++ rest
+        → at < session.replicas
         → HasNothingPending (state_at (world_after session count) at)
         → AreChangesAt at again (world_after session count) r
         → AreChangesAt at others (after_events again (world_after session count)) l
-        → AreUndosAt at undos (after_events others (after_events again (world_after session count))) (r + l)
-        → AreRedosAt at redos (after_events undos (after_events others (after_events again (world_after session count)))) r
+        → AreUndosAt at undos (after_events others
+        (after_events again (world_after session count))) (r + l)
+        → AreRedosAt at redos (after_events undos
+        (after_events others (after_events again (world_after session count)))) r
         → IsAs (state_at (after_events again (world_after session count)) at)
         (state_at (after_events redos (after_events undos (after_events others (after_events again (world_after session count))))) at) }
-    ensures found { (session : Session) (count at n j k : ℕ) (changes undos redos rest : List Event) → IsSession session
+    ensures found { (session : Session) (count at n j k : ℕ)
+        (changes undos redos rest : List Event) → IsSession session
         → drop count session.events ≡ changes ++ undos ++ redos ++ rest → at < session.replicas
         → HasNothingPending (state_at (world_after session count) at)
         → AreChangesAt at changes (world_after session count) n
         → AreUndosAt at undos (after_events changes (world_after session count)) j
-        → AreRedosAt at redos (after_events undos (after_events changes (world_after session count))) k → j ≤ n → k < j
-        → (time nonce : ℕ) → let w = after_events undos (after_events changes (world_after session count)) in
+        → AreRedosAt at redos (after_events undos
+        (after_events changes (world_after session count))) k → j ≤ n → k < j
+        → (time nonce : ℕ)
+        → let w = after_events undos (after_events changes (world_after session count)) in
         let s = state_at (after_events redos w) at in IsFound s.stored (redo_on time nonce s) }
 {}
 
@@ -116,9 +133,11 @@ pub fn others_changes_stay()
     ensures undo { (session : Session) (count at time nonce : ℕ) (turn : Turn) → IsSession session
         → at < session.replicas → let s = state_at (world_after session count) at in
         undo_on time nonce s ≡ Some (Ok turn)
-        → StepLeavesOthers (captured s).undo (captured s).redo s.stored (after_undo time nonce s).stored }
+        → StepLeavesOthers (captured s).undo (captured s).redo s.stored
+        (after_undo time nonce s).stored }
     ensures redo { (session : Session) (count at time nonce : ℕ) (turn : Turn) → IsSession session
         → at < session.replicas → let s = state_at (world_after session count) at in
         redo_on time nonce s ≡ Some (Ok turn)
-        → StepLeavesOthers (captured s).redo (captured s).undo s.stored (after_redo time nonce s).stored }
+        → StepLeavesOthers (captured s).redo (captured s).undo s.stored
+        (after_redo time nonce s).stored }
 {}

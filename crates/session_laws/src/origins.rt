@@ -15,9 +15,11 @@ ghost use Rattle.session_text.specs.declared.session.Session.{Session};
 /// Where every update comes from a replica and no two of the opening elements clash, no two elements ever do: after every event
 /// none clashes with an earlier one, and the report tells no clash.
 pub fn sessions_without_updates_have_no_clash()
-    ensures none { (session : Session) → IsSession session → HasOwnUpdates session → HaveClashes [] (opening_elements session) 0
+    ensures none { (session : Session) → IsSession session → HasOwnUpdates session
+        → HaveClashes [] (opening_elements session) 0
         → (count : ℕ) → HaveClashes [] (all_elements session (world_after session count)) 0 }
-    ensures told { (session : Session) → IsSession session → HasOwnUpdates session → HaveClashes [] (opening_elements session) 0
+    ensures told { (session : Session) → IsSession session → HasOwnUpdates session
+        → HaveClashes [] (opening_elements session) 0
         → (report : Report) → IsReportOf session (last_world session) report → report.clashes ≡ 0 }
 {}
 
@@ -25,8 +27,10 @@ pub fn sessions_without_updates_have_no_clash()
 /// were, so that any two took the same.
 pub fn told_all_store_the_same()
     ensures all { (session : Session) → HasNoHolds session → IsToldAll session
-        → (s : Seat) → Contains (last_world session).seats s → HaveSameUpdates s.taken (all_elements session (last_world session)) }
+        → (s : Seat) → Contains (last_world session).seats s
+        → HaveSameUpdates s.taken (all_elements session (last_world session)) }
     ensures same { (session : Session) → HasNoHolds session → IsToldAll session
-        → (s other : Seat) → Contains (last_world session).seats s → Contains (last_world session).seats other
+        → (s other : Seat) → Contains (last_world session).seats s
+        → Contains (last_world session).seats other
         → HaveSameUpdates s.taken other.taken }
 {}

@@ -40,7 +40,9 @@ IsAsked found name = found ≡ Some (asked_text name)
 -- The value is this element. Its fault is told with the place 0, and one of type `selection` has a fault of its type.
 abbrev pub IsDrawnAs : List ℕ → Reading ElementValue
 IsDrawnAs value (Ok e) = IsElementIn value e
-IsDrawnAs value (Err fault) = (why : ElemFault) × (fault ≡ Element 0 why) × (IsFaultIn value why ⊎ (IsSelection value × (why ≡ Kind)))
+IsDrawnAs value (Err fault) =
+    (why : ElemFault) × (fault ≡ Element 0 why)
+    × (IsFaultIn value why ⊎ (IsSelection value × (why ≡ Kind)))
 
 -- ---- members that several commands have
 abbrev pub TextOf : MemberName → List Pair → Reading (List ℕ)
@@ -54,7 +56,8 @@ IdsOf members answer = MemberOf names.Ids AreIds members answer
 
 -- the ids, and the text of this name
 abbrev pub IdsAnd : MemberName → List Pair → Reading (List (List ℕ) × List ℕ)
-IdsAnd name members answer = Then (IdsOf members) (λ ids. Then (TextOf name members) (λ text. Gives (ids, text))) answer
+IdsAnd name members answer =
+    Then (IdsOf members) (λ ids. Then (TextOf name members) (λ text. Gives (ids, text))) answer
 
 -- an arrow and an end of it
 abbrev pub EndOf : List Pair → Reading (List ℕ × Side)
@@ -68,20 +71,27 @@ CommandNamed members asked.Create answer =
 CommandNamed members asked.Set answer =
     Then (TextOf names.Id members) (λ id. Then (TextOf names.Member members) (λ name.
     Then (MemberOf names.Value IsShallow members) (λ value. Gives (commands.Set id name value)))) answer
-CommandNamed members asked.Delete answer = Then (IdsOf members) (λ ids. Gives (commands.Delete ids)) answer
+CommandNamed members asked.Delete answer =
+    Then (IdsOf members) (λ ids. Gives (commands.Delete ids)) answer
 CommandNamed members asked.Place answer =
     Then (TextOf names.Id members) (λ id. Then (MemberOf names.Spot IsSpot members) (λ spot. Gives (commands.Place id spot))) answer
 CommandNamed members asked.Bind answer =
     Then (EndOf members) (λ bound. Then (TextOf names.Target members) (λ target.
     Then (MemberOf names.Binding IsRest members) (λ rest. Gives (commands.Bind bound.0 bound.1 target rest)))) answer
-CommandNamed members asked.Unbind answer = Then (EndOf members) (λ bound. Gives (commands.Unbind bound.0 bound.1)) answer
+CommandNamed members asked.Unbind answer =
+    Then (EndOf members) (λ bound. Gives (commands.Unbind bound.0 bound.1)) answer
 CommandNamed members asked.Label answer =
     Then (TextOf names.Container members) (λ container. Then (TextOf names.Text members) (λ text. Gives (commands.Label container text))) answer
-CommandNamed members asked.Unlabel answer = Then (TextOf names.Text members) (λ text. Gives (commands.Unlabel text)) answer
-CommandNamed members asked.Frame answer = Then (IdsAnd names.Frame members) (λ framed. Gives (commands.Frame framed.0 framed.1)) answer
-CommandNamed members asked.Unframe answer = Then (IdsOf members) (λ ids. Gives (commands.Unframe ids)) answer
-CommandNamed members asked.Group answer = Then (IdsAnd names.Group members) (λ grouped. Gives (commands.Group grouped.0 grouped.1)) answer
-CommandNamed members asked.Ungroup answer = Then (IdsAnd names.Group members) (λ grouped. Gives (commands.Ungroup grouped.0 grouped.1)) answer
+CommandNamed members asked.Unlabel answer =
+    Then (TextOf names.Text members) (λ text. Gives (commands.Unlabel text)) answer
+CommandNamed members asked.Frame answer =
+    Then (IdsAnd names.Frame members) (λ framed. Gives (commands.Frame framed.0 framed.1)) answer
+CommandNamed members asked.Unframe answer =
+    Then (IdsOf members) (λ ids. Gives (commands.Unframe ids)) answer
+CommandNamed members asked.Group answer =
+    Then (IdsAnd names.Group members) (λ grouped. Gives (commands.Group grouped.0 grouped.1)) answer
+CommandNamed members asked.Ungroup answer =
+    Then (IdsAnd names.Group members) (λ grouped. Gives (commands.Ungroup grouped.0 grouped.1)) answer
 
 -- The members of a command say this command.
 abbrev pub CommandOf : List Pair → Reading Command

@@ -57,7 +57,8 @@ IsHappening found name = found ≡ Some (happening_text name)
 -- The values are these elements, those of type `selection` left out.
 abbrev pub AreDrawnAs : List (List ℕ) → Reading (List ElementValue)
 AreDrawnAs values (Ok elements) = AreRead values elements
-AreDrawnAs values (Err fault) = (place : ℕ) × (why : ElemFault) × (fault ≡ Element place why) × IsFirstFaulty values place why
+AreDrawnAs values (Err fault) =
+    (place : ℕ) × (why : ElemFault) × (fault ≡ Element place why) × IsFirstFaulty values place why
 
 -- a replica and a time
 abbrev pub TimeOf : ℕ → List Pair → Reading (ℕ × ℕ)
@@ -83,17 +84,23 @@ EventNamed replicas made members happenings.Change answer =
     Then (TimeOf replicas members) (λ when.
     Then (MemberOf names.Capture IsCapture members) (λ capture.
     Then (CommandIn members) (λ command. Gives (events.Change when.0 when.1 capture command)))) answer
-EventNamed replicas made members happenings.Update answer = Then (ElementsIn members) (λ elements. Gives (events.Update elements)) answer
+EventNamed replicas made members happenings.Update answer =
+    Then (ElementsIn members) (λ elements. Gives (events.Update elements)) answer
 EventNamed replicas made members happenings.Deliver answer =
     Then (MemberOf names.To (IsFrom 0 replicas) members) (λ to.
     Then (MemberOf names.Picks (HasPicks made) members) (λ picks. Gives (events.Deliver to picks))) answer
-EventNamed replicas made members happenings.Hold answer = Then (HeldOf replicas members) (λ held. Gives (events.Hold held.0 held.1)) answer
-EventNamed replicas made members happenings.Release answer = Then (HeldOf replicas members) (λ held. Gives (events.Release held.0 held.1)) answer
-EventNamed replicas made members happenings.Undo answer = Then (TimeOf replicas members) (λ when. Gives (events.Undo when.0 when.1)) answer
-EventNamed replicas made members happenings.Redo answer = Then (TimeOf replicas members) (λ when. Gives (events.Redo when.0 when.1)) answer
+EventNamed replicas made members happenings.Hold answer =
+    Then (HeldOf replicas members) (λ held. Gives (events.Hold held.0 held.1)) answer
+EventNamed replicas made members happenings.Release answer =
+    Then (HeldOf replicas members) (λ held. Gives (events.Release held.0 held.1)) answer
+EventNamed replicas made members happenings.Undo answer =
+    Then (TimeOf replicas members) (λ when. Gives (events.Undo when.0 when.1)) answer
+EventNamed replicas made members happenings.Redo answer =
+    Then (TimeOf replicas members) (λ when. Gives (events.Redo when.0 when.1)) answer
 
 abbrev pub EventOf : ℕ → ℕ → List Pair → Reading Event
-EventOf replicas made members answer = Then (MemberOf names.Do IsHappening members) (EventNamed replicas made members) answer
+EventOf replicas made members answer =
+    Then (MemberOf names.Do IsHappening members) (EventNamed replicas made members) answer
 
 -- ---- the texts
 abbrev pub HeaderText : List ℕ → Reading Header

@@ -26,7 +26,8 @@ IsAmong replicas (Redo at time) = at < replicas
 
 -- Its time is within the limit of times, and its command within those of commands.
 abbrev pub IsEventWithinLimits : Event → Type 0
-IsEventWithinLimits (Change at time capture command) = (time ≤ greatest_whole) × IsWithinLimits command
+IsEventWithinLimits (Change at time capture command) =
+    (time ≤ greatest_whole) × IsWithinLimits command
 IsEventWithinLimits (Update elements) = Unit {0}
 IsEventWithinLimits (Deliver to picks) = Unit {0}
 IsEventWithinLimits (Hold at id) = Unit {0}

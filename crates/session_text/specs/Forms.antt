@@ -80,18 +80,22 @@ IsRest (Some value) rest =
 -- two values, the numbers of a message, below that of those made so far, and of an element
 abbrev pub IsPair : ℕ → List (List ℕ) → ℕ × ℕ → Type 0
 IsPair made parts pair =
-    (first second : List ℕ) × (parts ≡ first ∷ second ∷ []) × IsFrom 0 made (Some first) pair.0 × IsWholeNumber (Some second) pair.1
+    (first second : List ℕ) × (parts ≡ first ∷ second ∷ []) × IsFrom 0 made (Some first) pair.0
+    × IsWholeNumber (Some second) pair.1
 
 -- the number of a message, or an array of it and of an element's number
 abbrev pub IsPick : ℕ → List ℕ → Pick → Type 0
 IsPick made item (chosen.All message) = IsFrom 0 made (Some item) message
-IsPick made item (chosen.One message element) = (parts : List (List ℕ)) × IsArray (Some item) parts × IsPair made parts (message, element)
+IsPick made item (chosen.One message element) =
+    (parts : List (List ℕ)) × IsArray (Some item) parts × IsPair made parts (message, element)
 
 abbrev pub ArePicks : ℕ → List (List ℕ) → List Pick → Type 0
 ArePicks made [] picks = picks ≡ []
 ArePicks made (item ∷ items) picks =
-    (pick : Pick) × (others : List Pick) × (picks ≡ pick ∷ others) × IsPick made item pick × ArePicks made items others
+    (pick : Pick) × (others : List Pick) × (picks ≡ pick ∷ others) × IsPick made item pick
+    × ArePicks made items others
 
 -- an array of picks
 abbrev pub HasPicks : ℕ → Option (List ℕ) → List Pick → Type 0
-HasPicks made found picks = (items : List (List ℕ)) × IsArray found items × ArePicks made items picks
+HasPicks made found picks =
+    (items : List (List ℕ)) × IsArray found items × ArePicks made items picks

@@ -21,8 +21,10 @@ Or Is fault (Ok x) = Is x
 Or Is fault (Err other) = Lacks Is × (other ≡ fault)
 
 -- The member of this name is read, which has this form.
-abbrev pub MemberOf : {A : Type 0} → MemberName → (Option (List ℕ) → A → Type 0) → List Pair → Reading A
-MemberOf name IsForm members answer = Or (IsForm (value_at (word_of name) members)) (faults.Member name) answer
+abbrev pub MemberOf : {A : Type 0} → MemberName → (Option (List ℕ) → A → Type 0) → List Pair
+    → Reading A
+MemberOf name IsForm members answer =
+    Or (IsForm (value_at (word_of name) members)) (faults.Member name) answer
 
 -- This is read in any case.
 abbrev pub Gives : {A : Type 0} → A → Reading A
@@ -38,11 +40,13 @@ abbrev pub ObjectOf : {A : Type 0} → (List Pair → Result A TextFault → Typ
 ObjectOf Says text answer = Then (Or (IsObject text) faults.NotObject) Says answer
 
 -- What a call gives is what is read; want of memory says nothing.
-abbrev pub Answers : {A : Type 0} → (Result A TextFault → Type 0) → Result A (Stop TextFault) → Type 0
+abbrev pub Answers : {A : Type 0} → (Result A TextFault → Type 0) → Result A (Stop TextFault)
+    → Type 0
 Answers Reads (Ok x) = Reads (Ok x)
 Answers Reads (Err (Fault fault)) = Reads (Err fault)
 Answers Reads (Err Memory) = Unit {0}
 
 -- A call gives what is read. Only contracts of private functions cite this.
-pub record IsReadResult {A : Type 0} (Reads : Result A TextFault → Type 0) (result : Result A (Stop TextFault)) : Type 0 where
+pub record IsReadResult {A : Type 0} (Reads : Result A TextFault
+    → Type 0) (result : Result A (Stop TextFault)) : Type 0 where
   pub read : Answers Reads result

@@ -19,11 +19,13 @@ abbrev pub most_events : ℕ
 most_events = 250000
 
 -- At the front a value stands, behind white space and in whatever spelling, and says this; the rest follows it.
-abbrev pub StandsAs : {A : Type 0} → (List ℕ → Result A TextFault → Type 0) → List ℕ → A → List ℕ → Type 0
+abbrev pub StandsAs : {A : Type 0} → (List ℕ → Result A TextFault → Type 0) → List ℕ → A → List ℕ
+    → Type 0
 StandsAs Says bytes x rest = (text : List ℕ) × Stands bytes text rest × Says text (Ok x)
 
 -- The text behind the offset has this first fault: of its JSON form, or of what it says. Places count over all bytes.
-abbrev pub IsTextFaultAt : {A : Type 0} → (List ℕ → Result A TextFault → Type 0) → List ℕ → ℕ → TextFault → Type 0
+abbrev pub IsTextFaultAt : {A : Type 0} → (List ℕ → Result A TextFault → Type 0) → List ℕ → ℕ
+    → TextFault → Type 0
 IsTextFaultAt Says bytes at fault =
     ((found : JsonFault) × (fault ≡ Json found) × IsFirstFault bytes at found)
     ⊎ ((text rest : List ℕ) × Stands (drop at bytes) text rest × Says text (Err fault))
@@ -47,7 +49,8 @@ made_after made (event ∷ events) = made_after (made + messages_of event) event
 abbrev pub EventsLead : ℕ → ℕ → List ℕ → List Event → List ℕ → Type 0
 EventsLead replicas made bytes [] rest = bytes ≡ rest
 EventsLead replicas made bytes (event ∷ events) rest =
-    (next : List ℕ) × StandsAs (EventText replicas made) bytes event next × EventsLead replicas (made + messages_of event) next events rest
+    (next : List ℕ) × StandsAs (EventText replicas made) bytes event next
+    × EventsLead replicas (made + messages_of event) next events rest
 
 -- The header and these events, of which there are not too many, lead up to the offset.
 pub record LeadTo (bytes : List ℕ) (head : Header) (events : List Event) (end : ℕ) : Type 0 where
@@ -86,5 +89,6 @@ pub record HasTooMany (bytes : List ℕ) : Type 0 where
 
 -- The first fault of bytes that are no session. One text at least is needed: the header.
 abbrev pub IsSessionFault : List ℕ → SessionFault → Type 0
-IsSessionFault bytes (In number fault) = ((number ≡ 1) × IsTextFaultAt HeaderText bytes 0 fault) ⊎ HasFaultyEvent bytes number fault
+IsSessionFault bytes (In number fault) =
+    ((number ≡ 1) × IsTextFaultAt HeaderText bytes 0 fault) ⊎ HasFaultyEvent bytes number fault
 IsSessionFault bytes TooMany = HasTooMany bytes

@@ -15,15 +15,19 @@ with_event session event = record session { events = session.events ++ event ∷
 -- The text is that of the header, or of the next event; before it this is the session so far, and with it that one.
 abbrev pub TakesText : Option Session → List ℕ → Option Session → Type 0
 TakesText None text None = ⊥
-TakesText None text (Some session) = HeaderText text (Ok (header session.replicas session.seed session.scene)) × (session.events ≡ [])
+TakesText None text (Some session) =
+    HeaderText text (Ok (header session.replicas session.seed session.scene))
+    × (session.events ≡ [])
 TakesText (Some before) text None = ⊥
 TakesText (Some before) text (Some session) =
-    (event : Event) × EventText before.replicas (made_after 0 before.events) text (Ok event) × (session ≡ with_event before event)
+    (event : Event) × EventText before.replicas (made_after 0 before.events) text (Ok event)
+    × (session ≡ with_event before event)
 
 -- The text of the header, or of the next event, has this fault.
 abbrev pub IsNextFault : Option Session → List ℕ → TextFault → Type 0
 IsNextFault None text fault = HeaderText text (Err fault)
-IsNextFault (Some session) text fault = EventText session.replicas (made_after 0 session.events) text (Err fault)
+IsNextFault (Some session) text fault =
+    EventText session.replicas (made_after 0 session.events) text (Err fault)
 
 -- whether no further event may come
 abbrev pub is_full : Option Session → Bool
@@ -38,7 +42,8 @@ texts_in (Some session) = length session.events + 1
 -- the session so far, of a header that was taken and of events
 abbrev pub session_so_far : Option Header → List Event → Option Session
 session_so_far None events = None
-session_so_far (Some head) events = Some (record { replicas = head.replicas; seed = head.seed; scene = head.scene; events = events })
+session_so_far (Some head) events =
+    Some (record { replicas = head.replicas; seed = head.seed; scene = head.scene; events = events })
 
 -- What is kept of a session so far: it is one, and so many messages were made by its events. Before the header there is none.
 pub record IsFeed (head : Option Header) (events : List Event) (made : ℕ) : Type 0 where
@@ -49,4 +54,5 @@ pub record IsFeed (head : Option Header) (events : List Event) (made : ℕ) : Ty
 -- The texts of the session so far lead up to the offset.
 abbrev pub LeadsUpTo : List ℕ → Option Session → ℕ → Type 0
 LeadsUpTo bytes None at = at ≡ 0
-LeadsUpTo bytes (Some session) at = LeadTo bytes (header session.replicas session.seed session.scene) session.events at
+LeadsUpTo bytes (Some session) at =
+    LeadTo bytes (header session.replicas session.seed session.scene) session.events at

@@ -123,7 +123,8 @@ fn event_named(
 
 /// A command at a replica.
 fn change(alloc: Global, members: &List<Member>, replicas: u64) -> Result<Event, Stop<TextFault>>
-    ensures { (made : ℕ) → IsReadResult (EventNamed replicas made (pairs members.now) happenings.Change) result }
+    ensures { (made : ℕ)
+        → IsReadResult (EventNamed replicas made (pairs members.now) happenings.Change) result }
 {
     let (at, time) = time(members, replicas)?;
     let capture = capture(members)?;
@@ -143,7 +144,8 @@ fn deliver(
     replicas: u64,
     made: u64,
 ) -> Result<Event, Stop<TextFault>>
-    ensures { IsReadResult (EventNamed replicas made (pairs members.now) happenings.Deliver) result }
+    ensures { IsReadResult
+        (EventNamed replicas made (pairs members.now) happenings.Deliver) result }
 {
     let to = number_from(members, MemberName::To, 0, replicas)?;
     let picks = picks(alloc, members, made)?;

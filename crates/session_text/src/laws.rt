@@ -19,7 +19,8 @@ pub fn reading_is_unique()
 /// Each list of bytes is a session, or has a first fault.
 pub fn reading_exists()
     ensures { (bytes : List ℕ)
-        → ((session : Session) × IsSessionOf bytes session) ⊎ ((fault : SessionFault) × IsSessionFault bytes fault) }
+        → ((session : Session) × IsSessionOf bytes session)
+        ⊎ ((fault : SessionFault) × IsSessionFault bytes fault) }
 {}
 
 /// What is read keeps to the limits, and is of elements.

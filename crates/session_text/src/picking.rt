@@ -81,7 +81,8 @@ fn pair(parts: &List<Raw>, made: u64) -> Option<(u64, u64)>
 
 /// The number of a message that the item is, if it is one.
 fn message(item: &Raw, made: u64) -> Option<u64>
-    ensures { MatchOption result (Lacks (IsFrom 0 made (Some item.now))) (IsFrom 0 made (Some item.now)) }
+    ensures { MatchOption result (Lacks (IsFrom 0 made (Some item.now)))
+        (IsFrom 0 made (Some item.now)) }
 {
     match whole_of(item) {
         Some(message) if message < made => Some(message),

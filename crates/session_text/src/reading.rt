@@ -19,7 +19,8 @@ use std::alloc::Global;
 /// the first in the order of its members.
 pub fn read_session(alloc: Global, bytes: &[u8]) -> Result<Session, Stop<SessionFault>>
     ensures session { IfOk result (IsSessionOf bytes.now) }
-    ensures fault { (fault : SessionFault) → result ≡ Err (Stop.Fault fault) → IsSessionFault bytes.now fault }
+    ensures fault { (fault : SessionFault) → result ≡ Err (Stop.Fault fault)
+        → IsSessionFault bytes.now fault }
     ensures kept { IfOk result IsSession }
 {
     let mut feed = SessionFeed::new(alloc);
@@ -50,7 +51,8 @@ fn next_text(
     ensures within { IfOk result (λ end. (at < end) × (end ≤ length bytes.now)) }
     ensures leads { IfOk result (LeadsUpTo bytes.now feed.new) }
     ensures begun { OnOk result (is_none feed.new ≡ false) }
-    ensures fault { (fault : SessionFault) → result ≡ Err (Stop.Fault fault) → IsSessionFault bytes.now fault }
+    ensures fault { (fault : SessionFault) → result ≡ Err (Stop.Fault fault)
+        → IsSessionFault bytes.now fault }
 {
     let number = feed.texts() + 1;
     let (text, end) = match scan(alloc, bytes, at) {

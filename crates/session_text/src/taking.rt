@@ -63,7 +63,8 @@ impl SessionFeed {
     pub fn take(&mut self, alloc: Global, text: &Raw) -> Result<(), Stop<TextFault>>
         requires { taken.is_full self.old ≡ false }
         ensures taken { OnOk result (TakesText self.old text.now self.new) }
-        ensures fault { (fault : TextFault) → result ≡ Err (Stop.Fault fault) → IsNextFault self.old text.now fault }
+        ensures fault { (fault : TextFault) → result ≡ Err (Stop.Fault fault)
+            → IsNextFault self.old text.now fault }
         ensures json { (fault : JsonFault) → result ≢ Err (Stop.Fault (TextFault.Json fault)) }
         ensures err { OnErr result (self.new ≡ self.old) }
     {
@@ -135,8 +136,10 @@ fn take_event(
 ) -> Result<(), Stop<TextFault>>
     requires { made.old ≤ MOST_EVENTS }
     ensures taken { OnOk result ((event : Event) × EventText replicas made.old text.now (Ok event)
-        × (events.new.items ≡ events.old.items ++ event ∷ []) × (made.new ≡ made.old + sessions.messages_of event)) }
-    ensures fault { (fault : TextFault) → result ≡ Err (Stop.Fault fault) → EventText replicas made.old text.now (Err fault) }
+        × (events.new.items ≡ events.old.items ++ event ∷ [])
+        × (made.new ≡ made.old + sessions.messages_of event)) }
+    ensures fault { (fault : TextFault) → result ≡ Err (Stop.Fault fault)
+        → EventText replicas made.old text.now (Err fault) }
     ensures events { OnErr result (events.new.items ≡ events.old.items) }
     ensures made { OnErr result (made.new ≡ made.old) }
 {

@@ -22,5 +22,6 @@ pub fn shown_scene_is_written()
 
 /// What is shown of whole elements is whole.
 pub fn shown_scenes_are_whole()
-    ensures { (live : List ElementValue) → All IsWholeElement live → All IsWholeElement (shown live) }
+    ensures { (live : List ElementValue) → All IsWholeElement live
+        → All IsWholeElement (shown live) }
 {}

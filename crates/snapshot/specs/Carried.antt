@@ -22,26 +22,34 @@ pub record IsLed (old new captured result : ElementValue) : Type 0 where
 -- What a stored change makes of the element that the snapshot holds of its id, if it holds one. The new element comes where
 -- nothing was stored or the kind is another one; else nothing comes where nothing is captured, and else the captured element
 -- changes as the stored one did.
-pub record IsCarried (captured old : Option ElementValue) (new : ElementValue) (result : Option ElementValue) : Type 0 where
+pub record IsCarried (captured old : Option ElementValue) (new : ElementValue)
+    (result : Option ElementValue) : Type 0 where
   pub created : old ≡ None → result ≡ Some new
-  pub other_kind : (stored : ElementValue) → old ≡ Some stored → stored.kind ≢ new.kind → result ≡ Some new
-  pub absent : (stored : ElementValue) → old ≡ Some stored → stored.kind ≡ new.kind → captured ≡ None → result ≡ None
-  pub changed : (stored e : ElementValue) → old ≡ Some stored → stored.kind ≡ new.kind → captured ≡ Some e
+  pub other_kind : (stored : ElementValue) → old ≡ Some stored → stored.kind ≢ new.kind
+      → result ≡ Some new
+  pub absent : (stored : ElementValue) → old ≡ Some stored → stored.kind ≡ new.kind
+      → captured ≡ None → result ≡ None
+  pub changed : (stored e : ElementValue) → old ≡ Some stored → stored.kind ≡ new.kind
+      → captured ≡ Some e
       → (led : ElementValue) × IsLed stored new e led × (result ≡ Some led)
 
 -- The snapshot's element of this id is as it was carried, and the others stay.
-pub record HasCarried (before : List ElementValue) (old : Option ElementValue) (new : ElementValue) (after : List ElementValue) : Type 0 where
+pub record HasCarried (before : List ElementValue) (old : Option ElementValue) (new : ElementValue)
+    (after : List ElementValue) : Type 0 where
   pub ordered : are_rising (ids_of after) ≡ true
   pub own : IsCarried (element_of before new.id) old new (element_of after new.id)
   pub others : (id : List ℕ) → has_id id new ≡ false → element_of after id ≡ element_of before id
 
 -- The element is the one of its id, and the others stay.
-pub record HasPut (before : List ElementValue) (e : ElementValue) (after : List ElementValue) : Type 0 where
+pub record HasPut (before : List ElementValue) (e : ElementValue)
+    (after : List ElementValue) : Type 0 where
   pub ordered : are_rising (ids_of after) ≡ true
-  pub each : (id : List ℕ) → element_of after id ≡ (if has_id id e then Some e else element_of before id)
+  pub each : (id : List ℕ)
+      → element_of after id ≡ (if has_id id e then Some e else element_of before id)
 
 -- What a stored change makes of the captured element of its id, if there is one, as a function.
-abbrev pub carried_to : Option ElementValue → Option ElementValue → ElementValue → Option ElementValue
+abbrev pub carried_to : Option ElementValue → Option ElementValue → ElementValue
+    → Option ElementValue
 carried_to captured None new = Some new
 carried_to captured (Some old) new =
     if same_kind old.kind new.kind then option_map (undone (record { before = new; after = old })) captured else Some new
@@ -54,4 +62,5 @@ with_made (Some e) elements = with_put e elements
 -- Each of these elements has a stored one of its id, which is of its kind.
 abbrev pub AreOfStoredKinds : List ElementValue → List ElementValue → Type 0
 AreOfStoredKinds elements stored =
-    (id : List ℕ) (e : ElementValue) → element_of elements id ≡ Some e → (own : ElementValue) × (element_of stored id ≡ Some own) × (same_kind e.kind own.kind ≡ true)
+    (id : List ℕ) (e : ElementValue) → element_of elements id ≡ Some e → (own : ElementValue)
+    × (element_of stored id ≡ Some own) × (same_kind e.kind own.kind ≡ true)

@@ -26,8 +26,10 @@ pub(crate) fn carry(
 ) -> Result<(), AllocError>
     requires rise { are_rising (ids_of elements.old.items) ≡ true }
     requires id { IfSome (option_copied old) (λ old. old.id ≡ new.now.id) }
-    ensures ok { OnOk result (HasCarried elements.old.items (option_copied old.entry) new.now elements.new.items) }
-    ensures over { OnOk result (elements.new.items ≡ carried_over (option_copied old.entry) new.now elements.old.items) }
+    ensures ok { OnOk result
+        (HasCarried elements.old.items (option_copied old.entry) new.now elements.new.items) }
+    ensures over { OnOk result
+        (elements.new.items ≡ carried_over (option_copied old.entry) new.now elements.old.items) }
     ensures err { OnErr result (elements.new.items ≡ elements.old.items) }
 {
     let made = carried(alloc, find(elements, &new.id), old, new)?;
@@ -43,8 +45,11 @@ fn carried(
 ) -> Result<Option<Element>, AllocError>
     requires captured_id { IfSome (option_copied captured) (λ captured. captured.id ≡ new.now.id) }
     requires id { IfSome (option_copied old) (λ old. old.id ≡ new.now.id) }
-    ensures is { IfOk result (IsCarried (option_copied captured.entry) (option_copied old.entry) new.now) }
-    ensures to { IfOk result (λ made. made ≡ carried_to (option_copied captured.entry) (option_copied old.entry) new.now) }
+    ensures is { IfOk result
+        (IsCarried (option_copied captured.entry) (option_copied old.entry) new.now) }
+    ensures to { IfOk result
+        (λ made. made ≡ carried_to (option_copied captured.entry)
+        (option_copied old.entry) new.now) }
 {
     match old {
         Some(old) => changed(alloc, captured, old, new),
@@ -62,7 +67,8 @@ fn changed(
     requires captured_id { IfSome (option_copied captured) (λ captured. captured.id ≡ new.now.id) }
     requires id { old.now.id ≡ new.now.id }
     ensures is { IfOk result (IsCarried (option_copied captured.entry) (Some old.now) new.now) }
-    ensures to { IfOk result (λ made. made ≡ carried_to (option_copied captured.entry) (Some old.now) new.now) }
+    ensures to { IfOk result
+        (λ made. made ≡ carried_to (option_copied captured.entry) (Some old.now) new.now) }
 {
     if are_one_kind(&old.kind, &new.kind) {
         follow(alloc, captured, old, new)
@@ -83,7 +89,8 @@ fn follow(
     requires kind { old.now.kind ≡ new.now.kind }
     ensures is { IfOk result (IsCarried (option_copied captured.entry) (Some old.now) new.now) }
     ensures to { IfOk result (λ made.
-        made ≡ option_map (undone (record { before = new.now; after = old.now })) (option_copied captured.entry)) }
+        made ≡ option_map (undone (record { before = new.now; after = old.now }))
+        (option_copied captured.entry)) }
 {
     let Some(captured) = captured else {
         return Ok(None);
@@ -135,7 +142,8 @@ fn carry_one(
     ensures step { let stored = with_all_put newer.old.items store.now.elements in
         let now = with_all_put step.old.items captured.now.items in
         OnOk result (with_all_put step.new.items captured.now.items
-        ≡ (if is_taken stored e.now then carried_over (element_of stored e.now.id) e.now now else now)) }
+        ≡ (if is_taken stored e.now then carried_over
+        (element_of stored e.now.id) e.now now else now)) }
     ensures ordered { OnOk result (are_rising (ids_of step.new.items) ≡ true) }
 {
     let old = stored_over(newer, store, &e.id);
@@ -150,7 +158,8 @@ fn carry_one(
 /// The element of this id: a newer one, or what is stored.
 fn stored_over<'a>(newer: &'a Vec<Boxed>, store: &'a Store, id: &Text) -> Option<&'a Element>
     requires { are_rising (ids_of newer.now.items) ≡ true }
-    ensures { option_copied result ≡ element_of (with_all_put newer.now.items store.now.elements) id.now }
+    ensures { option_copied result ≡ element_of
+        (with_all_put newer.now.items store.now.elements) id.now }
 {
     match find(newer, id) {
         Some(e) => Some(e),
@@ -162,7 +171,8 @@ fn stored_over<'a>(newer: &'a Vec<Boxed>, store: &'a Store, id: &Text) -> Option
 fn find_over<'a>(step: &'a Vec<Boxed>, captured: &'a Vec<Boxed>, id: &Text) -> Option<&'a Element>
     requires step { are_rising (ids_of step.now.items) ≡ true }
     requires captured { are_rising (ids_of captured.now.items) ≡ true }
-    ensures { option_copied result ≡ element_of (with_all_put step.now.items captured.now.items) id.now }
+    ensures { option_copied result ≡ element_of
+        (with_all_put step.now.items captured.now.items) id.now }
 {
     match find(step, id) {
         Some(e) => Some(e),

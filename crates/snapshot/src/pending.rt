@@ -26,7 +26,8 @@ pub(crate) fn parts_since(
     store: &Store,
 ) -> Result<Vec<Part>, AllocError>
     requires { are_rising (updates.ids_of elements.now.items) ≡ true }
-    ensures { IfOk result (λ parts. EntryStandsFor parts.items (pairs_since elements.now.items store.now.elements)) }
+    ensures { IfOk result
+        (λ parts. EntryStandsFor parts.items (pairs_since elements.now.items store.now.elements)) }
 {
     store.tell();
     let mut parts = Vec::new(alloc);
@@ -46,7 +47,8 @@ pub(crate) fn parts_to(
 ) -> Result<Vec<Part>, AllocError>
     requires elements { are_rising (updates.ids_of elements.now.items) ≡ true }
     requires news { are_rising (updates.ids_of news.now.items) ≡ true }
-    ensures { IfOk result (λ parts. EntryStandsFor parts.items (pairs_since elements.now.items news.now.items)) }
+    ensures { IfOk result
+        (λ parts. EntryStandsFor parts.items (pairs_since elements.now.items news.now.items)) }
 {
     let mut parts = Vec::new(alloc);
     for boxed in news {
@@ -66,7 +68,8 @@ fn note(
     requires { IfSome (option_copied old) (λ old. old.id ≡ new.now.id) }
     ensures { (pairs : Items Pair) → EntryStandsFor parts.old.items pairs
         → ((pair : Pair) → Contains pairs pair → bytes_less pair.after.id new.now.id ≡ true)
-        → OnOk result (EntryStandsFor parts.new.items (pairs ++ pair_with (option_copied old.entry) new.now ∷ [])) }
+        → OnOk result (EntryStandsFor parts.new.items
+        (pairs ++ pair_with (option_copied old.entry) new.now ∷ [])) }
 {
     if has_changed(old, new) {
         parts.push(difference(alloc, old, new)?)?;
@@ -142,7 +145,9 @@ fn put_differing(
     stored: Option<&Element>,
 ) -> Result<(), AllocError>
     requires { are_rising (updates.ids_of copies.old.items) ≡ true }
-    ensures { OnOk result (HasPutStored copies.old.items (option_copied old.entry) (option_copied stored.entry) copies.new.items) }
+    ensures { OnOk result
+        (HasPutStored copies.old.items (option_copied old.entry)
+        (option_copied stored.entry) copies.new.items) }
 {
     match (old, stored) {
         (_, None) => Ok(()),

@@ -80,7 +80,8 @@ impl Snapshot {
     /// The entry of what has changed since the last capture: the parts from the elements of the snapshot to the stored
     /// ones. The snapshot then has the stored elements; for want of memory they are unchanged.
     pub fn capture(&mut self, store: &Store) -> Result<Entry, AllocError>
-        ensures entry { IfOk result (λ entry. EntryStandsFor entry (pairs_since self.old.elements store.now.elements)) }
+        ensures entry { IfOk result
+            (λ entry. EntryStandsFor entry (pairs_since self.old.elements store.now.elements)) }
         ensures ok { OnOk result (self.new.elements ≡ store.now.elements) }
         ensures err { OnErr result (self.new.elements ≡ self.old.elements) }
     {
@@ -162,8 +163,10 @@ impl Snapshot {
     /// snapshot, if there is one. For want of memory the elements are unchanged.
     pub fn carry(&mut self, old: Option<&Element>, new: &Element) -> Result<(), AllocError>
         requires { IfSome (option_copied old) (λ old. old.id ≡ new.now.id) }
-        ensures ok { OnOk result (HasCarried self.old.elements (option_copied old.entry) new.now self.new.elements) }
-        ensures over { OnOk result (self.new.elements ≡ carried_over (option_copied old.entry) new.now self.old.elements) }
+        ensures ok { OnOk result
+            (HasCarried self.old.elements (option_copied old.entry) new.now self.new.elements) }
+        ensures over { OnOk result
+            (self.new.elements ≡ carried_over (option_copied old.entry) new.now self.old.elements) }
         ensures err { OnErr result (self.new.elements ≡ self.old.elements) }
     {
         let alloc = *self.elements.allocator();
@@ -173,7 +176,8 @@ impl Snapshot {
     /// The ids of the elements that have changed since the last capture: those of the parts that a capture would give.
     pub fn pending(&self, store: &Store) -> Result<List<Text>, AllocError>
         ensures { IfOk result (λ ids. (parts : Items Delta)
-            × EntryStandsFor parts (pairs_since self.now.elements store.now.elements) × (ids ≡ part_ids parts)) }
+            × EntryStandsFor parts (pairs_since self.now.elements store.now.elements)
+            × (ids ≡ part_ids parts)) }
     {
         let alloc = *self.elements.allocator();
         let parts = parts_since(alloc, &self.elements, store)?;

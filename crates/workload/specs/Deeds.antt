@@ -36,7 +36,8 @@ order_of row element other =
 
 -- how a change is captured: later and never in one case of eight each, else now
 abbrev pub capture_of : ℕ → Capture
-capture_of number = if number == 0 then captures.Later else (if number == 1 then captures.Never else captures.Now)
+capture_of number =
+    if number == 0 then captures.Later else (if number == 1 then captures.Never else captures.Now)
 
 -- The event of this number, where so many messages were made before it: a command in the rows 0 to 13, undo in 14, redo in 15,
 -- and in the others two messages are delivered, the latest among them. Its time is its number and one.
@@ -66,4 +67,5 @@ with_deed deed c = record { deeds = c.deeds ++ deed ∷ []; made = c.made + mess
 -- the drill of a seed after so many events
 unfoldable pub course : ℕ → ℕ → Course
 course seed zero = record { deeds = []; made = 0; generator = generator_of seed }
-course seed (suc number) = with_deed (deed_of number (course seed number).made (drawn (course seed number).generator)) (course seed number)
+course seed (suc number) =
+    with_deed (deed_of number (course seed number).made (drawn (course seed number).generator)) (course seed number)

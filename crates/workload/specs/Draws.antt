@@ -19,7 +19,8 @@ drawn generator =
 
 -- the generator after them
 unfoldable pub after_draws : Lcg → Lcg
-after_draws generator = next_generator (next_generator (next_generator (next_generator (next_generator generator))))
+after_draws generator =
+    next_generator (next_generator (next_generator (next_generator (next_generator generator))))
 
 -- The numbers are below their limits.
 pub record IsDrawn (draws : Draws) : Type 0 where

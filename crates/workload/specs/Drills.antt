@@ -21,8 +21,10 @@ abbrev pub command_of : Order → Command
 command_of (Create element) = commands.Create (numbered_element element) spots.Top
 command_of (SetX element value) = commands.Set (numbered_id element) (codes "x") (decimal value)
 command_of (SetY element value) = commands.Set (numbered_id element) (codes "y") (decimal value)
-command_of (Place element other) = commands.Place (numbered_id element) (spots.After (numbered_id other))
-command_of (Bind side element other) = commands.Bind (numbered_id element) side (numbered_id other) []
+command_of (Place element other) =
+    commands.Place (numbered_id element) (spots.After (numbered_id other))
+command_of (Bind side element other) =
+    commands.Bind (numbered_id element) side (numbered_id other) []
 command_of (Label element other) = commands.Label (numbered_id element) (numbered_id other)
 command_of (Frame element other) = commands.Frame (numbered_id element ∷ []) (numbered_id other)
 command_of (Group element other) = commands.Group (first_texts (numbered_id element ∷ numbered_id other ∷ [])) (codes "g")
@@ -44,7 +46,9 @@ abbrev pub drawn_events : ℕ → ℕ → List Event
 drawn_events seed events = map event_of (course seed events).deeds
 
 abbrev pub last_events : ℕ → List Event
-last_events made = delivery 0 (rising made) ∷ delivery 1 (falling made) ∷ delivery 2 (rising made) ∷ delivery 3 (falling made) ∷ []
+last_events made =
+    delivery 0 (rising made) ∷ delivery 1 (falling made) ∷ delivery 2 (rising made) ∷ delivery 3
+    (falling made) ∷ []
 
 unfoldable pub drill_session : ℕ → ℕ → Session
 drill_session seed events = record {

@@ -111,7 +111,8 @@ abbrev pub line : List ℕ → List ℕ
 line text = text ++ 10 ∷ []
 
 abbrev pub event_texts : ℕ → ℕ → List (List ℕ)
-event_texts seed events = map deed_text (course seed events).deeds ++ last_texts (course seed events).made
+event_texts seed events =
+    map deed_text (course seed events).deeds ++ last_texts (course seed events).made
 
 -- the text of the drill of a seed with so many events before the last four: a line for the header, and one for each event
 unfoldable pub drill_text : ℕ → ℕ → List ℕ

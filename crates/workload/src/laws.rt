@@ -14,7 +14,8 @@ ghost use Rattle.workload.specs.Texts.{drill_text};
 pub fn drill_is_read()
     ensures read { (seed events : ℕ) → seed ≤ greatest_whole → events ≤ most_drilled
         → IsSessionOf (drill_text seed events) (drill_session seed events) }
-    ensures limits { (seed events : ℕ) → seed ≤ greatest_whole → events ≤ most_drilled → IsSession (drill_session seed events) }
+    ensures limits { (seed events : ℕ) → seed ≤ greatest_whole → events ≤ most_drilled
+        → IsSession (drill_session seed events) }
     ensures drill { (seed events : ℕ) → IsDrill seed events (drill_session seed events) }
     ensures all { (made : ℕ) → PicksAll made }
 {}

@@ -32,7 +32,9 @@ pub fn make_session(alloc: Global, seed: u64, events: u64) -> Result<Bytes, Allo
 /// Appends the lines of the events that are drawn, and gives how many messages they make.
 fn push_events(out: &mut Vec<u8>, seed: u64, events: u64) -> Result<u64, AllocError>
     requires { events ≤ most_drilled }
-    ensures lines { OnOk result (out.new.items ≡ out.old.items ++ flat_map line (map deed_text (course seed events).deeds)) }
+    ensures lines { OnOk result
+        (out.new.items ≡ out.old.items ++ flat_map line
+        (map deed_text (course seed events).deeds)) }
     ensures made { IfOk result (λ made. made ≡ (course seed events).made) }
 {
     let mut generator = generator_of(seed);
@@ -77,7 +79,8 @@ fn falling(alloc: Global, numbers: &[u64]) -> Result<Vec<u64>, AllocError>
 
 /// Appends the line of a delivery of whole messages.
 fn push_delivery_line(out: &mut Vec<u8>, to: u64, messages: &[u64]) -> Result<(), AllocError>
-    ensures { OnOk result (out.new.items ≡ out.old.items ++ line (texts.delivery_text to messages.now)) }
+    ensures { OnOk result
+        (out.new.items ≡ out.old.items ++ line (texts.delivery_text to messages.now)) }
 {
     push_delivery(out, to, messages)?;
     out.push(b'\n')?;

@@ -50,7 +50,9 @@ fn push_change(
     capture: Capture,
     order: Order,
 ) -> Result<(), AllocError>
-    ensures { OnOk result (out.new.items ≡ out.old.items ++ object_text (texts.change_members at time capture order)) }
+    ensures { OnOk result
+        (out.new.items ≡ out.old.items ++ object_text
+        (texts.change_members at time capture order)) }
 {
     out.extend_from_slice(b"{\"do\":\"change\",\"at\":")?;
     push_whole(out, at)?;
@@ -77,7 +79,8 @@ fn capture_word(capture: Capture) -> &'static str
 
 /// Appends the text of an undo or a redo, as the word says.
 fn push_step(out: &mut Vec<u8>, word: &str, at: u64, time: u64) -> Result<(), AllocError>
-    ensures { OnOk result (out.new.items ≡ out.old.items ++ object_text (texts.step_members word.now at time)) }
+    ensures { OnOk result
+        (out.new.items ≡ out.old.items ++ object_text (texts.step_members word.now at time)) }
 {
     out.extend_from_slice(b"{\"do\":")?;
     push_quoted(out, word)?;
@@ -103,7 +106,8 @@ pub(crate) fn push_delivery(out: &mut Vec<u8>, to: u64, messages: &[u64]) -> Res
 
 /// Appends numbers with commas between them.
 fn push_numbers(out: &mut Vec<u8>, numbers: &[u64]) -> Result<(), AllocError>
-    ensures { OnOk result (out.new.items ≡ out.old.items ++ join_with_byte 44 (map decimal numbers.now)) }
+    ensures { OnOk result
+        (out.new.items ≡ out.old.items ++ join_with_byte 44 (map decimal numbers.now)) }
 {
     for (i, number) in numbers.iter().enumerate() {
         push_comma(out, i)?;
@@ -131,7 +135,8 @@ fn push_order(out: &mut Vec<u8>, order: Order) -> Result<(), AllocError>
 
 /// Appends the text of a command that makes an element.
 fn push_create(out: &mut Vec<u8>, element: u64) -> Result<(), AllocError>
-    ensures { OnOk result (out.new.items ≡ out.old.items ++ texts.order_text (orders.Create element)) }
+    ensures { OnOk result
+        (out.new.items ≡ out.old.items ++ texts.order_text (orders.Create element)) }
 {
     out.extend_from_slice(b"{\"name\":\"create\",\"element\":{\"id\":")?;
     push_id(out, element)?;
@@ -156,7 +161,9 @@ fn kind_word(number: u64) -> &'static str
 
 /// Appends the text of a command that gives a member a number.
 fn push_set(out: &mut Vec<u8>, element: u64, member: &str, value: u64) -> Result<(), AllocError>
-    ensures { OnOk result (out.new.items ≡ out.old.items ++ object_text (texts.set_members element member.now value)) }
+    ensures { OnOk result
+        (out.new.items ≡ out.old.items ++ object_text
+        (texts.set_members element member.now value)) }
 {
     out.extend_from_slice(b"{\"name\":\"set\",\"id\":")?;
     push_id(out, element)?;
@@ -170,7 +177,8 @@ fn push_set(out: &mut Vec<u8>, element: u64, member: &str, value: u64) -> Result
 
 /// Appends the text of a command that gives an element a place.
 fn push_place(out: &mut Vec<u8>, element: u64, other: u64) -> Result<(), AllocError>
-    ensures { OnOk result (out.new.items ≡ out.old.items ++ texts.order_text (orders.Place element other)) }
+    ensures { OnOk result
+        (out.new.items ≡ out.old.items ++ texts.order_text (orders.Place element other)) }
 {
     out.extend_from_slice(b"{\"name\":\"place\",\"id\":")?;
     push_id(out, element)?;
@@ -182,7 +190,8 @@ fn push_place(out: &mut Vec<u8>, element: u64, other: u64) -> Result<(), AllocEr
 
 /// Appends the text of a command that binds an end of an arrow.
 fn push_bind(out: &mut Vec<u8>, side: Side, element: u64, other: u64) -> Result<(), AllocError>
-    ensures { OnOk result (out.new.items ≡ out.old.items ++ texts.order_text (orders.Bind side element other)) }
+    ensures { OnOk result
+        (out.new.items ≡ out.old.items ++ texts.order_text (orders.Bind side element other)) }
 {
     out.extend_from_slice(b"{\"name\":\"bind\",\"arrow\":")?;
     push_id(out, element)?;
@@ -206,7 +215,8 @@ fn side_word(side: Side) -> &'static str
 
 /// Appends the text of a command that gives a text a container.
 fn push_label(out: &mut Vec<u8>, element: u64, other: u64) -> Result<(), AllocError>
-    ensures { OnOk result (out.new.items ≡ out.old.items ++ texts.order_text (orders.Label element other)) }
+    ensures { OnOk result
+        (out.new.items ≡ out.old.items ++ texts.order_text (orders.Label element other)) }
 {
     out.extend_from_slice(b"{\"name\":\"label\",\"container\":")?;
     push_id(out, element)?;
@@ -218,7 +228,8 @@ fn push_label(out: &mut Vec<u8>, element: u64, other: u64) -> Result<(), AllocEr
 
 /// Appends the text of a command that puts an element into a frame.
 fn push_frame(out: &mut Vec<u8>, element: u64, other: u64) -> Result<(), AllocError>
-    ensures { OnOk result (out.new.items ≡ out.old.items ++ texts.order_text (orders.Frame element other)) }
+    ensures { OnOk result
+        (out.new.items ≡ out.old.items ++ texts.order_text (orders.Frame element other)) }
 {
     out.extend_from_slice(b"{\"name\":\"frame\",\"ids\":[")?;
     push_id(out, element)?;
@@ -230,7 +241,8 @@ fn push_frame(out: &mut Vec<u8>, element: u64, other: u64) -> Result<(), AllocEr
 
 /// Appends the text of a command that groups two elements.
 fn push_group(out: &mut Vec<u8>, element: u64, other: u64) -> Result<(), AllocError>
-    ensures { OnOk result (out.new.items ≡ out.old.items ++ texts.order_text (orders.Group element other)) }
+    ensures { OnOk result
+        (out.new.items ≡ out.old.items ++ texts.order_text (orders.Group element other)) }
 {
     out.extend_from_slice(b"{\"name\":\"group\",\"ids\":[")?;
     push_id(out, element)?;
@@ -242,7 +254,8 @@ fn push_group(out: &mut Vec<u8>, element: u64, other: u64) -> Result<(), AllocEr
 
 /// Appends the text of a command that deletes an element.
 fn push_delete(out: &mut Vec<u8>, element: u64) -> Result<(), AllocError>
-    ensures { OnOk result (out.new.items ≡ out.old.items ++ texts.order_text (orders.Delete element)) }
+    ensures { OnOk result
+        (out.new.items ≡ out.old.items ++ texts.order_text (orders.Delete element)) }
 {
     out.extend_from_slice(b"{\"name\":\"delete\",\"ids\":[")?;
     push_id(out, element)?;

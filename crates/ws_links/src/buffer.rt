@@ -1,21 +1,37 @@
 //! Bytes that come in at one end and leave at the other.
 
-ghost use Rattle.std.specs.Prelude.{◌≤◌, vec_len};
+ghost use Rattle.std.specs.Prelude.{◌≡◌, ◌==◌, ◌++◌, [], length, drop, OnOk, OnErr};
 
 use std::alloc::{AllocError, Global};
+use std::marker::Model;
 use websocket::error::Error;
 use websocket::protocol::{FrameStatus, NoMask, Step, WebSocketContext};
+
+/// More room than this is given back where most of it isn't used.
+const ROOM: usize = 1 << 20;
 
 /// Bytes in the order in which they came, of which the first ones have left.
 #[derive(Drop)]
 pub(crate) struct Buffer {
     bytes: Vec<u8>,
     left: usize,
-    ghost within: { left ≤ vec_len bytes },
+}
+
+impl Model for Buffer {
+    ghost use Rattle.std.specs.Prelude.{◌≤◌, drop, vec_len, vec_capacity};
+    ghost use Rattle.ws_links.specs.Leaving.{Kept};
+
+    ghost Value = { Kept };
+
+    ghost view = { λ b. record { bytes = drop b.left b.bytes.items; room = vec_capacity b.bytes } };
+
+    ghost invariant = { λ b. b.left ≤ vec_len b.bytes };
 }
 
 impl Buffer {
-    pub(crate) fn new(alloc: Global) -> Buffer {
+    pub(crate) fn new(alloc: Global) -> Buffer
+        ensures { result.bytes ≡ [] }
+    {
         Buffer {
             bytes: Vec::new(alloc),
             left: 0,
@@ -23,11 +39,14 @@ impl Buffer {
     }
 
     /// The bytes that have not left.
-    pub(crate) fn as_slice(&self) -> &[u8] {
+    pub(crate) fn as_slice(&self) -> &[u8]
+        ensures { result.now ≡ self.now.bytes }
+    {
         &self.bytes[self.left..]
     }
 
-    /// The protocol reads the frame that comes first, and unmasks it in its place. What it answers is added to the reply.
+    /// The protocol reads the frame that comes first, and unmasks it in its place. What it answers
+    /// is added to the reply.
     pub(crate) fn read_frame(
         &mut self,
         protocol: &mut WebSocketContext,
@@ -36,28 +55,39 @@ impl Buffer {
         protocol.read(&mut self.bytes[self.left..], reply, &mut NoMask)
     }
 
-    pub(crate) fn is_empty(&self) -> bool {
+    pub(crate) fn is_empty(&self) -> bool
+        ensures { result ≡ (length self.now.bytes == 0) }
+    {
         self.left == self.bytes.len()
     }
 
     /// How many bytes of memory it holds.
-    pub(crate) fn held(&self) -> usize {
+    pub(crate) fn held(&self) -> usize
+        ensures { result ≡ self.now.room }
+    {
         self.bytes.capacity()
     }
 
     /// Room for so many bytes more.
-    pub(crate) fn reserve(&mut self, count: usize) -> Result<(), AllocError> {
+    pub(crate) fn reserve(&mut self, count: usize) -> Result<(), AllocError>
+        ensures { self.new.bytes ≡ self.old.bytes }
+    {
         self.bytes.reserve(count)
     }
 
     /// Adds the bytes at the end. For want of memory nothing is added.
-    pub(crate) fn extend(&mut self, bytes: &[u8]) -> Result<(), AllocError> {
+    pub(crate) fn extend(&mut self, bytes: &[u8]) -> Result<(), AllocError>
+        ensures ok { OnOk result (self.new.bytes ≡ self.old.bytes ++ bytes.now) }
+        ensures err { OnErr result (self.new.bytes ≡ self.old.bytes) }
+    {
         self.bytes.extend_from_slice(bytes)
     }
 
-    /// The first bytes leave. Their memory is given back once nothing is left, and their room used anew once they are more
-    /// than half.
-    pub(crate) fn leave(&mut self, count: usize) {
+    /// The first bytes leave. Their memory is given back once nothing is left, and their room used
+    /// anew or given back once they are more than half.
+    pub(crate) fn leave(&mut self, count: usize)
+        ensures { self.new.bytes ≡ drop count self.old.bytes }
+    {
         let alloc = *self.bytes.allocator();
         let left = self.left.saturating_add(count).min(self.bytes.len());
         if left == self.bytes.len() {
@@ -65,6 +95,9 @@ impl Buffer {
         } else if left > self.bytes.len() / 2 {
             self.left = 0;
             self.bytes.drain(..left);
+            if self.bytes.len() < self.bytes.capacity() / 4 && self.bytes.capacity() > ROOM {
+                self.bytes.shrink_to(ROOM);
+            }
         } else {
             self.left = left;
         }

@@ -15,8 +15,8 @@ const EVENTS: usize = 256;
 /// What names the listener.
 const LISTENER: usize = 0;
 
-/// Errors of an accept that pass: no file descriptor and no memory of the system, no right, and what happened to a
-/// connection before it was let in.
+/// Errors of an accept that pass: no file descriptor and no memory of the system, no right, and
+/// what happened to a connection before it was let in.
 const PASSING: [i32; 16] = [
     23, 24, 12, 105, 1, 71, 92, 95, 100, 101, 103, 104, 110, 112, 113, 64,
 ];

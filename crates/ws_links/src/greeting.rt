@@ -6,6 +6,7 @@ use crate::signal::{Signal, may_go_on};
 use mio::net::TcpStream;
 use std::alloc::{AllocError, Global};
 use std::io::{ErrorKind, Read, Write};
+use std::net::Shutdown;
 use std::time::Instant;
 
 /// How many seconds a handshake may take.
@@ -26,6 +27,8 @@ pub(crate) struct Greeting {
     heard: Option<Instant>,
     reads: bool,
     ends: bool,
+    // It was refused, and its peer may not know.
+    lingers: bool,
     is_over: bool,
 }
 
@@ -56,6 +59,7 @@ impl Greeting {
             heard: now,
             reads: true,
             ends: false,
+            lingers: false,
             is_over: false,
         }
     }
@@ -81,20 +85,28 @@ impl Greeting {
         seconds_between(self.since, now) >= PATIENCE
     }
 
-    /// When a byte came last.
-    pub(crate) fn heard(&self) -> Option<Instant> {
-        self.heard
+    /// When a byte came last, and never where it was refused: who is the first here gives way
+    /// first.
+    pub(crate) fn rank(&self) -> Option<Instant> {
+        if self.lingers { None } else { self.heard }
     }
 
     /// It gives way to another.
     pub(crate) fn give_way(&mut self) {
-        self.refuse(UNAVAILABLE);
+        if !self.lingers {
+            self.refuse(UNAVAILABLE);
+        }
+        self.is_over = true;
     }
 
+    /// Answers so, and listens for a while, so that the peer gets the answer: a socket that is
+    /// closed with bytes that weren't read takes it back.
     fn refuse(&mut self, reply: &[u8]) {
         let mut socket = &self.socket;
         let _ = socket.write(reply);
-        self.is_over = true;
+        let _ = self.socket.shutdown(Shutdown::Write);
+        self.head = Vec::new(self.alloc);
+        self.lingers = true;
     }
 
     /// Reads once, and tells whether the handshake is whole by then: how many bytes it has.
@@ -122,10 +134,13 @@ impl Greeting {
     /// Reads once, and tells whether anything came.
     fn read(&mut self, now: Option<Instant>) -> Result<bool, AllocError> {
         let mut piece = [0; PIECE];
-        self.head.reserve(PIECE)?;
+        if !self.lingers {
+            self.head.reserve(PIECE)?;
+        }
         let mut socket = &self.socket;
         match socket.read(&mut piece) {
             Ok(0) => self.is_over = true,
+            Ok(_) if self.lingers => {}
             Ok(count) => {
                 self.head.extend_from_slice(&piece[..count])?;
                 self.heard = now;
@@ -150,6 +165,7 @@ impl Greeting {
             heard: _,
             reads: _,
             ends,
+            lingers: _,
             is_over: _,
         } = self;
         let mut rest = head;

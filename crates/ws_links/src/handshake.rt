@@ -67,6 +67,9 @@ fn judge(
         }
         Err(_) => return Ok(Answer::Refuse(BAD_REQUEST)),
     };
+    if !stand_once(head, found.headers, spans) {
+        return Ok(Answer::Refuse(BAD_REQUEST));
+    }
     if has_stranger(head, found.headers, spans) {
         return Ok(Answer::Refuse(FORBIDDEN));
     }
@@ -77,8 +80,26 @@ fn judge(
     }
 }
 
-/// Whether any of the first so many headers names a page of another host as the origin. Programs name none. A page of
-/// another host is refused, so that it doesn't read a board through its visitor's browser.
+/// Whether each of these stands once among the first so many headers: RFC 6455, sections 4.2.1 and
+/// 11.3.
+fn stand_once(head: &[u8], count: usize, spans: &[HeaderSpan]) -> bool {
+    let names: [&[u8]; 3] = [b"host", b"sec-websocket-key", b"sec-websocket-version"];
+    for name in names.iter() {
+        let standing = spans
+            .iter()
+            .take(count)
+            .filter(|span| text_at(head, span.name).eq_ignore_ascii_case(*name))
+            .count();
+        if standing != 1 {
+            return false;
+        }
+    }
+    true
+}
+
+/// Whether any of the first so many headers names a page of another host as the origin. Programs
+/// name none. A page of another host is refused, so that it doesn't read a board through its
+/// visitor's browser.
 fn has_stranger(head: &[u8], count: usize, spans: &[HeaderSpan]) -> bool {
     for span in spans.iter().take(count) {
         if text_at(head, span.name).eq_ignore_ascii_case(b"origin")
@@ -95,7 +116,8 @@ fn text_at(head: &[u8], span: Span) -> &[u8] {
     head.get(span.start..span.end).unwrap_or(&[])
 }
 
-/// Whether an origin is of this machine: any scheme and port of `localhost`, `127.0.0.1` or `[::1]`.
+/// Whether an origin is of this machine: any scheme and port of `localhost`, `127.0.0.1` or
+/// `[::1]`.
 fn is_local(origin: &[u8]) -> bool {
     let Ok(origin) = str::from_utf8(origin) else {
         return false;

@@ -1,5 +1,9 @@
 //! One link, whose handshake is whole.
 
+ghost use Rattle.std.specs.Prelude.{◌≡◌};
+ghost use Rattle.ws_links.specs.Held.{held_by};
+ghost use Rattle.ws_links.specs.Sums.{held_with};
+
 use crate::buffer::Buffer;
 use crate::frames::config;
 use crate::greeting::Greeted;
@@ -38,8 +42,11 @@ const ANSWER: u64 = 15;
 /// How many pings in a row may stay without an answer.
 const PINGS: u64 = 2;
 
-/// How many seconds a link that was broken off is listened to, so that its peer gets the reason.
+/// How many seconds a link that was told to close is listened to, so that its peer is told.
 const FAREWELL: u64 = 5;
+
+/// How many pieces that came are thrown away where the room ends.
+const LAST: usize = 64;
 
 /// A link: its socket, the protocol, what came and what is to leave.
 #[derive(Drop)]
@@ -61,11 +68,13 @@ pub(crate) struct Link {
     heard: Option<Instant>,
     // How many pings were sent since.
     pings: u64,
+    // The peer took bytes after it had taken none, which it can't do dead.
+    took: bool,
     reads: bool,
     // The peer sends no more.
     ends: bool,
     is_ended: bool,
-    // It was broken off for a breach, and its peer may not know.
+    // It was told to close, and its peer may not know.
     lingers: bool,
 }
 
@@ -97,6 +106,7 @@ impl Link {
             outbox: Outbox::new(alloc),
             heard: now,
             pings: 0,
+            took: false,
             reads: true,
             ends,
             is_ended: false,
@@ -109,13 +119,19 @@ impl Link {
         self.reads = self.reads || signal.reads;
         self.ends = self.ends || signal.ends;
         if signal.writes {
+            self.took = self.took || self.outbox.is_blocked();
             self.outbox.wake();
         }
     }
 
     /// Whether a turn may bring something.
     pub(crate) fn wants_turn(&self) -> bool {
-        self.is_ended || self.has_more || self.may_read() || self.outbox.wants_turn()
+        self.is_ended || self.has_more || self.may_read()
+    }
+
+    /// Whether something may be written.
+    pub(crate) fn wants_flush(&self) -> bool {
+        self.outbox.wants_turn()
     }
 
     /// Whether more may have come.
@@ -128,13 +144,17 @@ impl Link {
         self.reads && !self.has_more && !self.is_full()
     }
 
-    /// How many bytes of memory it holds, what came and what is to leave.
-    pub(crate) fn held(&self) -> usize {
-        self.input
-            .held()
-            .saturating_add(self.fragments)
-            .saturating_add(self.fragments)
-            .saturating_add(self.outbox.held())
+    /// How many bytes of memory it holds, what came and what is to leave, each frame as if it stood
+    /// here alone.
+    pub(crate) fn held(&self) -> usize
+        ensures { result ≡ held_by self.now }
+    {
+        held_with(self.input.held(), self.fragments, self.outbox.held())
+    }
+
+    /// How many bytes of memory it holds besides the frames, which it shares with other links.
+    pub(crate) fn own(&self) -> usize {
+        held_with(self.input.held(), self.fragments, self.outbox.own())
     }
 
     /// Whether it keeps too much that its peer doesn't take.
@@ -152,7 +172,7 @@ impl Link {
         self.outbox = Outbox::new(self.alloc);
     }
 
-    /// Writes what is kept, and gives the next text or binary message, if one is whole. `Fault` where the link ended.
+    /// Gives the next text or binary message, if one is whole. `Fault` where the link ended.
     pub(crate) fn take_turn(
         &mut self,
         now: Option<Instant>,
@@ -161,7 +181,6 @@ impl Link {
         if self.is_ended {
             return Err(Stop::Fault(Failed));
         }
-        self.outbox.flush(&self.socket)?;
         if let Some(text) = self.next_text()? {
             return Ok(Some(text));
         }
@@ -171,8 +190,23 @@ impl Link {
         Ok(None)
     }
 
-    /// Reads once into the input, and tells whether anything came. Room is made before the bytes are taken from the socket,
-    /// so that none is lost for want of memory.
+    /// Writes what is kept, small frames put together in this piece. Where the peer takes nothing
+    /// any more, what it sent before is read to its end.
+    pub(crate) fn flush(&mut self, now: Option<Instant>, piece: &mut [u8]) {
+        if self.took {
+            self.took = false;
+            self.heard = now;
+            self.pings = 0;
+        }
+        self.outbox.flush(self.alloc, &self.socket, piece);
+        if self.outbox.is_broken() {
+            self.reads = true;
+            self.ends = true;
+        }
+    }
+
+    /// Reads once into the input, and tells whether anything came. Room is made before the bytes
+    /// are taken from the socket, so that none is lost for want of memory.
     fn read(&mut self, now: Option<Instant>, piece: &mut [u8]) -> Result<bool, Stop<Failed>> {
         self.input.reserve(piece.len())?;
         let mut socket = &self.socket;
@@ -186,7 +220,7 @@ impl Link {
                 self.has_more = true;
                 Ok(true)
             }
-            Err(error) if may_go_on(error.kind()) => {
+            Err(error) if may_go_on(error.kind()) && !self.outbox.is_broken() => {
                 self.reads = error.kind() == ErrorKind::Interrupted;
                 self.input.leave(0);
                 Ok(false)
@@ -245,7 +279,7 @@ impl Link {
                 return Ok(());
             }
             Some(Received::Close(_)) => {
-                let _ = self.outbox.flush(&self.socket);
+                self.part();
                 return Err(Stop::Fault(Failed));
             }
             Some(Received::Ping(_) | Received::Pong(_)) => {}
@@ -265,10 +299,17 @@ impl Link {
             Error::ConnectionClosed | Error::AlreadyClosed => return Stop::Fault(Failed),
         };
         self.say_goodbye(code);
+        self.part();
+        Stop::Fault(Failed)
+    }
+
+    /// Ends, and listens for a while, so that the peer gets what it was told last: a socket that is
+    /// closed with bytes that weren't read takes it back.
+    fn part(&mut self) {
+        self.flush(self.heard, &mut []);
         self.end();
         let _ = self.socket.shutdown(Shutdown::Write);
         self.lingers = true;
-        Stop::Fault(Failed)
     }
 
     /// Sends a close, as far as the socket takes it at once.
@@ -276,26 +317,42 @@ impl Link {
         if self.is_ended {
             return;
         }
+        self.flush(self.heard, &mut []);
         let mut close = Vec::new(self.alloc);
         let frame = CloseFrame { code, reason: "" };
         let _ = self.protocol.close(Some(frame), &mut close, &mut NoMask);
         let _ = self.outbox.reply(&close);
-        let _ = self.outbox.flush(&self.socket);
+        self.flush(self.heard, &mut []);
     }
 
-    /// Whether its peer may not have got the reason why it was broken off.
+    /// Ends as the room does: what has come is thrown away, so that the peer gets the close.
+    pub(crate) fn hang_up(&mut self, now: Option<Instant>, piece: &mut [u8]) {
+        self.part();
+        self.reads = true;
+        for _ in 0..LAST {
+            if self.reads && self.lingers {
+                self.drain(now, piece);
+            }
+        }
+    }
+
+    /// Whether its peer may not have got what it was told last.
     pub(crate) fn lingers(&self) -> bool {
         self.lingers
     }
 
-    /// What a link that was broken off still gets is thrown away.
+    /// What a link that was told to close still gets is thrown away.
     pub(crate) fn drain(&mut self, now: Option<Instant>, piece: &mut [u8]) {
-        let mut socket = &self.socket;
-        match socket.read(piece) {
-            Ok(0) => self.lingers = false,
-            Ok(_) => {}
-            Err(error) if may_go_on(error.kind()) => self.reads = false,
-            Err(_) => self.lingers = false,
+        if self.reads {
+            let mut socket = &self.socket;
+            match socket.read(piece) {
+                Ok(0) => self.lingers = false,
+                Ok(_) => {}
+                Err(error) if may_go_on(error.kind()) => {
+                    self.reads = error.kind() == ErrorKind::Interrupted;
+                }
+                Err(_) => self.lingers = false,
+            }
         }
         if seconds_between(self.heard, now) >= FAREWELL {
             self.lingers = false;
@@ -326,15 +383,30 @@ impl Link {
         }
     }
 
-    /// Keeps the frame, and writes as much as the socket takes. For want of memory nothing is kept of it. `Fault` where the
-    /// link ended.
+    /// Keeps the frame until what is kept is written, which is at once where that is much. For want
+    /// of memory nothing is kept of it. `Fault` where the link ended.
     pub(crate) fn send(&mut self, frame: Rc<Vec<u8>>) -> Result<(), Stop<Failed>> {
         if self.is_ended || self.is_full() || !self.protocol.can_write() {
             return Err(Stop::Fault(Failed));
         }
-        self.outbox.add(frame)?;
-        self.outbox.flush(&self.socket)
+        if !self.outbox.is_broken() {
+            self.outbox.add(frame)?;
+            if self.outbox.held() > PIECE {
+                self.flush(self.heard, &mut []);
+            }
+        }
+        Ok(())
     }
+}
+
+/// How many bytes are held: input, fragments whose room may double, and what is to leave.
+fn held_with(input: usize, fragments: usize, outbox: usize) -> usize
+    ensures { result ≡ held_with input fragments outbox }
+{
+    input
+        .saturating_add(fragments)
+        .saturating_add(fragments)
+        .saturating_add(outbox)
 }
 
 /// The bytes of a text that was read from this input.

@@ -1,9 +1,11 @@
 //! The links of a room.
 
-use crate::frames::Frames;
+ghost use Rattle.std.specs.Prelude.{IfSome};
+ghost use Rattle.ws_links.specs.Held.{HoldsMost};
+
+use crate::frames::{Frames, PLACE};
 use crate::greeting::Greeted;
 use crate::link::{Link, PIECE};
-use crate::outbox::PLACE;
 use crate::signal::Signal;
 use board_base::{Bytes, Stop};
 use board_ends::{Failed, LinkEvent};
@@ -14,8 +16,8 @@ use websocket::protocol::CloseCode;
 /// How many bytes of memory all links hold at most, what came and what is to leave.
 const HELD: usize = 1 << 30;
 
-/// How many bytes of memory one turn of a link takes at most: the room for what came, and for a message of fragments, may
-/// double.
+/// How many bytes of memory one turn of a link takes at most: the room for what came, and for a
+/// message of fragments, may double.
 const GROWTH: usize = 256 << 20;
 
 /// How many links that were broken off are listened to.
@@ -34,8 +36,8 @@ pub(crate) struct Members {
     opened: u64,
     // The index of the link that is looked at first.
     turn: usize,
-    // How many bytes of memory all links hold at most.
-    held: usize,
+    // How many bytes of memory all links hold at most, besides the frames.
+    own: usize,
     frames: Frames,
 }
 
@@ -48,7 +50,7 @@ impl Members {
             leavers: Vec::new(alloc),
             opened: 0,
             turn: 0,
-            held: 0,
+            own: 0,
             frames: Frames::new(alloc),
         })
     }
@@ -85,18 +87,29 @@ impl Members {
 
     /// Whether a turn of a link may bring something.
     pub(crate) fn want_turn(&self) -> bool {
-        self.links.iter().any(|link| link.wants_turn())
+        self.links
+            .iter()
+            .any(|link| link.wants_turn() || link.wants_flush())
             || self.leavers.iter().any(|link| link.reads())
     }
 
-    /// Writes what is kept for each link, and reads once from each that is ready, until one has an event: beginning with the
-    /// link after the one served last.
+    /// Writes what is kept for each link.
+    pub(crate) fn flush(&mut self, now: Option<Instant>) {
+        for link in &mut self.links {
+            if link.wants_flush() {
+                link.flush(now, &mut self.piece);
+            }
+        }
+    }
+
+    /// Reads once from each link that is ready, until one has an event: beginning with the link
+    /// after the one served last.
     pub(crate) fn serve(
         &mut self,
         now: Option<Instant>,
     ) -> Result<Option<LinkEvent>, Stop<Failed>> {
         self.drain(now);
-        self.held = self.links_hold();
+        self.own = self.links_own();
         for _ in 0..self.links.len() {
             self.relieve(GROWTH);
             if self.turn >= self.links.len() {
@@ -111,7 +124,7 @@ impl Members {
             }
             let outcome = link.take_turn(now, &mut self.piece);
             let number = link.number;
-            self.held = self.held.saturating_add(link.held());
+            self.own = self.own.saturating_add(link.own());
             match outcome {
                 Ok(None) => {}
                 Ok(Some(text)) => return Ok(Some(LinkEvent::Text(number, text))),
@@ -125,12 +138,12 @@ impl Members {
         Ok(None)
     }
 
-    /// Sends a text over a link. `Fault` where the link is gone, or keeps too much; it is closed then.
+    /// Sends a text over a link. `Fault` where the link is gone, or keeps too much; it is closed
+    /// then.
     pub(crate) fn send(&mut self, number: u64, text: &Bytes) -> Result<(), Stop<Failed>> {
+        self.relieve(text.as_slice().len().saturating_add(GROWTH));
         let frame = self.frames.frame_of(text.as_slice())?;
-        let more = frame.len().saturating_add(PLACE);
-        self.relieve(more);
-        self.held = self.held.saturating_add(more);
+        self.own = self.own.saturating_add(PLACE);
         let Ok(at) = self.links.binary_search_by_key(&number, |link| link.number) else {
             return Err(Stop::Fault(Failed));
         };
@@ -166,6 +179,7 @@ impl Members {
         for link in &mut self.links {
             link.tend(now);
         }
+        self.frames.sweep();
         self.drain(now);
     }
 
@@ -180,32 +194,58 @@ impl Members {
     /// Ends the links that hold most, until so many bytes more may be held.
     fn relieve(&mut self, more: usize) {
         for _ in 0..self.links.len() {
-            if self.held.saturating_add(more) <= HELD {
+            if self.has_room(more) {
                 return;
             }
-            self.held = self.links_hold();
-            if self.held.saturating_add(more) <= HELD {
+            self.frames.sweep();
+            self.own = self.links_own();
+            if self.has_room(more) {
                 return;
             }
-            if let Some(link) = self.links.iter_mut().max_by_key(|link| link.held()) {
+            if let Some(most) = index_of_most(&self.links)
+                && let Some(link) = self.links.get_mut(most)
+            {
                 link.end();
             }
         }
-        self.held = self.links_hold();
+        self.frames.sweep();
+        self.own = self.links_own();
     }
 
-    fn links_hold(&self) -> usize {
-        let mut held: usize = 0;
+    /// Whether so many bytes more may be held.
+    fn has_room(&self, more: usize) -> bool {
+        let held = self.own.saturating_add(self.frames.held());
+        held.saturating_add(more) <= HELD
+    }
+
+    fn links_own(&self) -> usize {
+        let mut own: usize = 0;
         for link in &self.links {
-            held = held.saturating_add(link.held());
+            own = own.saturating_add(link.own());
         }
-        held
+        own
     }
 
     /// Tells all links that the room ends.
-    pub(crate) fn say_goodbye(&mut self) {
+    pub(crate) fn say_goodbye(&mut self, now: Option<Instant>) {
         for link in &mut self.links {
             link.say_goodbye(CloseCode::Away);
         }
+        for link in &mut self.links {
+            link.hang_up(now, &mut self.piece);
+        }
     }
+}
+
+/// The index of the link that holds most.
+fn index_of_most(links: &[Link]) -> Option<usize>
+    ensures { IfSome result (HoldsMost links.now) }
+{
+    let mut most = 0;
+    for at in 0..links.len() {
+        if links[at].held() > links[most].held() {
+            most = at;
+        }
+    }
+    if links.is_empty() { None } else { Some(most) }
 }

@@ -14,8 +14,16 @@ use std::time::{Clock, Duration, Instant};
 /// How many milliseconds are waited at most where nothing is ready.
 const WAIT: u64 = 100;
 
-/// How many times in one call what is ready is looked through.
-const ROUNDS: usize = 64;
+/// How many times in one call what is ready is looked through: more than go into a millisecond,
+/// after which it is Idle.
+const ROUNDS: usize = 4096;
+
+/// How many events are given before what is kept is written, and the system is asked what else is
+/// ready.
+const EVENTS: usize = 64;
+
+/// A text of so many bytes counts as two events, one of twice as many as three.
+const LONG: usize = 4096;
 
 /// How many seconds pass between two looks at who is silent.
 const LOOK: u64 = 1;
@@ -33,6 +41,8 @@ pub(crate) struct Server<R> {
     // Whether the last event was of a link.
     was_link: bool,
     quiet: Quiet,
+    // How many events were given since the system was asked, long texts as several.
+    given: usize,
     now: Option<Instant>,
     // When it was looked last at who is silent.
     looked: Option<Instant>,
@@ -49,6 +59,7 @@ impl<R: Net + Clock + Drop> Server<R> {
             token: 0,
             was_link: false,
             quiet: Quiet::new(),
+            given: EVENTS,
             now: None,
             looked: None,
         })
@@ -65,31 +76,46 @@ impl<R: Net + Clock + Drop> Server<R> {
         }
     }
 
-    /// The next event. Where nothing is ready it waits a while, and is Idle for each millisecond in which nothing came.
+    /// The next event. Where nothing is ready it waits a while, and is Idle for each millisecond in
+    /// which nothing came.
     pub(crate) fn next(&mut self) -> Result<LinkEvent, Stop<Failed>> {
         if self.quiet.tell() {
             return Ok(LinkEvent::Idle);
         }
-        self.wait(0)?;
+        if self.given >= EVENTS {
+            self.wait(false)?;
+        }
         for _ in 0..ROUNDS {
             if let Some(event) = self.look()? {
+                self.given = self.given.saturating_add(weight_of(&event));
                 self.quiet = Quiet::new();
                 return Ok(event);
             }
             if self.quiet.tell() {
                 return Ok(LinkEvent::Idle);
             }
-            let pause = if self.wants_turn() { 0 } else { WAIT };
-            self.wait(pause)?;
+            self.wait(true)?;
         }
         Ok(LinkEvent::Idle)
     }
 
-    /// Waits until a socket is ready, so many milliseconds at most.
-    fn wait(&mut self, pause: u64) -> Result<(), Stop<Failed>> {
+    /// Writes what is kept, and asks the system which sockets are ready. Where none is it may rest
+    /// until one is.
+    fn wait(&mut self, may_rest: bool) -> Result<(), Stop<Failed>> {
+        self.members.flush(self.now);
+        let pause = if may_rest && !self.wants_turn() {
+            WAIT
+        } else {
+            0
+        };
         let Some(door) = &mut self.door else {
             return Ok(());
         };
+        self.given = 0;
+        if pause > 0 {
+            self.now = Instant::now(&self.handle).ok();
+            self.quiet.measure(self.now);
+        }
         door.wait(Duration::from_millis(pause))?;
         for event in door.events() {
             let (token, signal) = (event.token().0, Signal::of(event));
@@ -173,9 +199,18 @@ impl<R: Net + Clock + Drop> Server<R> {
         self.members.tend(self.now);
     }
 
-    /// Sends a text over a link. `Fault` where the link is gone, or keeps too much; it is closed then.
+    /// Sends a text over a link. `Fault` where the link is gone, or keeps too much; it is closed
+    /// then.
     pub(crate) fn send(&mut self, number: u64, text: &Bytes) -> Result<(), Stop<Failed>> {
         self.members.send(number, text)
+    }
+}
+
+/// How many events one counts as.
+fn weight_of(event: &LinkEvent) -> usize {
+    match event {
+        LinkEvent::Text(_, text) => (text.as_slice().len() / LONG).saturating_add(1),
+        LinkEvent::Opened(_) | LinkEvent::Closed(_) | LinkEvent::Idle => 1,
     }
 }
 
@@ -191,9 +226,10 @@ impl<R: Drop> Drop for Server<R> {
             token: _,
             was_link: _,
             quiet: _,
-            now: _,
+            given: _,
+            now,
             looked: _,
         } = self;
-        members.say_goodbye();
+        members.say_goodbye(now);
     }
 }

@@ -27,13 +27,14 @@ impl Waiting {
         }
     }
 
-    /// Room for one more. Where too many wait, the one that has been silent for the longest time gives way.
+    /// Room for one more. Where too many wait, the one that has been silent for the longest time
+    /// gives way.
     pub(crate) fn make_room(&mut self) -> Result<(), AllocError> {
         if self.greetings.len() >= WAITING
             && let Some(silent) = self
                 .greetings
                 .iter_mut()
-                .min_by_key(|greeting| greeting.heard())
+                .min_by_key(|greeting| greeting.rank())
         {
             silent.give_way();
             self.drop_done(None);

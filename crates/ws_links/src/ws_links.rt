@@ -12,10 +12,11 @@ use std::time::Clock;
 
 /// Links over WebSockets on 127.0.0.1. They tell no content.
 ///
-/// A text or a binary message is a text of its link. Nothing waits for a peer: what a socket doesn't take is kept, and
-/// written first at later calls. Where nothing is ready `next` waits for it, a tenth of a second at most, and is Idle once for
-/// each millisecond in which nothing came. A link that keeps more than 128 MiB unsent is gone; all hold 1 GiB at most, and
-/// where it would be more the one that holds most ends.
+/// A text or a binary message is a text of its link. Nothing waits for a peer: what a socket
+/// doesn't take is kept, and written first at later calls. Where nothing is ready `next` waits for
+/// it, a tenth of a second at most, and is Idle once for each millisecond in which nothing came. A
+/// link that keeps more than 128 MiB unsent is gone; all hold 1 GiB at most, and where it would be
+/// more the one that holds most ends.
 #[derive(Drop)]
 pub struct WsLinks<R> {
     port: Option<u16>,
@@ -36,7 +37,8 @@ impl<R> Model for WsLinks<R> {
 impl<R: Net + Clock + Drop> WsLinks<R> {
     /// Links without a socket. The handle is what opens sockets, and tells and takes time.
     pub fn new(alloc: Global, handle: R) -> Result<WsLinks<R>, AllocError>
-        ensures { IfOk result (λ links. links ≡ record { port = None; listens = 0; faults = 0; gone = 0 }) }
+        ensures { IfOk result
+            (λ links. links ≡ record { port = None; listens = 0; faults = 0; gone = 0 }) }
     {
         Ok(WsLinks {
             port: None,

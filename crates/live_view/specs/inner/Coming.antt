@@ -13,9 +13,11 @@ use Rattle.live_view.specs.Reached.{is_among, AreStartedBy, HaveReached}
 use Rattle.live_view.specs.Replacing.{element_after}
 
 -- The element of an id is gone, and all others are as they were.
-pub record HasGone (live : List ElementValue) (id : List ℕ) (after : List ElementValue) : Type 0 where
+pub record HasGone (live : List ElementValue) (id : List ℕ)
+    (after : List ElementValue) : Type 0 where
   pub ordered : are_rising (ids_of after) ≡ true
-  pub each : (other : List ℕ) → element_of after other ≡ (if bytes_eq other id then None else element_of live other)
+  pub each : (other : List ℕ)
+      → element_of after other ≡ (if bytes_eq other id then None else element_of live other)
 
 -- the shown elements as they are stored
 abbrev pub all_stored : List ElementValue → List ElementValue → List ElementValue
@@ -24,16 +26,20 @@ all_stored live drawn = map (as_stored live) drawn
 -- An element comes behind what stands before a place of elements in scene order, and before what stands there.
 pub record IsPlaceFor (elements : List ElementValue) (e : ElementValue) (place : ℕ) : Type 0 where
   pub within : place ≤ length elements
-  pub before : (i : ℕ) (d : ElementValue) → i + 1 ≡ place → comes_before (slice_index_or elements i d) e ≡ true
-  pub behind : (d : ElementValue) → place < length elements → comes_before e (slice_index_or elements place d) ≡ true
+  pub before : (i : ℕ) (d : ElementValue) → i + 1 ≡ place
+      → comes_before (slice_index_or elements i d) e ≡ true
+  pub behind : (d : ElementValue) → place < length elements
+      → comes_before e (slice_index_or elements place d) ≡ true
 
 -- These are the ids but for one, each once.
 pub record AreOthers (id : List ℕ) (ids others : List (List ℕ)) : Type 0 where
   pub apart : IsDistinct bytes_eq others
-  pub each : (other : List ℕ) → is_among others other ≡ (not (bytes_eq other id) && is_among ids other)
+  pub each : (other : List ℕ)
+      → is_among others other ≡ (not (bytes_eq other id) && is_among ids other)
 
 -- What is near an element, and what is near that.
-pub record AreAround (live : List ElementValue) (e : ElementValue) (near wide : List (List ℕ)) : Type 0 where
+pub record AreAround (live : List ElementValue) (e : ElementValue)
+    (near wide : List (List ℕ)) : Type 0 where
   pub start : List (List ℕ)
   pub started : AreStartedBy start (e ∷ [])
   pub reached : HaveReached live start near
@@ -41,11 +47,13 @@ pub record AreAround (live : List ElementValue) (e : ElementValue) (near wide : 
   pub distinct : IsDistinct bytes_eq wide
 
 -- Those of the elements that are near, but for one, are put where they are shown, with the keys that they are shown with.
-pub record ArePutBeside (drawn part : List ElementValue) (near : List (List ℕ)) (id : List ℕ) (puts : List Put) : Type 0 where
+pub record ArePutBeside (drawn part : List ElementValue) (near : List (List ℕ)) (id : List ℕ)
+    (puts : List Put) : Type 0 where
   pub others : List (List ℕ)
   pub are : AreOthers id near others
   pub placed : All (IsInPlace drawn) puts
-  pub drawn_others : map without_index (puts_of puts) ≡ map without_index (filter (λ (e : ElementValue). is_among others e.id) part)
+  pub drawn_others : map without_index (puts_of puts) ≡ map without_index
+      (filter (λ (e : ElementValue). is_among others e.id) part)
 
 -- the elements of some ids, in scene order and settled, with a new one among them
 abbrev pub part_with : List ElementValue → ElementValue → List (List ℕ) → List ElementValue
@@ -55,7 +63,8 @@ abbrev pub part_of_ids : List ElementValue → List (List ℕ) → List ElementV
 part_of_ids live ids = settled (in_scene_order (filter_map (element_after live []) ids))
 
 -- What is shown anew where an element comes: itself, and what is near it.
-pub record IsComing (live drawn : List ElementValue) (e own : ElementValue) (puts : List Put) : Type 0 where
+pub record IsComing (live drawn : List ElementValue) (e own : ElementValue)
+    (puts : List Put) : Type 0 where
   pub near : List (List ℕ)
   pub wide : List (List ℕ)
   pub around : AreAround live e near wide
@@ -63,7 +72,8 @@ pub record IsComing (live drawn : List ElementValue) (e own : ElementValue) (put
   pub beside : ArePutBeside drawn (part_with live e wide) near e.id puts
 
 -- What is shown anew where an element goes: what is near it.
-pub record IsGoing (live drawn : List ElementValue) (e : ElementValue) (puts : List Put) : Type 0 where
+pub record IsGoing (live drawn : List ElementValue) (e : ElementValue)
+    (puts : List Put) : Type 0 where
   pub near : List (List ℕ)
   pub wide : List (List ℕ)
   pub around : AreAround live e near wide

@@ -9,9 +9,11 @@ use Rattle.live_view.specs.Reached.{is_among}
 use Rattle.live_view.specs.Replacing.{element_after}
 
 -- These are the stored elements of the ids, in the order of their ids; each of these is stored.
-pub record ArePicked (stored : List ElementValue) (ids : List (List ℕ)) (news : List ElementValue) : Type 0 where
+pub record ArePicked (stored : List ElementValue) (ids : List (List ℕ))
+    (news : List ElementValue) : Type 0 where
   pub ordered : are_rising (ids_of news) ≡ true
-  pub each : (id : List ℕ) → element_of news id ≡ (if is_among ids id then element_of stored id else None)
+  pub each : (id : List ℕ)
+      → element_of news id ≡ (if is_among ids id then element_of stored id else None)
   pub there : (id : List ℕ) → is_among ids id ≡ true → is_some (element_of stored id) ≡ true
 
 -- These, in the order of their ids, are in place of the stored ones what is stored after changed elements were taken.
@@ -27,4 +29,5 @@ followed (Some new) old = if is_live new then Some new else None
 -- The live elements of new ones' ids are these, if they are live, and all others are as they were.
 pub record HaveFollowed (live news after : List ElementValue) : Type 0 where
   pub ordered : are_rising (ids_of after) ≡ true
-  pub each : (id : List ℕ) → element_of after id ≡ followed (element_of news id) (element_of live id)
+  pub each : (id : List ℕ)
+      → element_of after id ≡ followed (element_of news id) (element_of live id)

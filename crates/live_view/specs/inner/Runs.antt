@@ -44,13 +44,15 @@ abbrev pub part_of : List (Option (List ℕ)) → ℕ → ℕ → List (Option (
 part_of keys start end' = drop start (take end' keys)
 
 -- These are the keys of a part, which may be cut off where others of the list stand behind it, repaired apart.
-pub record AreRepaired (keys part : List (Option (List ℕ))) (end' : ℕ) (new : List (List ℕ)) : Type 0 where
+pub record AreRepaired (keys part : List (Option (List ℕ))) (end' : ℕ)
+    (new : List (List ℕ)) : Type 0 where
   pub cut : is_cut part (drop end' keys) ≡ true
   pub exact : new ≡ repaired_below (first_of (drop end' keys)) part
   pub are_keys : list_all is_key_or_none part ≡ true
 
 -- the key of one more element comes among those of others, which are repaired from one place on
-pub record AreKeysWith (keys : List (Option (List ℕ))) (key : Option (List ℕ)) (place start : ℕ) (new : List (List ℕ)) : Type 0 where
+pub record AreKeysWith (keys : List (Option (List ℕ))) (key : Option (List ℕ)) (place start : ℕ)
+    (new : List (List ℕ)) : Type 0 where
   pub begins : IsRunStart keys place start
   pub end' : ℕ
   pub behind : place ≤ end'
@@ -58,13 +60,15 @@ pub record AreKeysWith (keys : List (Option (List ℕ))) (key : Option (List ℕ
   pub repaired : AreRepaired keys (insert (part_of keys start end') (place - start) key) end' new
 
 -- the key of a place is gone, and those of others are repaired from one place on
-pub record AreKeysWithout (keys : List (Option (List ℕ))) (place start : ℕ) (new : List (List ℕ)) : Type 0 where
+pub record AreKeysWithout (keys : List (Option (List ℕ))) (place start : ℕ)
+    (new : List (List ℕ)) : Type 0 where
   pub begins : IsRunStart keys place start
   pub end' : ℕ
   pub behind : place < end'
   pub within : end' ≤ length keys
   pub cut : is_cut (part_of keys start end') (drop end' keys) ≡ true
-  pub exact : new ≡ repaired_below (first_of (drop end' keys)) (remove (part_of keys start end') (place - start))
+  pub exact : new ≡ repaired_below (first_of (drop end' keys))
+      (remove (part_of keys start end') (place - start))
 
 -- the stored keys of shown elements
 abbrev pub stored_keys : List ElementValue → List ElementValue → List (Option (List ℕ))

@@ -7,7 +7,9 @@ use Rattle.commands.proofs.running.serve_run.Goals as goal
 
 pub returns-in-Ok-clause-served : goal.returns-in-Ok-clause-served
 returns-in-Ok-clause-served g c =
-    subst (EndsServing c.args.service _ _) (sym c.noted_end.ensures.status) (ends-served c.args.service _ _ c.in-Ok.end c.in-Ok.ensures.served c.noted_end.ensures.noted)
+    let notes = span (g.N.Sink.seen c.args.notes.now) (g.N.Sink.seen c.noted_end.new.notes) in
+    subst (EndsServing c.args.service _ notes) (sym c.noted_end.ensures.status)
+    (ends-served c.args.service _ notes c.in-Ok.end c.in-Ok.ensures.served c.noted_end.ensures.noted)
 
 pub returns-in-Ok-clause-complete : goal.returns-in-Ok-clause-complete
 returns-in-Ok-clause-complete g c bytes scenes left has none leads =
@@ -16,7 +18,9 @@ returns-in-Ok-clause-complete g c bytes scenes left has none leads =
 
 pub returns-in-Err-clause-served : goal.returns-in-Err-clause-served
 returns-in-Err-clause-served g c =
-    subst (EndsServing c.args.service _ _) (sym c.noted.ensures.status) (ends-faulty c.args.service _ _ c.in-Err.fault c.in-Err.ensures.fault c.noted.ensures.noted)
+    let notes = span (g.N.Sink.seen c.args.notes.now) (g.N.Sink.seen c.noted.new.notes) in
+    subst (EndsServing c.args.service _ notes) (sym c.noted.ensures.status)
+    (ends-faulty c.args.service _ notes c.in-Err.fault c.in-Err.ensures.fault c.noted.ensures.noted)
 
 pub returns-in-Err-clause-complete : goal.returns-in-Err-clause-complete
 returns-in-Err-clause-complete g c bytes scenes left has none leads =

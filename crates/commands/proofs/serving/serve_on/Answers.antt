@@ -6,7 +6,7 @@ use Rattle.commands.proofs.serving.serve_on.Goals as goal
 
 pub returns-in-Ok-clause-served : goal.returns-in-Ok-clause-served
 returns-in-Ok-clause-served g c =
-    served-since c.args.service.limits (at_start c.args.room.now) _ _ (g.L.Links.seen c.listen.new.self) _ _
+    served-since c.args.service.limits (at_start c.args.room.now.state) _ _ (g.L.Links.seen c.listen.new.self) _ _
     (tells-nothing _ _ c.listen.ensures.given c.listen.ensures.sent c.listen.ensures.lost) c.serve_room.ensures.served
 
 pub returns-in-Ok-clause-listens : goal.returns-in-Ok-clause-listens
@@ -17,7 +17,7 @@ returns-in-Ok-clause-listens g c whole = record {
 
 pub returns-in-Err-Failed-clause-served : goal.returns-in-Err-Failed-clause-served
 returns-in-Err-Failed-clause-served g c =
-    failed-at_once c.args.service c.args.room.now _ _ (tells-nothing _ _ c.listen.ensures.given c.listen.ensures.sent c.listen.ensures.lost) c.requires.service
+    failed-at_once c.args.service c.args.room.now.state _ _ (tells-nothing _ _ c.listen.ensures.given c.listen.ensures.sent c.listen.ensures.lost) c.requires.service
 
 pub returns-in-Err-Failed-clause-listens : goal.returns-in-Err-Failed-clause-listens
 returns-in-Err-Failed-clause-listens g c whole = record {
@@ -27,4 +27,4 @@ returns-in-Err-Failed-clause-listens g c whole = record {
 
 pub returns-in-Err-Memory-clause-served : goal.returns-in-Err-Memory-clause-served
 returns-in-Err-Memory-clause-served g c =
-    wanted-at_once c.args.service c.args.room.now _ _ (tells-nothing _ _ c.listen.ensures.given c.listen.ensures.sent c.listen.ensures.lost) c.requires.service
+    wanted-at_once c.args.service c.args.room.now.state _ _ (tells-nothing _ _ c.listen.ensures.given c.listen.ensures.sent c.listen.ensures.lost) c.requires.service

@@ -3,7 +3,7 @@ use Rattle.elem.specs.ElementValue.{ElementValue}
 use Rattle.elem.specs.Order.{unstamped}
 use Rattle.effects.specs.Effects.{effect}
 use Rattle.effects.specs.Given.{stored_after}
-use Rattle.effects.proofs.CommandLaws.{at-some}
+use Rattle.effects.proofs.NamedLaws.{at-some}
 use Rattle.effects.proofs.OutcomeLaws.{after-live, after-dead}
 use Rattle.effects.proofs.laws.effect_is_stored.Goals as goal
 

@@ -1,22 +1,14 @@
-use Rattle.std.proofs.Common.{refl, sym, ap, ◌∙◌, append-nil}
-use Rattle.room_core.specs.Rooms.{RoomState, without}
-use Rattle.room_core.specs.Told.{texts_tried}
+-- The step that was planned is made, and its texts are tried.
+use Rattle.std.proofs.Common.{sym, subst}
+use Rattle.room_core.specs.Planned.{IsPlanned, texts_told}
+use Rattle.room_core.specs.Rooms.{RoomState}
+use Rattle.room_core.proofs.Served.{event-served}
 use Rattle.room_core.proofs.serving.serve_event.Goals as goal
 
 pub returns-clause-whole : goal.returns-clause-whole
 returns-clause-whole g c =
-    let step = c.in_ok-texts.ensures.stepped in
-    let sent = c.in_ok-gone.ensures.tried in
-    let stepped : RoomState = c.step.new.self in
-    record {
-      round = record { event = c.args.event.now; happening = step.happening; stepped = stepped; tries = sent.tries; after = c.close_all.new.self };
-      of = refl;
-      is_round = record {
-        heard = step.heard;
-        stepped = step.after;
-        tried = sym (append-nil (texts_tried sent.tries)) ∙ sym sent.tried ∙ c.as_slice.ensures ∙ step.told;
-        after = c.close_all.ensures ∙ ap (λ gone. record stepped { joined = without stepped.joined gone }) (c.deref.ensures.value ∙ sym sent.gone_links);
-      };
-      room_after = refl;
-      told = sent.told;
-    }
+    let plan = c.in_ok-plan.plan in
+    let planned : IsPlanned c.plan.new.self.state c.args.event.now plan =
+    subst (λ (room : RoomState). IsPlanned room c.args.event.now plan) (sym c.plan.ensures.state) c.in_ok-plan.ensures.planned in
+    event-served c.args.room.now.state c.plan.new.self.state c.put-told.new.self.state c.close_all.new.self.state c.args.event.now (texts_told c.put-told.result) _ _
+    c.plan.ensures.state (c.put-told.ensures.stepped c.args.event.now planned) _ _ c.in_ok-gone.ensures.tried c.deref.ensures.value c.close_all.ensures

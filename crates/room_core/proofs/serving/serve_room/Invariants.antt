@@ -10,9 +10,9 @@ use Rattle.room_core.proofs.serving.serve_room.Given as goal
 abbrev pub invariant-loop-end : goal.invariant-loop-end
 invariant-loop-end g l = record {
   served : (new : RoomState) (after : LinksEnd) (end : ServeEnd)
-      → IsServed l.limits (serving_of l.room l.tally) new (g.L.Links.seen l.links) after end
-      → IsServed l.limits (at_start l.initial.room) new (g.L.Links.seen l.initial.links) after end;
-  running : end_of l.limits (serving_of l.room l.tally) ≡ None;
+      → IsServed l.limits (serving_of l.room.state l.tally) new (g.L.Links.seen l.links) after end
+      → IsServed l.limits (at_start l.initial.room.state) new (g.L.Links.seen l.initial.links) after end;
+  running : end_of l.limits (serving_of l.room.state l.tally) ≡ None;
   within : l.tally.opened ≤ l.limits.links;
   port : (g.L.Links.seen l.links).port ≡ (g.L.Links.seen l.initial.links).port;
   listens : (g.L.Links.seen l.links).listens ≡ (g.L.Links.seen l.initial.links).listens;
@@ -21,4 +21,4 @@ invariant-loop-end g l = record {
 }
 
 abbrev pub decreases-loop-end : goal.decreases-loop-end
-decreases-loop-end g l = left_of l.limits (serving_of l.room l.tally)
+decreases-loop-end g l = left_of l.limits (serving_of l.room.state l.tally)

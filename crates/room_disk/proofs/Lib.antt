@@ -1,0 +1,12 @@
+pub mod Feeds
+pub mod LineLaws
+pub mod Cuts
+pub mod Stretches
+pub mod Written
+pub mod KeptLines
+pub mod Once
+pub mod WholeLaws
+pub mod StopLaws
+pub mod Indices
+pub mod ResumeLaws
+pub mod Taking

@@ -1,0 +1,11 @@
+use Rattle.std.proofs.Common.{drop, length-drop, arith}
+use Rattle.room_disk.proofs.Once.{run-blank}
+use Rattle.room_disk.proofs.line.lone_value.Goals as goal
+
+pub returns-clause-alone : goal.returns-clause-alone
+returns-clause-alone c = record {
+  rest = drop c.in-Ok.found.1 c.args.line.now;
+  stands = c.in-Ok.ensures.found;
+  space = run-blank (drop c.in-Ok.found.1 c.args.line.now)
+      (omega (arith, c.skip_space-at.ensures, c.if-at-line.false, c.in-Ok.ensures.within.1, length-drop c.in-Ok.found.1 c.args.line.now));
+}
