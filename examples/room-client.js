@@ -70,7 +70,7 @@ export class RoomClient {
   #socket = null;
   #board = new Map(); // of each id its best update, as {element, text}
   #gathered = new Set(); // ids of own changes that are to be sent
-  #sent = []; // the elements of each message that a durable room is to answer with KEPT
+  #sent = []; // the elements of each own message that a durable room is still to answer
   #pause = FIRST_PAUSE;
   #timer = null;
   #isClosed = false;
@@ -81,7 +81,8 @@ export class RoomClient {
    * - onState(state): "joined", "away" (it will join again) or "closed"
    * - onPresence(message): a message of another type came, as an object: a pointer's place, say
    * - onFault(fault): the room took no message of this client, for this fault
-   * - onKept(elements): of a durable room: these, which this client sent, are safe; isDurable says that the room is one
+   * - onKept(elements): of a durable room: these, or better updates of theirs, are safe: those of an own message that the room
+   *   answered, and at each joining all that it stores. isDurable says that the room is one, which no message tells
    * - onMessage(direction, text): each text as it came ("<") or went (">")
    */
   constructor(url, told = {}) {
@@ -131,6 +132,7 @@ export class RoomClient {
 
   /** Sends a message of any other type to all others, if it is joined. */
   presence(message) {
+    if (typeof message.type !== "string") throw new TypeError("a message needs a type");
     if (this.isJoined) this.#send(JSON.stringify(message));
   }
 
@@ -177,10 +179,16 @@ export class RoomClient {
     const message = JSON.parse(text);
     if (message.type === "SCENE_INIT") this.#enter(text);
     else if (message.type === "SCENE_UPDATE") this.#takeTexts(text);
-    else if (message.type === "INVALID_RESPONSE") this.#told.onFault?.(message.payload.fault);
+    else if (message.type === "INVALID_RESPONSE") this.#refuse(message.payload.fault);
     // A member may send a message of any type: a KEPT counts only as the answer to an own message.
     else if (message.type === "KEPT" && this.#isDurable && this.#sent.length > 0) this.#told.onKept?.(this.#sent.shift());
     else this.#told.onPresence?.(message);
+  }
+
+  /** The room took no own message. A durable room answers each in its turn, so the next KEPT is for the one behind it. */
+  #refuse(fault) {
+    this.#sent.shift();
+    this.#told.onFault?.(fault);
   }
 
   /** All that the room stores came. What this client holds and the room may lack is sent. */
@@ -188,6 +196,7 @@ export class RoomClient {
     this.#pause = FIRST_PAUSE;
     const theirs = new Set(elementTexts(text));
     this.#takeTexts(text);
+    if (this.#isDurable) this.#told.onKept?.([...theirs].map((one) => JSON.parse(one)));
     for (const [id, update] of this.#board) {
       if (!theirs.has(update.text)) this.#gathered.add(id);
     }

@@ -5,11 +5,13 @@ ghost use Rattle.std.specs.Prelude.{◌≡◌};
 ghost use Rattle.std.specs.Process.{exit_status};
 ghost use Rattle.commands.specs.Faults.{code_of};
 
+mod output;
 mod words;
 
 use board_base::{Bytes, List};
 use board_ends::{StdSink, StdSource};
 use commands::{Fault, Status, board};
+use output::Output;
 use std::alloc::AllocError;
 use std::process::ExitCode;
 use ws_links::WsLinks;
@@ -23,7 +25,7 @@ fn main(rt: HostRuntime) -> ExitCode {
             rt.alloc(),
             words.as_slice(),
             &mut StdSource::new(rt.stdin()),
-            &mut StdSink::new(rt.stdout()),
+            &mut StdSink::new(Output::new(rt.stdout())),
             &mut notes,
             &mut links,
         ),

@@ -16,6 +16,7 @@ mod line;
 mod run;
 mod scenes;
 mod served;
+mod stops;
 mod sure;
 mod told;
 mod values;

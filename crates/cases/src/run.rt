@@ -1,10 +1,11 @@
 //! A run of the top call over memory.
 
 use crate::events::{events_of, open_from};
-use crate::given::{bytes_named, given, number_or, numbers_of, words_of};
+use crate::given::{bytes_named, given, is_given, number_or, numbers_of, words_of};
+use crate::stops::push_stops;
 use crate::told::{push_member_of, push_number, push_told};
 use board_base::{Bytes, List, Stop};
-use board_ends::{LinkEvent, MemSink, MemSource, ScriptLinks};
+use board_ends::{LinkEvent, MemJournal, MemSink, MemSource, ScriptLinks};
 use commands::{Status, board};
 use json_text::{Member, Text};
 use scene_json::{push_comma, push_whole};
@@ -22,7 +23,7 @@ const GREATEST: u64 = 67108864;
 /// What a run reads from and writes to.
 struct Ends {
     input: MemSource,
-    output: MemSink,
+    output: MemJournal,
     notes: MemSink,
     links: ScriptLinks,
 }
@@ -39,7 +40,8 @@ impl Drop for Ends {
     }
 }
 
-/// Appends how the run of a case with its chunk ended: its status, output and notes, the port that was listened on, and what was sent.
+/// Appends how the run of a case with its chunk ended: its status, output and notes, the port that was listened on, and what
+/// was sent; and where the case asks for it, what is recovered of all that a stop may leave of the output.
 pub fn push_run(
     alloc: Global,
     line: &mut Vec<u8>,
@@ -50,6 +52,9 @@ pub fn push_run(
     let mut ends = ends_of(alloc, case, chunk)?;
     let status = run(alloc, words.as_slice(), &mut ends);
     push_ended(alloc, line, status, &ends)?;
+    if is_given(case, "stops") {
+        push_stops(alloc, line, &ends.output)?;
+    }
     Ok(())
 }
 
@@ -115,11 +120,13 @@ fn input_of(alloc: Global, case: &List<Member>, chunk: usize) -> Result<MemSourc
     Ok(MemSource::new(bytes, chunk.max(1), reads))
 }
 
-/// The output of the case, as a sink that fails at the listed writes.
-fn output_of(alloc: Global, case: &List<Member>, chunk: usize) -> Result<MemSink, Stop<Text>> {
+/// The output of the case, as a journal that fails at the listed writes and syncs.
+fn output_of(alloc: Global, case: &List<Member>, chunk: usize) -> Result<MemJournal, Stop<Text>> {
     let room = given(room_of(case), "member room")?;
     let writes = given(numbers_of(alloc, case, "writes")?, "member writes")?;
-    Ok(MemSink::new(alloc, chunk.max(1), room, writes)?)
+    let syncs = given(numbers_of(alloc, case, "syncs")?, "member syncs")?;
+    let sink = MemSink::new(alloc, chunk.max(1), room, writes)?;
+    Ok(MemJournal::new(sink, syncs))
 }
 
 /// The notes of the case, as a sink that fails at the listed writes.

@@ -11,7 +11,7 @@ use Rattle.room_core.specs.declared.limits.ServeEnd.TheVariants.{AllClosed, Idle
 use Rattle.scene_file.specs.declared.scene.Scene.{Scene}
 use Rattle.commands.specs.Answers.{IsRefusal}
 use Rattle.commands.specs.Closing.{NoneRose, LeadsToClose}
-use Rattle.commands.specs.Ends.{Span, HasLeft}
+use Rattle.commands.specs.Ends.{Span, HasLeft, limit}
 use Rattle.commands.specs.Faults.{status_of}
 use Rattle.commands.specs.Input.{HasScenes}
 use Rattle.commands.specs.Serving.{Ends, EndsServing, WasServed, WasInputRefused, end_status, room_of}
@@ -56,15 +56,15 @@ not-idle (inr (inr e)) = cc
 
 -- where no end fails and the links lead the room to a close
 module _ (close : CloseSo) (service : Service) (ends : Ends) (notes : Span SinkEnd) (bytes : List ℕ) (scenes : List Scene)
-    (left : HasLeft ends.input.before bytes) (has : HasScenes bytes scenes) (none : NoneRose ends) (leads : LeadsToClose service scenes ends.links) where
+    (left : HasLeft limit ends.input.before bytes) (has : HasScenes bytes scenes) (none : NoneRose ends) (leads : LeadsToClose service scenes ends.links) where
   -- how a room that was served then ended
   ended : (end : ServeEnd) (part : List ℕ → List ℕ) → WasServed service end ends part → (end ≡ AllClosed) ⊎ ((end ≡ MemoryEnd) ⊎ (end ≡ LinkEnd))
   ended end part was = close service.limits (room_of leads.begun.stored) (room_of was.room.begun.stored) was.room.held.last ends.links.before ends.links.after end refl leads.leads was.room.held.served
 
   not-refused : (found : Fault) → WasInputRefused found ends.input → ⊥
-  not-refused fault.TooLong refused = left-excludes bytes ends.input.before ends.input.after left refused
+  not-refused fault.TooLong refused = left-excludes limit bytes ends.input.before ends.input.after left refused
   not-refused (fault.Refused found) (given, read, refused) =
-      refusal-none bytes found scenes (subst (λ b. IsRefusal b found) (read-whole bytes given ends.input.before ends.input.after left read) refused) has
+      refusal-none bytes found scenes (subst (λ b. IsRefusal b found) (read-whole limit bytes given ends.input.before ends.input.after left read) refused) has
   not-refused fault.Memory refused = refused
   not-refused fault.Usage refused = refused
   not-refused fault.Read refused = refused

@@ -1,5 +1,5 @@
 -- What a drill tells of its session, and how its replicas come to agree.
-use Rattle.std.proofs.Common.{◌≡◌, ℕ, zero, suc, ◌<◌, Bool, ◌&&◌, List, [], ◌∷◌, true, Option, None, Contains, length, map, refl, sym, ap, ap₂, subst, ◌∙◌, bytes_eq, lit≤, arith}
+use Rattle.std.proofs.Common.{◌≡◌, ℕ, zero, suc, ◌<◌, Bool, ◌&&◌, List, [], ◌∷◌, true, None, Contains, length, map, refl, sym, ap, ap₂, subst, ◌∙◌, bytes_eq, lit≤, arith}
 use Rattle.std.specs.List.{AllByRecursion, AllZip, list_all}
 use Rattle.std.specs.Option.{option_map_or}
 use Rattle.std.proofs.lemmas.Bool.{and_from}

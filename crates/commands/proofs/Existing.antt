@@ -18,11 +18,9 @@ use Rattle.scene_file.specs.declared.fault.SceneFault.{SceneFault}
 use Rattle.scene_file.proofs.CallerLemmas.{StandsAt, joined-exists, scene-or-fault, HasText, written-exists}
 use Rattle.shown_scenes.proofs.CallerLemmas.{shown-rise, shown-agree, shown-compact, shown-files}
 use Rattle.session.proofs.CallerLemmas.{report-exists}
-use Rattle.session_text.specs.Sessions.{IsSessionFault}
-use Rattle.session_text.specs.declared.fault.SessionFault.{SessionFault}
-use Rattle.session_text.specs.declared.fault.SessionFault.TheVariants.{In, TooMany}
 use Rattle.session_text.proofs.CallerLemmas.{session-or-fault}
-use Rattle.commands.specs.Answers.{IsAnswer, IsBoardOf, IsShownAs, IsStoredAs, HasPictures, IsRefusal, IsMadeOf, heads_of, updates_of, shown_of}
+use Rattle.commands.specs.Answers.{IsAnswer, IsShownAs, IsStoredAs, HasPictures, IsRefusal, IsMadeOf, session_refusal}
+use Rattle.commands.specs.Boards.{IsBoardOf, heads_of, updates_of, shown_of}
 use Rattle.commands.specs.Faults.{newline}
 use Rattle.commands.specs.Input.{ScenesLead, HasScenes, HasFaultyText}
 use Rattle.commands.specs.Pictures.{AreLines, IsToldOfPicture}
@@ -30,7 +28,12 @@ use Rattle.commands.specs.Pictures.IsToldOfPicture.{size, not_base64, no_data_ur
 use Rattle.commands.specs.declared.status.Refusal.{Refusal}
 use Rattle.commands.specs.declared.status.Refusal.TheVariants as refusal
 use Rattle.commands.specs.declared.words.Command.{Command}
-use Rattle.commands.specs.declared.words.Command.TheVariants.{Restore, Merge, State, Pictures, Replay}
+use Rattle.commands.specs.declared.words.Command.TheVariants.{Restore, Merge, State, Pictures, Replay, Recover, Paste, Library, Insert}
+use Rattle.commands.specs.Words.{HasNames}
+use Rattle.commands.proofs.JournalExists.{AreAnswered, AreWhole, recovered-exists}
+use Rattle.commands.proofs.PasteExists.{pasted-exists}
+use Rattle.commands.proofs.ShelfExists.{shelf-exists}
+use Rattle.commands.proofs.InsertExists.{inserted-exists}
 use Rattle.commands.proofs.Runs.{Runs-either}
 use Rattle.commands.proofs.Scenes.{ScenesLead-more}
 
@@ -131,7 +134,7 @@ made-or-refused : (IsOf : List Scene → List ℕ → Type 0) (bytes : List ℕ)
     → ((text : List ℕ) × IsMadeOf IsOf bytes text) ⊎ ((found : Refusal) × IsRefusal bytes found)
 made-or-refused IsOf bytes make = elim (held bytes) [
   | inl (scenes, has) ↦ let made = make scenes (held-texts bytes scenes has) in inl (made.0, (scenes, has, made.1))
-  | inr (number, found, faulty) ↦ inr (refusal.Text number found, faulty)
+  | inr (number, found, faulty) ↦ inr (refusal.Text number found, (number, found, refl, faulty))
 ]
 
 restored : (layout : Layout) (bytes : List ℕ) (scene : Scene) (end : ℕ) → StandsAt bytes 0 scene end → IsAnswered (Restore layout) bytes
@@ -142,40 +145,44 @@ restored layout bytes scene end s = elim (Runs-either is_space (drop end bytes))
       (Ok made.0, (scene, has, made.1))
   | inr more ↦ (
     Err (refusal.Extra (end + prefix_len is_space (drop end bytes))),
-    record {
-      scene = scene;
-      after = end;
-      lead = s.stands;
-      behind = refl;
-      more = omega (arith, more.1, length-drop end bytes, s.within);
-    },
+    inr (
+      _,
+      refl,
+      record {
+        scene = scene;
+        after = end;
+        lead = s.stands;
+        behind = refl;
+        more = omega (arith, more.1, length-drop end bytes, s.within);
+      },
+    ),
   )
 ]
 
-pub answer-exists : (command : Command) (bytes : List ℕ) → IsAnswered command bytes
-answer-exists (Restore layout) bytes = elim (scene-or-fault bytes 0 (omega arith)) [
+pub answer-exists : AreAnswered → AreWhole → (command : Command) (bytes : List ℕ) → HasNames command → IsAnswered command bytes
+answer-exists answered whole (Restore layout) bytes names = elim (scene-or-fault bytes 0 (omega arith)) [
   | inl (scene, end, s) ↦ restored layout bytes scene end s
-  | inr (found, is) ↦ (Err (refusal.Text 1 found), (refl, is))
+  | inr (found, is) ↦ (Err (refusal.Text 1 found), inl (found, refl, is))
 ]
-answer-exists (Merge layout) bytes = elim (made-or-refused (λ scenes. IsShownAs scenes layout) bytes (shown-exists layout)) [
+answer-exists answered whole (Merge layout) bytes names = elim (made-or-refused (λ scenes. IsShownAs scenes layout) bytes (shown-exists layout)) [
   | inl (text, made) ↦ (Ok text, made)
   | inr (found, is) ↦ (Err found, is)
 ]
-answer-exists State bytes = elim (made-or-refused IsStoredAs bytes (λ scenes read. state-exists scenes)) [
+answer-exists answered whole State bytes names = elim (made-or-refused IsStoredAs bytes (λ scenes read. state-exists scenes)) [
   | inl (text, made) ↦ (Ok text, made)
   | inr (found, is) ↦ (Err found, is)
 ]
-answer-exists Pictures bytes = elim (made-or-refused HasPictures bytes pictures-exist) [
+answer-exists answered whole Pictures bytes names = elim (made-or-refused HasPictures bytes pictures-exist) [
   | inl (text, made) ↦ (Ok text, made)
   | inr (found, is) ↦ (Err found, is)
 ]
-answer-exists Replay bytes = elim (session-or-fault bytes) [
+answer-exists answered whole Replay bytes names = elim (session-or-fault bytes) [
   | inl (session, read) ↦
       let report = report-exists session in
       (Ok (report.0 ++ newline), record { session = session; read = read; written = report.0; report = report.1; ended = refl })
-  | inr (fault, is) ↦ replay-refused bytes fault is
+  | inr (fault, is) ↦ (Err (session_refusal fault), (fault, refl, is))
 ]
-  where
-    replay-refused : (bytes : List ℕ) (fault : SessionFault) → IsSessionFault bytes fault → IsAnswered Replay bytes
-    replay-refused bytes (In number found) is = (Err (refusal.Event number found), is)
-    replay-refused bytes TooMany is = (Err refusal.TooMany, is)
+answer-exists answered whole (Recover form) bytes names = recovered-exists answered whole form bytes
+answer-exists answered whole (Paste prefix) bytes names = pasted-exists prefix bytes names
+answer-exists answered whole Library bytes names = shelf-exists bytes
+answer-exists answered whole (Insert insertion) bytes names = inserted-exists insertion bytes names.1

@@ -36,7 +36,7 @@ input-once bytes scenes others has also =
     (scenes-once bytes has.rest also.rest scenes others has.lead also.lead (blank-none has.rest has.space) (blank-none also.rest also.space)).0
 
 -- Offsets within a text that leave the same of it are one.
-drop-once : (bytes : List ℕ) (at next : ℕ) → at ≤ length bytes → next ≤ length bytes → drop at bytes ≡ drop next bytes → at ≡ next
+pub drop-once : (bytes : List ℕ) (at next : ℕ) → at ≤ length bytes → next ≤ length bytes → drop at bytes ≡ drop next bytes → at ≡ next
 drop-once bytes at next within also same = omega (arith, ap length same, length-drop at bytes, length-drop next bytes)
 
 -- The first text with a fault is determined, and so is the fault.
@@ -58,7 +58,7 @@ faulty-scenes bytes number fault scenes r has =
     all-read r.scenes scenes (drop r.start bytes) has.some both.0 r.begun (ap is_blank both.1 ∙ has.space)
 
 -- ---- one scene and a further text
-blank-whole : (bytes : List ℕ) (at : ℕ) → is_blank (drop at bytes) ≡ true → at ≤ length bytes → at + prefix_len is_space (drop at bytes) ≡ length bytes
+pub blank-whole : (bytes : List ℕ) (at : ℕ) → is_blank (drop at bytes) ≡ true → at ≤ length bytes → at + prefix_len is_space (drop at bytes) ≡ length bytes
 blank-whole bytes at blank within =
     elim (Runs-either is_space (drop at bytes)) [
       | inl h ↦ omega (arith, h.1, length-drop at bytes)

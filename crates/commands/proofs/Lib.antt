@@ -1,22 +1,37 @@
+mod Closing
+mod Never
 pub mod Again
 pub mod Answering
 pub mod Asking
-mod Closing
+pub mod ById
 pub mod Drills
 pub mod Existing
-pub mod ById
+pub mod FrontExists
+pub mod FrontOnce
 pub mod Given
 pub mod Inputs
+pub mod InsertExists
+pub mod InsertOnce
+pub mod JournalExists
+pub mod JournalOnce
+pub mod Judging
+pub mod Kept
 pub mod Lawful
 pub mod Lines
-mod Never
+pub mod Names
 pub mod Numbers
 pub mod Opening
+pub mod PasteExists
+pub mod PasteOnce
+pub mod ReadShelves
 pub mod Readers
 pub mod Reread
 pub mod Runs
 pub mod Scenes
 pub mod Served
 pub mod SessionTexts
+pub mod ShelfExists
+pub mod ShelfOnce
+pub mod Shows
 pub mod States
 pub mod Unique

@@ -5,6 +5,7 @@ use Rattle.commands.specs.declared.status.Status.{Status}
 use Rattle.commands.specs.declared.status.Status.TheVariants.{Usage}
 use Rattle.commands.specs.declared.words.Command.{Command}
 use Rattle.commands.specs.declared.words.Drill.{Drill}
+use Rattle.commands.specs.declared.words.Keeping.{Keeping}
 use Rattle.commands.specs.declared.words.Request.{Request}
 use Rattle.commands.specs.declared.words.Request.TheVariants as request
 use Rattle.commands.specs.declared.words.Service.{Service}
@@ -17,8 +18,10 @@ stays rose = omega (arith, rose)
 pub never : (asks : Option Request) (result status : Status) → status ≢ Usage → (asks ≡ None → result ≡ Usage)
     → ((command : Command) → asks ≡ Some (request.Answer command) → result ≡ status → ⊥)
     → ((service : Service) → asks ≡ Some (request.Serve service) → result ≡ status → ⊥)
-    → ((drill : Drill) → asks ≡ Some (request.Drill drill) → result ≡ status → ⊥) → result ≢ status
-never None result status other usage answers serves drills is = other (sym is ∙ usage refl)
-never (Some (request.Answer command)) result status other usage answers serves drills is = answers command refl is
-never (Some (request.Serve service)) result status other usage answers serves drills is = serves service refl is
-never (Some (request.Drill drill)) result status other usage answers serves drills is = drills drill refl is
+    → ((drill : Drill) → asks ≡ Some (request.Drill drill) → result ≡ status → ⊥)
+    → ((keeping : Keeping) → asks ≡ Some (request.Keep keeping) → result ≡ status → ⊥) → result ≢ status
+never None result status other usage answers serves drills keeps is = other (sym is ∙ usage refl)
+never (Some (request.Answer command)) result status other usage answers serves drills keeps is = answers command refl is
+never (Some (request.Serve service)) result status other usage answers serves drills keeps is = serves service refl is
+never (Some (request.Drill drill)) result status other usage answers serves drills keeps is = drills drill refl is
+never (Some (request.Keep keeping)) result status other usage answers serves drills keeps is = keeps keeping refl is

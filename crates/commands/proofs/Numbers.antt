@@ -1,7 +1,7 @@
 -- The number that a word is.
-use Rattle.std.proofs.Common.{◌≡◌, ℕ, ◌≤◌, ◌<◌, ◌^◌, true, false, List, Bool, ◌&&◌, Option, Some, None, nat_le, bytes_eq, decimal, inl, inr, refl, sym, ap, ◌∙◌, if◌then◌else◌, lit≤, arith}
+use Rattle.std.proofs.Common.{◌≡◌, ℕ, ◌≤◌, ◌<◌, ◌^◌, true, List, ◌&&◌, Some, None, nat_le, bytes_eq, decimal, inl, inr, refl, ap, ◌∙◌, if◌then◌else◌, arith}
 use Rattle.std.specs.Str.Parse.{digits_value}
-use Rattle.std.proofs.lemmas.Bool.{cases_Bool, and_parts, and_from}
+use Rattle.std.proofs.lemmas.Bool.{cases_Bool, and_parts}
 use Rattle.std.proofs.lemmas.Bool.Decides.{nat_tests}
 use Rattle.std.proofs.lemmas.Fmt.{decimal_is_IsNumeral}
 use Rattle.json_text.proofs.CallerLemmas.{bytes_eq-true, bytes_eq-same}

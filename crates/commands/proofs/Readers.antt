@@ -13,7 +13,8 @@ use Rattle.intake.specs.declared.reading.Stopped.TheVariants.{Faulty, Refused, E
 use Rattle.elem.specs.ElementValue.{ElementValue}
 use Rattle.elem_store.specs.Updates.{AreStored, stored_of}
 use Rattle.file_table.proofs.CallerLemmas.{AreLeastEntries-none}
-use Rattle.commands.specs.Answers.{IsBoardOf, IsOneRefusal, IsRefusal, heads_of, updates_of}
+use Rattle.commands.specs.Answers.{IsOneRefusal, IsRefusal}
+use Rattle.commands.specs.Boards.{IsBoardOf, heads_of, updates_of}
 use Rattle.commands.specs.Readers.{SayScenes, SayBoard, BoardSoFar, board_seen, one_seen, listed, refusal_of}
 use Rattle.commands.specs.Input.{ScenesLead, HasScenes}
 use Rattle.scene_file.specs.Heads.{Heading, IsJoinedHead}
@@ -122,27 +123,35 @@ begun-at bytes scenes next start counted (inr more) = inr more
 
 pub board-refused : (bytes : List ℕ) (so_far : BoardSoFar) (stopped : Stopped SceneFault) → IsStopped bytes (board_seen so_far) stopped → IsRefusal bytes (refusal_of so_far.next stopped)
 board-refused bytes so_far (Faulty fault) h =
-    let read = h.behind.read in
-    record {
-      scenes = read.scenes;
-      start = h.start;
-      within = h.behind.within;
-      lead = scenes-lead bytes (drop h.start bytes) h.texts read.scenes read.say h.behind.lead;
-      counted = read.counted;
-      begun = begun-at bytes read.scenes so_far.next h.start read.counted h.begun;
-      faulty = h.faulty;
-    }
+    let read = h.behind.read in (
+      so_far.next,
+      Json fault,
+      refl,
+      record {
+        scenes = read.scenes;
+        start = h.start;
+        within = h.behind.within;
+        lead = scenes-lead bytes (drop h.start bytes) h.texts read.scenes read.say h.behind.lead;
+        counted = read.counted;
+        begun = begun-at bytes read.scenes so_far.next h.start read.counted h.begun;
+        faulty = h.faulty;
+      },
+    )
 board-refused bytes so_far (Refused fault) h =
-    let read = h.refused.0 in
-    record {
-      scenes = read.scenes;
-      start = h.start;
-      within = h.within;
-      lead = scenes-lead bytes (drop h.start bytes) h.texts read.scenes read.say h.lead;
-      counted = read.counted;
-      begun = inr h.begun;
-      faulty = fault-at bytes h.start h.text h.rest fault h.stands h.refused.1;
-    }
+    let read = h.refused.0 in (
+      so_far.next,
+      fault,
+      refl,
+      record {
+        scenes = read.scenes;
+        start = h.start;
+        within = h.within;
+        lead = scenes-lead bytes (drop h.start bytes) h.texts read.scenes read.say h.lead;
+        counted = read.counted;
+        begun = inr h.begun;
+        faulty = fault-at bytes h.start h.text h.rest fault h.stands h.refused.1;
+      },
+    )
 board-refused bytes so_far (Extra place) h = absurd (false≢true h.full)
 
 -- ---- one scene
@@ -167,12 +176,12 @@ no-texts (text ∷ texts) say = absurd say
 pub one-refused : (bytes : List ℕ) (scene : Option Scene) (stopped : Stopped SceneFault) → IsStopped bytes (one_seen scene) stopped → IsOneRefusal bytes (refusal_of 1 stopped)
 one-refused bytes None (Faulty fault) h =
     let front = at-front bytes h.texts h.start h.behind.within (no-texts h.texts h.behind.read) h.behind.lead in
-    (refl, subst (λ at. IsSceneFaultAt bytes at (Json fault)) front h.faulty)
+    inl (Json fault, refl, subst (λ at. IsSceneFaultAt bytes at (Json fault)) front h.faulty)
 one-refused bytes (Some scene) (Faulty fault) h = absurd (false≢true (sym h.takes))
 one-refused bytes scene (Refused fault) h =
     let front = at-front bytes h.texts h.start h.within h.refused.0 h.lead in
-    (refl, subst (λ at. IsSceneFaultAt bytes at fault) front (fault-at bytes h.start h.text h.rest fault h.stands h.refused.1))
+    inl (fault, refl, subst (λ at. IsSceneFaultAt bytes at fault) front (fault-at bytes h.start h.text h.rest fault h.stands h.refused.1))
 one-refused bytes None (Extra place) h = absurd (false≢true h.full)
 one-refused bytes (Some scene) (Extra place) h =
     let lead = scenes-lead bytes (drop h.start bytes) h.texts (scene ∷ []) h.behind.read h.behind.lead in
-    record { scene = scene; after = h.start; lead = subst (IsSceneAt bytes scene) lead.2 lead.1; behind = h.is_first; more = h.more }
+    inr (place, refl, record { scene = scene; after = h.start; lead = subst (IsSceneAt bytes scene) lead.2 lead.1; behind = h.is_first; more = h.more })

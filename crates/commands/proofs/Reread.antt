@@ -31,7 +31,8 @@ use Rattle.scene_file.specs.declared.layout.Layout.{Layout}
 use Rattle.scene_file.specs.declared.scene.Scene.{Scene}
 use Rattle.scene_file.proofs.CallerLemmas.{lesser_source-none, named-rise, head-once, scene-back, named-text, keys-or-none, rising-keys, stored-all, scene-whole, joined-whole, stored-whole, wholes-sound}
 use Rattle.shown_scenes.proofs.CallerLemmas.{shown-whole}
-use Rattle.commands.specs.Answers.{IsBoardOf, IsShownAs, heads_of, updates_of, shown_of}
+use Rattle.commands.specs.Answers.{IsShownAs}
+use Rattle.commands.specs.Boards.{IsBoardOf, heads_of, updates_of, shown_of}
 use Rattle.commands.specs.Faults.{newline}
 use Rattle.commands.specs.Input.{ScenesLead, HasScenes}
 use Rattle.commands.proofs.ById.{by_id, by_id-moved, AreStored-by_id}

@@ -6,7 +6,7 @@ use Rattle.room_core.specs.declared.limits.ServeEnd.{ServeEnd}
 use Rattle.room_core.specs.declared.limits.ServeEnd.TheVariants.{AllClosed, Idle, LinkFault, LinksFull, EventsFull, Memory}
 use Rattle.scene_file.specs.declared.scene.Scene.{Scene}
 use Rattle.commands.specs.Answers.{IsRefusal}
-use Rattle.commands.specs.Ends.{Span, GaveTooMuch, HasLeft, WasRead}
+use Rattle.commands.specs.Ends.{Span, GaveTooMuch, HasLeft, WasRead, limit}
 use Rattle.commands.specs.Faults.{status_of, IsNoted, Noted}
 use Rattle.commands.specs.Input.{HasScenes}
 use Rattle.commands.specs.Serving.{Ends, WasServed, WasServedTo, WasInputRefused, EndsServing, HasServingCause, ServesInput, end_line, end_status}
@@ -15,7 +15,7 @@ use Rattle.commands.specs.declared.status.Fault.TheVariants as fault
 use Rattle.commands.specs.declared.status.Status.{Status}
 use Rattle.commands.specs.declared.status.Status.TheVariants as status
 use Rattle.commands.specs.declared.words.Service.{Service}
-use Rattle.commands.proofs.Given.{left-excludes, read-whole, within-excludes}
+use Rattle.commands.proofs.Given.{left-excludes, read-excludes, read-whole, within-excludes}
 
 module _ (service : Service) (ends : Ends) (notes : Span SinkEnd) where
   pub ends-served : (end : ServeEnd) → WasServedTo service end ends → (end ≢ AllClosed → end ≢ Idle → IsNoted (end_line end) notes.before notes.after)
@@ -36,18 +36,18 @@ module _ (service : Service) (ends : Ends) (notes : Span SinkEnd) where
   ends-faulty fault.Write cause noted = (cause, noted)
 
   -- ---- over an input with these bytes
-  module _ (bytes : List ℕ) (left : HasLeft ends.input.before bytes) where
+  module _ (bytes : List ℕ) (left : HasLeft limit ends.input.before bytes) where
     abbrev IsServed : Status → Type 0
     IsServed result = (result ≡ status.Memory) ⊎ ServesInput service bytes ends notes result
 
     was-read : (end : ServeEnd) (part : List ℕ → List ℕ) → WasServed service end ends part → (scenes : List Scene) × HasScenes bytes scenes
     was-read end part was =
-        (was.scenes, subst (λ b. HasScenes b was.scenes) (read-whole bytes was.bytes ends.input.before ends.input.after left was.read) was.has_scenes)
+        (was.scenes, subst (λ b. HasScenes b was.scenes) (read-whole limit bytes was.bytes ends.input.before ends.input.after left was.read) was.has_scenes)
 
     refused-so : (found : Fault) → WasInputRefused found ends.input → Noted found notes.before notes.after → IsServed status.Refused
-    refused-so fault.TooLong refused noted = absurd (left-excludes bytes ends.input.before ends.input.after left refused)
+    refused-so fault.TooLong refused noted = absurd (left-excludes limit bytes ends.input.before ends.input.after left refused)
     refused-so (fault.Refused found) (given, read, refused) noted =
-        inr (inr (found, subst (λ b. IsRefusal b found) (read-whole bytes given ends.input.before ends.input.after left read) refused, refl, noted))
+        inr (inr (found, subst (λ b. IsRefusal b found) (read-whole limit bytes given ends.input.before ends.input.after left read) refused, refl, noted))
     refused-so fault.Memory refused noted = absurd refused
     refused-so fault.Usage refused noted = absurd refused
     refused-so fault.Read refused noted = absurd refused
@@ -70,9 +70,9 @@ module _ (service : Service) (ends : Ends) (notes : Span SinkEnd) where
     serves-input status.Usage reads was = absurd was
 
   -- ---- over an input that is too long
-  module _ (told : IsSome ends.input.before.left) (long : GaveTooMuch ends.input) where
-    unread : (bytes : List ℕ) → WasRead ends.input bytes → ⊥
-    unread bytes read = within-excludes ends.input.before ends.input.after told long (bytes, read.within, read.given)
+  module _ (told : IsSome ends.input.before.left) (long : GaveTooMuch limit ends.input) where
+    unread : (bytes : List ℕ) → WasRead limit ends.input bytes → ⊥
+    unread bytes read = read-excludes limit bytes ends.input.before ends.input.after told long read
 
     abbrev IsRefused : Status → Type 0
     IsRefused result = (result ≡ status.Memory) ⊎ ((result ≡ status.Refused) × Noted fault.TooLong notes.before notes.after)
@@ -91,7 +91,7 @@ module _ (service : Service) (ends : Ends) (notes : Span SinkEnd) where
     serves-too_long status.LinkFault was = absurd (unread was.0.bytes was.0.read)
     serves-too_long status.Refused (inl (found, is, refused, noted)) = refused-long found refused noted
     serves-too_long status.Refused (inr (end, is, was, noted)) = absurd (unread was.bytes was.read)
-    serves-too_long status.ReadFault was = absurd (within-excludes ends.input.before ends.input.after told long was.1)
+    serves-too_long status.ReadFault was = absurd (within-excludes limit ends.input.before ends.input.after told long was.1)
     serves-too_long status.WriteFault (((end, n, was), rose), noted) = absurd (unread was.bytes was.read)
     serves-too_long status.Memory was = inl refl
     serves-too_long status.Usage was = absurd was

@@ -13,7 +13,9 @@ use Rattle.session_text.specs.Events.{EventText, header}
 use Rattle.session_text.specs.Sessions.{most_events, messages_of, made_after, EventsLead, LeadTo, IsSessionOf}
 use Rattle.session_text.specs.Taken.{TakesText, is_full, texts_in}
 use Rattle.session_text.specs.declared.event.Event.{Event}
+use Rattle.session_text.specs.declared.fault.SessionFault.TheVariants.{In, TooMany}
 use Rattle.session_text.specs.declared.fault.TextFault.{TextFault}
+use Rattle.session_text.specs.declared.fault.TextFault.TheVariants.{Json}
 use Rattle.session_text.specs.declared.session.Session.{Session}
 use Rattle.commands.specs.Answers.{IsSessionRefusal}
 use Rattle.commands.specs.SessionTexts.{SayEvents, SaySession, session_seen, session_refusal_of}
@@ -86,35 +88,41 @@ begun-at more (inr is) = is
 pub session-refused : (bytes : List ℕ) (state : Option Session) (stopped : Stopped TextFault) → IsStopped bytes (session_seen state) stopped → IsSessionRefusal bytes (session_refusal_of (texts_in state + 1) stopped)
 session-refused bytes None (Faulty fault) h =
     let front = at-front bytes h.texts h.start h.behind.read h.behind.within h.behind.lead in
-    inl (refl, inl (fault, refl, subst (λ at. IsFirstFault bytes at fault) front h.faulty))
+    (In 1 (Json fault), refl, inl (refl, inl (fault, refl, subst (λ at. IsFirstFault bytes at fault) front h.faulty)))
 session-refused bytes (Some session) (Faulty fault) h =
-    let lead = lead-to bytes session h.texts h.start h.behind.read h.behind.within h.behind.lead in
-    inr (record {
-      head = header session.replicas session.seed session.scene;
-      events = session.events;
-      start = h.start;
-      lead = lead;
-      more = begun-at (is_blank (drop h.start bytes)) h.begun;
-      fewer = fewer-events (length session.events) most_events lead.few h.takes;
-      counted = omega arith;
-      faulty = inl (fault, refl, h.faulty);
-    })
+    let lead = lead-to bytes session h.texts h.start h.behind.read h.behind.within h.behind.lead in (
+      In (texts_in (Some session) + 1) (Json fault),
+      refl,
+      inr (record {
+        head = header session.replicas session.seed session.scene;
+        events = session.events;
+        start = h.start;
+        lead = lead;
+        more = begun-at (is_blank (drop h.start bytes)) h.begun;
+        fewer = fewer-events (length session.events) most_events lead.few h.takes;
+        counted = omega arith;
+        faulty = inl (fault, refl, h.faulty);
+      }),
+    )
 session-refused bytes None (Refused fault) h =
     let front = at-front bytes h.texts h.start h.refused.0 h.within h.lead in
-    inl (refl, inr (h.text, h.rest, subst (λ at. Stands (drop at bytes) h.text h.rest) front h.stands, h.refused.2))
+    (In 1 fault, refl, inl (refl, inr (h.text, h.rest, subst (λ at. Stands (drop at bytes) h.text h.rest) front h.stands, h.refused.2)))
 session-refused bytes (Some session) (Refused fault) h =
-    let lead = lead-to bytes session h.texts h.start h.refused.0 h.within h.lead in
-    inr (record {
-      head = header session.replicas session.seed session.scene;
-      events = session.events;
-      start = h.start;
-      lead = lead;
-      more = h.begun;
-      fewer = fewer-events (length session.events) most_events lead.few h.refused.1;
-      counted = omega arith;
-      faulty = inr (h.text, h.rest, h.stands, h.refused.2);
-    })
+    let lead = lead-to bytes session h.texts h.start h.refused.0 h.within h.lead in (
+      In (texts_in (Some session) + 1) fault,
+      refl,
+      inr (record {
+        head = header session.replicas session.seed session.scene;
+        events = session.events;
+        start = h.start;
+        lead = lead;
+        more = h.begun;
+        fewer = fewer-events (length session.events) most_events lead.few h.refused.1;
+        counted = omega arith;
+        faulty = inr (h.text, h.rest, h.stands, h.refused.2);
+      }),
+    )
 session-refused bytes None (Extra place) h = absurd (false≢true h.full)
 session-refused bytes (Some session) (Extra place) h =
     let lead = lead-to bytes session h.texts h.start h.behind.read h.behind.within h.behind.lead in
-    record { head = header session.replicas session.seed session.scene; events = session.events; end = h.start; lead = lead; full = all-events (length session.events) most_events h.full; more = h.begun }
+    (TooMany, refl, record { head = header session.replicas session.seed session.scene; events = session.events; end = h.start; lead = lead; full = all-events (length session.events) most_events h.full; more = h.begun })

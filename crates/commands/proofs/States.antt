@@ -16,11 +16,12 @@ use Rattle.scene_file.specs.Reading.{IsSceneAt}
 use Rattle.scene_file.specs.declared.scene.Scene.{Scene}
 use Rattle.scene_file.proofs.CallerLemmas.{lesser_source-none, lesser_source-assoc, scene-behind, scene-before, state-back}
 use Rattle.commands.specs.Again.{TakesScenes, AreStates}
-use Rattle.commands.specs.Answers.{IsAnswer, IsBoardOf, IsShownAs, IsStoredAs, HasPictures, heads_of, updates_of}
+use Rattle.commands.specs.Answers.{IsAnswer, IsShownAs, IsStoredAs, HasPictures}
+use Rattle.commands.specs.Boards.{IsBoardOf, heads_of, updates_of}
 use Rattle.commands.specs.Faults.{newline}
 use Rattle.commands.specs.Input.{ScenesLead, HasScenes}
 use Rattle.commands.specs.declared.words.Command.{Command}
-use Rattle.commands.specs.declared.words.Command.TheVariants.{Restore, Merge, State, Pictures, Replay}
+use Rattle.commands.specs.declared.words.Command.TheVariants.{Restore, Merge, State, Pictures, Replay, Recover, Paste, Library, Insert}
 use Rattle.commands.proofs.Inputs.{input-once}
 use Rattle.commands.proofs.Reread.{board-whole}
 
@@ -200,6 +201,10 @@ answer-same Pictures bytes text other scenes others takes has also same (found, 
     let told = subst (λ s. HasPictures s text) (input-once bytes found scenes here has) is in
     (others, also, record { head = told.head; stored = told.stored; board = same-board scenes others told.head told.stored same told.board; lines = told.lines })
 answer-same Replay bytes text other scenes others takes has also same is = absurd takes
+answer-same (Recover form) bytes text other scenes others takes has also same is = absurd takes
+answer-same (Paste prefix) bytes text other scenes others takes has also same is = absurd takes
+answer-same Library bytes text other scenes others takes has also same is = absurd takes
+answer-same (Insert insertion) bytes text other scenes others takes has also same is = absurd takes
 
 pub states-stand_for : (command : Command) (inputs states : List (List ℕ)) (text : List ℕ) → TakesScenes command → AreStates inputs states
     → IsAnswer command (concat states) (Ok text) ↔ IsAnswer command (concat inputs) (Ok text)

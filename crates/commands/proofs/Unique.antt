@@ -1,5 +1,5 @@
 -- An input has one answer alone, and inputs with the same updates and heads are merged to one text.
-use Rattle.std.proofs.Common.{◌≡◌, ℕ, List, [], ◌∷◌, ◌++◌, length, Result, Ok, Err, Some, codes, decimal, refl, sym, ap, ap₂, subst, ◌∙◌}
+use Rattle.std.proofs.Common.{◌≡◌, inl, inr, ℕ, List, [], ◌∷◌, ◌++◌, length, Result, Ok, Err, Some, codes, decimal, refl, sym, ap, ap₂, subst, ◌∙◌}
 use Rattle.base64.specs.GeneralPurpose.{decode_of}
 use Rattle.base64.specs.Engines.{standard}
 use Rattle.json_text.specs.Characters.{quote}
@@ -13,30 +13,29 @@ use Rattle.file_table.specs.Picture.{HasData, HasUrl, IsDataUrl, IsPictureSize}
 use Rattle.file_table.specs.References.{referred_files}
 use Rattle.file_table.proofs.CallerLemmas.{content-unique}
 use Rattle.scene_file.specs.Heads.{Heading, IsJoinedHead}
-use Rattle.scene_file.specs.Reading.{IsSceneFaultAt}
 use Rattle.scene_file.specs.Scenes.{state_text}
 use Rattle.scene_file.specs.Texts.{IsSceneText}
 use Rattle.scene_file.specs.declared.layout.Layout.{Layout}
 use Rattle.scene_file.specs.declared.scene.Scene.{Scene}
-use Rattle.scene_file.specs.declared.fault.SceneFault.{SceneFault}
 use Rattle.scene_file.proofs.CallerLemmas.{fault-once, fault-none, head-once, joined-moved, text-once}
 use Rattle.session.specs.Printed.{IsReportText}
 use Rattle.session.proofs.CallerLemmas.{report-once}
-use Rattle.session_text.specs.Sessions.{IsSessionFault}
-use Rattle.session_text.specs.declared.fault.SessionFault.{SessionFault}
-use Rattle.session_text.specs.declared.fault.SessionFault.TheVariants.{In, TooMany}
-use Rattle.session_text.specs.declared.fault.TextFault.{TextFault}
 use Rattle.session_text.proofs.CallerLemmas.{session-once, fault-once as session-fault-once, fault-apart-session as session-none}
-use Rattle.commands.specs.Answers.{IsAnswer, IsReplayed, IsSessionRefusal, IsBoardOf, IsShownAs, IsStoredAs, HasPictures, IsOneRefusal, IsRefusal, IsMadeOf, heads_of, updates_of, shown_of, HaveSameUpdatesAndHeads}
+use Rattle.commands.specs.Answers.{IsAnswer, IsReplayed, IsSessionRefusal, session_refusal, IsShownAs, IsStoredAs, HasPictures, IsOneRefusal, IsRefusal, IsMadeOf, HaveSameUpdatesAndHeads}
+use Rattle.commands.specs.Boards.{IsBoardOf, heads_of, updates_of, shown_of}
 use Rattle.commands.specs.Faults.{newline}
-use Rattle.commands.specs.Input.{HasScenes, HasFaultyText, HasExtraText}
+use Rattle.commands.specs.Input.{HasScenes}
 use Rattle.commands.specs.Pictures.{AreLines, IsToldOfPicture}
 use Rattle.commands.specs.Pictures.IsToldOfPicture.{size, not_base64, no_data_url}
 use Rattle.commands.specs.declared.status.Refusal.{Refusal}
 use Rattle.commands.specs.declared.status.Refusal.TheVariants as refusal
 use Rattle.commands.specs.declared.words.Command.{Command}
-use Rattle.commands.specs.declared.words.Command.TheVariants.{Restore, Merge, State, Pictures, Replay}
+use Rattle.commands.specs.declared.words.Command.TheVariants.{Restore, Merge, State, Pictures, Replay, Recover, Paste, Library, Insert}
 use Rattle.commands.proofs.Reread.{scenes-whole, heads-whole, updates-elements}
+use Rattle.commands.proofs.JournalOnce.{recovered-once}
+use Rattle.commands.proofs.PasteOnce.{pasted-once}
+use Rattle.commands.proofs.ShelfOnce.{shelf-once}
+use Rattle.commands.proofs.InsertOnce.{inserted-once}
 use Rattle.commands.proofs.Inputs.{input-once, faulty-once, faulty-scenes, extra-scene, extra-once}
 
 -- ---- the board of scenes
@@ -104,68 +103,30 @@ pictures-once {other = other} a b =
 
 -- ---- faults
 refusal-once : (bytes : List ℕ) (f g : Refusal) → IsRefusal bytes f → IsRefusal bytes g → f ≡ g
-refusal-once bytes (refusal.Text number found) (refusal.Text other why) faulty wrong =
+refusal-once bytes f g (number, found, is, faulty) (other, why, also, wrong) =
     let same = faulty-once bytes number other found why faulty wrong in
-    ap₂ refusal.Text same.0 same.1
-refusal-once bytes (refusal.Text number found) (refusal.Extra at) faulty none = absurd none
-refusal-once bytes (refusal.Text number found) (refusal.Event other why) faulty none = absurd none
-refusal-once bytes (refusal.Text number found) refusal.TooMany faulty none = absurd none
-refusal-once bytes (refusal.Extra at) g none also = absurd none
-refusal-once bytes (refusal.Event number found) g none also = absurd none
-refusal-once bytes refusal.TooMany g none also = absurd none
+    is ∙ (ap₂ refusal.Text same.0 same.1 ∙ sym also)
 
 pub refusal-none : (bytes : List ℕ) (f : Refusal) (scenes : List Scene) → IsRefusal bytes f → HasScenes bytes scenes → ⊥
-refusal-none bytes (refusal.Text number found) scenes faulty has = faulty-scenes bytes number found scenes faulty has
-refusal-none bytes (refusal.Extra at) scenes none has = none
-refusal-none bytes (refusal.Event number found) scenes none has = none
-refusal-none bytes refusal.TooMany scenes none has = none
+refusal-none bytes f scenes (number, found, is, faulty) has = faulty-scenes bytes number found scenes faulty has
 
 -- a refusal of what is to be one scene: for its text, or for what follows it
-data Refused (bytes : List ℕ) : Refusal → Type 0 where
-  in_text : (found : SceneFault) → IsSceneFaultAt bytes 0 found → Refused bytes (refusal.Text 1 found)
-  behind : (at : ℕ) → HasExtraText bytes at → Refused bytes (refusal.Extra at)
+one-once : (bytes : List ℕ) (f g : Refusal) → IsOneRefusal bytes f → IsOneRefusal bytes g → f ≡ g
+one-once bytes f g (inl (found, is, at)) (inl (other, also, too)) = is ∙ (ap (refusal.Text 1) (fault-once bytes 0 found other at too) ∙ sym also)
+one-once bytes f g (inl (found, is, at)) (inr (place, also, e)) = absurd (fault-none bytes 0 found at e.lead)
+one-once bytes f g (inr (place, is, e)) (inl (found, also, at)) = absurd (fault-none bytes 0 found at e.lead)
+one-once bytes f g (inr (place, is, e)) (inr (other, also, d)) = is ∙ (ap refusal.Extra (extra-once bytes place other e d) ∙ sym also)
 
-refused : (bytes : List ℕ) (f : Refusal) → IsOneRefusal bytes f → Refused bytes f
-refused bytes (refusal.Text number found) (one, is) = subst (λ n. Refused bytes (refusal.Text n found)) (sym one) (in_text found is)
-refused bytes (refusal.Extra at) is = behind at is
-refused bytes (refusal.Event number found) none = absurd none
-refused bytes refusal.TooMany none = absurd none
-
-refused-once : (bytes : List ℕ) (f g : Refusal) → Refused bytes f → Refused bytes g → f ≡ g
-refused-once bytes f g (in_text found is) (in_text other also) = ap (refusal.Text 1) (fault-once bytes 0 found other is also)
-refused-once bytes f g (in_text found is) (behind at e) = absurd (fault-none bytes 0 found is e.lead)
-refused-once bytes f g (behind at e) (in_text found is) = absurd (fault-none bytes 0 found is e.lead)
-refused-once bytes f g (behind at e) (behind other also) = ap refusal.Extra (extra-once bytes at other e also)
-
-refused-none : (bytes : List ℕ) (f : Refusal) (scene : Scene) → Refused bytes f → HasScenes bytes (scene ∷ []) → ⊥
-refused-none bytes f scene (in_text found is) has = fault-none bytes 0 found is has.lead.1
-refused-none bytes f scene (behind at e) has = extra-scene bytes at scene e has
+one-none : (bytes : List ℕ) (f : Refusal) (scene : Scene) → IsOneRefusal bytes f → HasScenes bytes (scene ∷ []) → ⊥
+one-none bytes f scene (inl (found, is, at)) has = fault-none bytes 0 found at has.lead.1
+one-none bytes f scene (inr (place, is, e)) has = extra-scene bytes place scene e has
 
 -- ---- sessions
-abbrev refusal-of : SessionFault → Refusal
-refusal-of (In number found) = refusal.Event number found
-refusal-of TooMany = refusal.TooMany
-
-event-many : (number : ℕ) (found : TextFault) → In number found ≡ TooMany → ⊥
-event-many number found e = cc
-
 replay-refusal-once : (bytes : List ℕ) (f g : Refusal) → IsSessionRefusal bytes f → IsSessionRefusal bytes g → f ≡ g
-replay-refusal-once bytes (refusal.Event number found) (refusal.Event other why) is also = ap refusal-of (session-fault-once bytes (In number found) (In other why) is also)
-replay-refusal-once bytes (refusal.Event number found) refusal.TooMany is also = absurd (event-many number found (session-fault-once bytes (In number found) TooMany is also))
-replay-refusal-once bytes refusal.TooMany (refusal.Event number found) is also = absurd (event-many number found (session-fault-once bytes (In number found) TooMany also is))
-replay-refusal-once bytes refusal.TooMany refusal.TooMany is also = refl
-replay-refusal-once bytes (refusal.Text number found) g none also = absurd none
-replay-refusal-once bytes (refusal.Extra at) g none also = absurd none
-replay-refusal-once bytes (refusal.Event number found) (refusal.Text other why) is none = absurd none
-replay-refusal-once bytes (refusal.Event number found) (refusal.Extra at) is none = absurd none
-replay-refusal-once bytes refusal.TooMany (refusal.Text other why) is none = absurd none
-replay-refusal-once bytes refusal.TooMany (refusal.Extra at) is none = absurd none
+replay-refusal-once bytes f g (fault, is, at) (other, also, too) = is ∙ (ap session_refusal (session-fault-once bytes fault other at too) ∙ sym also)
 
 replayed-none : (bytes text : List ℕ) (f : Refusal) → IsReplayed bytes text → IsSessionRefusal bytes f → ⊥
-replayed-none bytes text (refusal.Event number found) is refused = session-none bytes is.session (In number found) is.read refused
-replayed-none bytes text refusal.TooMany is refused = session-none bytes is.session TooMany is.read refused
-replayed-none bytes text (refusal.Text number found) is none = none
-replayed-none bytes text (refusal.Extra at) is none = none
+replayed-none bytes text f replayed (fault, is, at) = session-none bytes replayed.session fault replayed.read at
 
 replayed-once : (bytes text other : List ℕ) → IsReplayed bytes text → IsReplayed bytes other → text ≡ other
 replayed-once bytes text other a b =
@@ -184,9 +145,9 @@ made-none IsOf bytes text f (scenes, has, is) refused = refusal-none bytes f sce
 pub answer-once : (command : Command) (bytes : List ℕ) (answer other : Result (List ℕ) Refusal) → IsAnswer command bytes answer → IsAnswer command bytes other → answer ≡ other
 answer-once (Restore layout) bytes (Ok a) (Ok b) (scene, has, is) (next, also, too) =
     ap Ok (shown-once is (subst (λ s. IsShownAs s layout b) (input-once bytes (next ∷ []) (scene ∷ []) also has) too))
-answer-once (Restore layout) bytes (Ok a) (Err g) (scene, has, is) also = absurd (refused-none bytes g scene (refused bytes g also) has)
-answer-once (Restore layout) bytes (Err f) (Ok b) is (scene, has, too) = absurd (refused-none bytes f scene (refused bytes f is) has)
-answer-once (Restore layout) bytes (Err f) (Err g) is also = ap Err (refused-once bytes f g (refused bytes f is) (refused bytes g also))
+answer-once (Restore layout) bytes (Ok a) (Err g) (scene, has, is) also = absurd (one-none bytes g scene also has)
+answer-once (Restore layout) bytes (Err f) (Ok b) is (scene, has, too) = absurd (one-none bytes f scene is has)
+answer-once (Restore layout) bytes (Err f) (Err g) is also = ap Err (one-once bytes f g is also)
 answer-once (Merge layout) bytes (Ok a) (Ok b) is also = ap Ok (made-once (λ s. IsShownAs s layout) bytes a b (λ s. shown-once) is also)
 answer-once (Merge layout) bytes (Ok a) (Err g) is also = absurd (made-none (λ s. IsShownAs s layout) bytes a g is also)
 answer-once (Merge layout) bytes (Err f) (Ok b) is also = absurd (made-none (λ s. IsShownAs s layout) bytes b f also is)
@@ -203,6 +164,10 @@ answer-once Replay bytes (Ok a) (Ok b) is also = ap Ok (replayed-once bytes a b 
 answer-once Replay bytes (Ok a) (Err g) is also = absurd (replayed-none bytes a g is also)
 answer-once Replay bytes (Err f) (Ok b) is also = absurd (replayed-none bytes b f also is)
 answer-once Replay bytes (Err f) (Err g) is also = ap Err (replay-refusal-once bytes f g is also)
+answer-once (Recover form) bytes a b is also = recovered-once form bytes a b is also
+answer-once (Paste prefix) bytes a b is also = pasted-once prefix bytes a b is also
+answer-once Library bytes a b is also = shelf-once bytes a b is also
+answer-once (Insert insertion) bytes a b is also = inserted-once insertion bytes a b is also
 
 -- ---- convergence
 pub merges-converge : (layout : Layout) (bytes others text other_text : List ℕ) → HaveSameUpdatesAndHeads bytes others

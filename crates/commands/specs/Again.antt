@@ -4,7 +4,7 @@ use Rattle.std.specs.List.{concat}
 use Rattle.scene_file.specs.declared.layout.Layout.{Layout}
 use Rattle.commands.specs.Answers.{IsAnswer}
 use Rattle.commands.specs.declared.words.Command.{Command}
-use Rattle.commands.specs.declared.words.Command.TheVariants.{Restore, Merge, State, Pictures, Replay}
+use Rattle.commands.specs.declared.words.Command.TheVariants.{Restore, Merge, State, Pictures, Replay, Recover, Paste, Library, Insert}
 
 -- What was restored, in whatever layout, is restored to the texts that the input is restored to: nothing is restored twice.
 abbrev pub RestoresOnce : Type 0
@@ -25,6 +25,10 @@ TakesScenes (Merge layout) = Unit {0}
 TakesScenes State = Unit {0}
 TakesScenes Pictures = Unit {0}
 TakesScenes Replay = ⊥
+TakesScenes (Recover form) = ⊥
+TakesScenes (Paste prefix) = ⊥
+TakesScenes Library = ⊥
+TakesScenes (Insert insertion) = ⊥
 
 -- Each text is the state of the input at its place.
 abbrev pub AreStates : List (List ℕ) → List (List ℕ) → Type 0

@@ -1,46 +1,34 @@
 -- What an input is answered with, command by command. This project's own; what is stored is Excalidraw's reconcile, and the
 -- texts are after its JSON schema.
-use Rattle.std.specs.Prelude.{◌≡◌, ℕ, List, [], ◌∷◌, ◌++◌, Result, Ok, Err, flat_map, map}
+use Rattle.std.specs.Prelude.{◌≡◌, ◌⊎◌, ℕ, List, [], ◌∷◌, ◌++◌, Result, Ok, Err}
 use Rattle.elem.specs.ElementValue.{ElementValue}
-use Rattle.elem_store.specs.Updates.{AreStored, HaveSameUpdates}
+use Rattle.elem_store.specs.Updates.{HaveSameUpdates}
 use Rattle.file_table.specs.References.{referred_files}
 use Rattle.view.specs.Settled.{AreSettled}
 use Rattle.index_repair.specs.Keyed.{HaveRisingKeys}
-use Rattle.view.specs.Shown.{live_elements, shown}
-use Rattle.scene_file.specs.Heads.{Heading, IsJoinedHead, HaveSameHeads}
+use Rattle.scene_file.specs.Heads.{Heading, HaveSameHeads}
 use Rattle.scene_file.specs.Reading.{IsSceneFaultAt}
 use Rattle.scene_file.specs.Scenes.{state_text}
 use Rattle.scene_file.specs.Texts.{IsSceneText}
 use Rattle.scene_file.specs.declared.layout.Layout.{Layout}
 use Rattle.scene_file.specs.declared.scene.Scene.{Scene}
+use Rattle.scene_file.specs.declared.fault.SceneFault.{SceneFault}
 use Rattle.session.specs.Printed.{IsReportText}
 use Rattle.session_text.specs.Sessions.{IsSessionOf, IsSessionFault}
+use Rattle.session_text.specs.declared.fault.SessionFault.{SessionFault}
 use Rattle.session_text.specs.declared.fault.SessionFault.TheVariants.{In, TooMany}
 use Rattle.session_text.specs.declared.session.Session.{Session}
+use Rattle.commands.specs.Boards.{updates_of, heads_of, IsBoardOf, shown_of}
 use Rattle.commands.specs.Faults.{newline}
 use Rattle.commands.specs.Input.{HasScenes, HasFaultyText, HasExtraText}
+use Rattle.commands.specs.Journals.{IsRecovered, IsJournalRefusal}
+use Rattle.commands.specs.Pastes.{IsPasted, IsPasteRefusal}
 use Rattle.commands.specs.Pictures.{AreLines}
+use Rattle.commands.specs.Shelves.{IsShelved, IsShelfRefusal, IsInserted, IsInsertRefusal}
 use Rattle.commands.specs.declared.status.Refusal.{Refusal}
 use Rattle.commands.specs.declared.status.Refusal.TheVariants as refusal
 use Rattle.commands.specs.declared.words.Command.{Command}
-use Rattle.commands.specs.declared.words.Command.TheVariants.{Restore, Merge, State, Pictures, Replay}
-
--- the elements of scenes, one scene after the other: each is an update; and the heads of scenes
-abbrev pub updates_of : List Scene → List ElementValue
-updates_of scenes = flat_map (λ (scene : Scene). scene.elements) scenes
-
-abbrev pub heads_of : List Scene → List Heading
-heads_of scenes = map (λ (scene : Scene). scene.head) scenes
-
--- The board of these scenes has their joined head, and stores of all their updates these elements.
-pub record IsBoardOf (scenes : List Scene) (head : Heading)
-    (stored : List ElementValue) : Type 0 where
-  pub joined : IsJoinedHead (heads_of scenes) head
-  pub stores : AreStored (updates_of scenes) stored
-
--- what a board shows of its stored elements: the live ones in scene order, settled
-abbrev pub shown_of : List ElementValue → List ElementValue
-shown_of stored = shown (live_elements stored)
+use Rattle.commands.specs.declared.words.Command.TheVariants.{Restore, Merge, State, Pictures, Replay, Recover, Paste, Library, Insert}
 
 -- The text of the scene that the board of these scenes shows, and a newline. Its keys rise strictly, and its elements
 -- agree on their links, frames and groups.
@@ -70,24 +58,25 @@ pub record HasPictures (scenes : List Scene) (text : List ℕ) : Type 0 where
 
 -- The first fault of an input that is to be one scene: its first text has it, or a further byte follows the scene.
 abbrev pub IsOneRefusal : List ℕ → Refusal → Type 0
-IsOneRefusal bytes (refusal.Text number found) = (number ≡ 1) × IsSceneFaultAt bytes 0 found
-IsOneRefusal bytes (refusal.Extra at) = HasExtraText bytes at
-IsOneRefusal bytes (refusal.Event number found) = ⊥
-IsOneRefusal bytes refusal.TooMany = ⊥
+IsOneRefusal bytes found =
+    ((fault : SceneFault) × (found ≡ refusal.Text 1 fault) × IsSceneFaultAt bytes 0 fault)
+    ⊎ ((at : ℕ) × (found ≡ refusal.Extra at) × HasExtraText bytes at)
 
 -- The first fault of an input that is to be one scene at least: the first text with a fault has it.
 abbrev pub IsRefusal : List ℕ → Refusal → Type 0
-IsRefusal bytes (refusal.Text number found) = HasFaultyText bytes number found
-IsRefusal bytes (refusal.Extra at) = ⊥
-IsRefusal bytes (refusal.Event number found) = ⊥
-IsRefusal bytes refusal.TooMany = ⊥
+IsRefusal bytes found =
+    (number : ℕ) × (fault : SceneFault) × (found ≡ refusal.Text number fault)
+    × HasFaultyText bytes number fault
+
+-- what a session's fault is told as
+abbrev pub session_refusal : SessionFault → Refusal
+session_refusal (In number found) = refusal.Event number found
+session_refusal TooMany = refusal.TooMany
 
 -- The first fault of an input that is to be a session.
 abbrev pub IsSessionRefusal : List ℕ → Refusal → Type 0
-IsSessionRefusal bytes (refusal.Event number found) = IsSessionFault bytes (In number found)
-IsSessionRefusal bytes refusal.TooMany = IsSessionFault bytes TooMany
-IsSessionRefusal bytes (refusal.Text number found) = ⊥
-IsSessionRefusal bytes (refusal.Extra at) = ⊥
+IsSessionRefusal bytes found =
+    (fault : SessionFault) × (found ≡ session_refusal fault) × IsSessionFault bytes fault
 
 -- The input is a session, and this is the text of its report, and a newline.
 pub record IsReplayed (bytes text : List ℕ) : Type 0 where
@@ -114,6 +103,14 @@ IsAnswer Pictures bytes (Ok text) = IsMadeOf HasPictures bytes text
 IsAnswer Pictures bytes (Err found) = IsRefusal bytes found
 IsAnswer Replay bytes (Ok text) = IsReplayed bytes text
 IsAnswer Replay bytes (Err found) = IsSessionRefusal bytes found
+IsAnswer (Recover form) bytes (Ok text) = IsRecovered form bytes text
+IsAnswer (Recover form) bytes (Err found) = IsJournalRefusal bytes found
+IsAnswer (Paste prefix) bytes (Ok text) = IsPasted prefix bytes text
+IsAnswer (Paste prefix) bytes (Err found) = IsPasteRefusal prefix bytes found
+IsAnswer Library bytes (Ok text) = IsShelved bytes text
+IsAnswer Library bytes (Err found) = IsShelfRefusal bytes found
+IsAnswer (Insert insertion) bytes (Ok text) = IsInserted insertion bytes text
+IsAnswer (Insert insertion) bytes (Err found) = IsInsertRefusal insertion bytes found
 
 -- Two inputs are scenes with the same updates and the same heads, in whatever order, grouping and repetition.
 pub record HaveSameUpdatesAndHeads (bytes others : List ℕ) : Type 0 where

@@ -5,8 +5,8 @@ use Rattle.board_ends.specs.Ends.{LinksEnd}
 use Rattle.room_core.specs.Closing.{LeadToClose}
 use Rattle.room_core.specs.Serving.{at_start}
 use Rattle.scene_file.specs.declared.scene.Scene.{Scene}
-use Rattle.commands.specs.Answers.{IsBoardOf}
-use Rattle.commands.specs.Ends.{Span, HasLeft}
+use Rattle.commands.specs.Boards.{IsBoardOf}
+use Rattle.commands.specs.Ends.{Span, HasLeft, limit}
 use Rattle.commands.specs.Input.{HasScenes}
 use Rattle.commands.specs.Serving.{Begun, Ends, room_of}
 use Rattle.commands.specs.declared.status.Status.{Status}
@@ -31,6 +31,6 @@ pub record LeadsToClose (service : Service) (scenes : List Scene)
 -- done, or memory is wanted.
 abbrev pub IsServedToClose : Service → Ends → Status → Type 0
 IsServedToClose service ends result =
-    (bytes : List ℕ) (scenes : List Scene) → HasLeft ends.input.before bytes
+    (bytes : List ℕ) (scenes : List Scene) → HasLeft limit ends.input.before bytes
     → HasScenes bytes scenes → NoneRose ends → LeadsToClose service scenes ends.links
     → (result ≡ Done) ⊎ (result ≡ Memory)

@@ -1,5 +1,5 @@
 -- What a drill tells, and how a run of one ends. This project's own.
-use Rattle.std.specs.Prelude.{◌≡◌, ℕ, ◌≤◌, List, [], ◌∷◌, ◌++◌, Bool, true, false, bytes_eq, codes, decimal, length, slice_get, take, Contains}
+use Rattle.std.specs.Prelude.{◌≡◌, ℕ, List, [], ◌∷◌, ◌++◌, Bool, true, false, bytes_eq, codes, decimal, length, slice_get, take, Contains}
 use Rattle.std.specs.List.{list_all}
 use Rattle.std.specs.Option.{option_map_or}
 use Rattle.board_ends.specs.Counts.{Rose}

@@ -1,5 +1,5 @@
 -- What a run did to its input and its output. This project's own.
-use Rattle.std.specs.Prelude.{◌≡◌, ◌⊎◌, ℕ, ◌+◌, ◌≤◌, List, Option, Some, Result, Ok, Err, length, take}
+use Rattle.std.specs.Prelude.{◌≡◌, ◌⊎◌, ℕ, ◌+◌, ◌≤◌, List, Option, Some, None, Result, Ok, Err, length, take}
 use Rattle.board_ends.specs.Counts.{Rose}
 use Rattle.board_ends.specs.Ends.{SourceEnd, SinkEnd, Gave, Took, IsAtEnd}
 use Rattle.commands.specs.Answers.{IsAnswer}
@@ -10,6 +10,7 @@ use Rattle.commands.specs.declared.status.Fault.{Fault}
 use Rattle.commands.specs.declared.status.Fault.TheVariants as fault
 use Rattle.commands.specs.declared.status.Refusal.{Refusal}
 use Rattle.commands.specs.declared.words.Command.{Command}
+use Rattle.commands.specs.declared.words.Command.TheVariants.{Recover}
 
 -- What is seen of an end before a run, and after it.
 pub record Span (End : Type 0) : Type 0 where
@@ -19,58 +20,87 @@ pub record Span (End : Type 0) : Type 0 where
 abbrev pub span : {End : Type 0} → End → End → Span End
 span before after = record { before = before; after = after }
 
--- how many bytes an input has at most
-abbrev pub limit : ℕ
-limit = 67108864
+-- how many bytes an input of texts has at most
+abbrev pub limit : Option ℕ
+limit = Some 67108864
 
--- The input gave some bytes, within the limit.
-abbrev pub GaveWithin : Span SourceEnd → Type 0
-GaveWithin input = (bytes : List ℕ) × (length bytes ≤ limit) × Gave input.before input.after bytes
+-- how many bytes the input of a command has at most: a journal may have any number of them
+abbrev pub limit_of : Command → Option ℕ
+limit_of (Recover form) = None
+limit_of other = limit
 
--- The input gave one byte more than the limit.
-abbrev pub GaveTooMuch : Span SourceEnd → Type 0
-GaveTooMuch input =
-    (bytes : List ℕ) × (length bytes ≡ limit + 1) × Gave input.before input.after bytes
+-- So many bytes are within a limit, where there is one.
+abbrev pub IsWithin : Option ℕ → ℕ → Type 0
+IsWithin None count = Unit {0}
+IsWithin (Some most) count = count ≤ most
+
+-- The input gave some bytes, within the limit. Where there is none, this says nothing.
+abbrev pub GaveWithin : Option ℕ → Span SourceEnd → Type 0
+GaveWithin None input = Unit {0}
+GaveWithin (Some most) input =
+    (bytes : List ℕ) × (length bytes ≤ most) × Gave input.before input.after bytes
+
+-- The input gave one byte more than the limit, where there is one.
+abbrev pub GaveTooMuch : Option ℕ → Span SourceEnd → Type 0
+GaveTooMuch None input = ⊥
+GaveTooMuch (Some most) input =
+    (bytes : List ℕ) × (length bytes ≡ most + 1) × Gave input.before input.after bytes
 
 -- The input gave these bytes, within the limit, and is at its end.
-pub record WasRead (input : Span SourceEnd) (bytes : List ℕ) : Type 0 where
-  pub within : length bytes ≤ limit
+pub record WasRead (most : Option ℕ) (input : Span SourceEnd) (bytes : List ℕ) : Type 0 where
+  pub within : IsWithin most (length bytes)
   pub given : Gave input.before input.after bytes
   pub at_end : IsAtEnd input.after
 
 -- The input has these bytes, within the limit, to give.
-pub record HasLeft (before : SourceEnd) (bytes : List ℕ) : Type 0 where
+pub record HasLeft (most : Option ℕ) (before : SourceEnd) (bytes : List ℕ) : Type 0 where
   pub told : before.left ≡ Some bytes
-  pub within : length bytes ≤ limit
+  pub within : IsWithin most (length bytes)
 
--- The command that was asked for answers the input, which was read to its end, with a text, of which so much was written.
-pub record WasAnswered (command : Option Command) (input : Span SourceEnd) (output : Span SinkEnd)
+-- no bytes are refused
+abbrev pub IsNeverRefused : List ℕ → Refusal → Type 0
+IsNeverRefused bytes found = ⊥
+
+-- What a fault of reading an input comes from, which is refused so: a failure to read where the input's count of faults
+-- rose; more bytes than the limit; or bytes that were read to their end and are to be refused.
+abbrev pub IsInputFault : Option ℕ → (List ℕ → Refusal → Type 0) → Span SourceEnd → Fault → Type 0
+IsInputFault most IsRefused input fault.Memory = Unit {0}
+IsInputFault most IsRefused input fault.Usage = ⊥
+IsInputFault most IsRefused input fault.Read =
+    Rose input.before.faults input.after.faults × GaveWithin most input
+IsInputFault most IsRefused input fault.TooLong = GaveTooMuch most input
+IsInputFault most IsRefused input (fault.Refused found) =
+    (bytes : List ℕ) × WasRead most input bytes × IsRefused bytes found
+IsInputFault most IsRefused input fault.Write = ⊥
+
+-- The command answers the input, which was read to its end, with a text, of which so much was written.
+pub record WasAnswered (command : Command) (input : Span SourceEnd) (output : Span SinkEnd)
     (part : List ℕ → List ℕ) : Type 0 where
-  pub asked : Command
-  pub is_asked : command ≡ Some asked
   pub bytes : List ℕ
-  pub read : WasRead input bytes
+  pub read : WasRead (limit_of command) input bytes
   pub text : List ℕ
-  pub answer : IsAnswer asked bytes (Ok text)
+  pub answer : IsAnswer command bytes (Ok text)
   pub took : Took output.before output.after (part text)
 
 -- All of the text was written.
-abbrev pub WasDone : Option Command → Span SourceEnd → Span SinkEnd → Type 0
+abbrev pub WasDone : Command → Span SourceEnd → Span SinkEnd → Type 0
 WasDone command input output = WasAnswered command input output (λ text. text)
 
 -- A first part of the text was written, and the output's count of faults rose.
-abbrev pub WasDoneInPart : Option Command → Span SourceEnd → Span SinkEnd → Type 0
+abbrev pub WasDoneInPart : Command → Span SourceEnd → Span SinkEnd → Type 0
 WasDoneInPart command input output =
     ((n : ℕ) × WasAnswered command input output (take n))
     × Rose output.before.faults output.after.faults
 
--- The input gave one byte more than the limit; or it was read to its end, and the command that was asked for answers it
--- with this refusal.
-abbrev pub WasRefused : Option Command → Fault → Span SourceEnd → Type 0
-WasRefused command fault.TooLong input = GaveTooMuch input
+-- what a command refuses bytes for
+abbrev pub IsRefusalOf : Command → List ℕ → Refusal → Type 0
+IsRefusalOf command bytes found = IsAnswer command bytes (Err found)
+
+-- The input gave one byte more than the limit; or it was read to its end, and the command answers it with this refusal.
+abbrev pub WasRefused : Command → Fault → Span SourceEnd → Type 0
+WasRefused command fault.TooLong input = GaveTooMuch (limit_of command) input
 WasRefused command (fault.Refused found) input =
-    (asked : Command) × (command ≡ Some asked) × (bytes : List ℕ) × WasRead input bytes
-    × IsAnswer asked bytes (Err found)
+    (bytes : List ℕ) × WasRead (limit_of command) input bytes × IsRefusalOf command bytes found
 WasRefused command other input = ⊥
 
 -- How a run ends whose input has this answer: Done, and the text was written, or WriteFault, where the output's count of

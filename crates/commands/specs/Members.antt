@@ -9,7 +9,7 @@ use Rattle.room_core.specs.Serving.{Round, AreRounds, at_start, serving_at, step
 use Rattle.room_core.specs.declared.limits.RoomLimits.{RoomLimits}
 use Rattle.scene_file.specs.Heads.{Heading}
 use Rattle.scene_file.specs.declared.scene.Scene.{Scene}
-use Rattle.commands.specs.Answers.{IsBoardOf}
+use Rattle.commands.specs.Boards.{IsBoardOf}
 use Rattle.commands.specs.Input.{HasScenes}
 
 -- The room begins with what the board of an input's scenes stores; after these rounds it is the last

@@ -6,7 +6,7 @@ use Rattle.intake.specs.declared.reading.Stopped.{Stopped}
 use Rattle.intake.specs.declared.reading.Stopped.TheVariants.{Faulty, Refused, Extra}
 use Rattle.scene_file.specs.Heads.{Heading}
 use Rattle.scene_file.specs.Reading.{IsSceneOf, IsSceneFault}
-use Rattle.commands.specs.Answers.{IsBoardOf}
+use Rattle.commands.specs.Boards.{IsBoardOf}
 use Rattle.commands.specs.declared.status.Refusal.{Refusal}
 use Rattle.commands.specs.declared.status.Refusal.TheVariants as refusal
 use Rattle.scene_file.specs.declared.scene.Scene.{Scene}

@@ -19,7 +19,7 @@ use Rattle.session_text.specs.declared.session.Session.{Session}
 use Rattle.view.specs.Settled.{AreSettled}
 use Rattle.index_repair.specs.Keyed.{HaveRisingKeys}
 use Rattle.commands.specs.Answers.{IsReplayed}
-use Rattle.commands.specs.Ends.{Span, WasRead}
+use Rattle.commands.specs.Ends.{Span, WasRead, limit}
 
 -- ---- the laws on one session, each of them after any number of its events
 -- Each replica stores, per id, the one update that it took and that no other one of the id beats, and
@@ -203,7 +203,7 @@ pub record HasLaws (session : Session) : Type 0 where
 -- written.
 pub record WroteLawfulReport (input : Span SourceEnd) (output : Span SinkEnd) : Type 0 where
   pub bytes : List ℕ
-  pub read : WasRead input bytes
+  pub read : WasRead limit input bytes
   pub text : List ℕ
   pub replayed : IsReplayed bytes text
   pub laws : HasLaws replayed.session

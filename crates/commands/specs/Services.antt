@@ -1,9 +1,10 @@
 -- What the words of a service and of a drill say. This project's own.
-use Rattle.std.specs.Prelude.{ℕ, ◌≤◌, List, [], ◌∷◌, Bool, ◌&&◌, Option, Some, None, nat_le, bytes_eq, decimal, if◌then◌else◌}
+use Rattle.std.specs.Prelude.{ℕ, ◌≤◌, List, Bool, ◌&&◌, Option, Some, None, nat_le, bytes_eq, decimal, if◌then◌else◌}
 use Rattle.std.specs.Str.Parse.{digits_value}
 use Rattle.scene_file.specs.declared.layout.Layout.{Layout}
-use Rattle.room_core.specs.declared.limits.RoomLimits.{RoomLimits}
+use Rattle.commands.specs.declared.words.Begins.{Begins}
 use Rattle.commands.specs.declared.words.Drill.{Drill}
+use Rattle.commands.specs.declared.words.Keeping.{Keeping}
 use Rattle.commands.specs.declared.words.Service.{Service}
 
 -- how many events other than Idle a room is served at most
@@ -31,6 +32,18 @@ pub record IsService (service : Service) : Type 0 where
   pub links : 1 ≤ service.limits.links
   pub idle : 1 ≤ service.limits.idle
   pub events : 1 ≤ service.limits.events
+
+-- the durable room with these numbers that begins with this, where all are there
+abbrev pub keeping_of : Option ℕ → Option ℕ → Option ℕ → Option Begins → Option Keeping
+keeping_of (Some port) (Some links) (Some idle) (Some begins) =
+    Some (record { port = port; limits = record { links = links; idle = idle; events = most_room_events }; begins = begins })
+keeping_of port links idle begins = None
+
+-- Each of its limits is at least 1.
+pub record IsKeeping (keeping : Keeping) : Type 0 where
+  pub links : 1 ≤ keeping.limits.links
+  pub idle : 1 ≤ keeping.limits.idle
+  pub events : 1 ≤ keeping.limits.events
 
 -- the drill with these numbers, where both are there
 abbrev pub drill_of : Option ℕ → Option ℕ → Option Drill

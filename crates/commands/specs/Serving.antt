@@ -3,19 +3,16 @@ use Rattle.std.specs.Prelude.{◌≡◌, ◌≢◌, ◌⊎◌, ℕ, List, [], �
 use Rattle.board_ends.specs.Counts.{Rose, one_more}
 use Rattle.board_ends.specs.Ends.{SourceEnd, SinkEnd, LinksEnd, Took}
 use Rattle.elem.specs.ElementValue.{ElementValue}
-use Rattle.view.specs.Settled.{AreSettled}
-use Rattle.index_repair.specs.Keyed.{HaveRisingKeys}
 use Rattle.scene_file.specs.Heads.{Heading}
-use Rattle.scene_file.specs.Texts.{IsSceneText}
-use Rattle.scene_file.specs.declared.layout.Layout.{Layout}
 use Rattle.scene_file.specs.declared.scene.Scene.{Scene}
 use Rattle.room_core.specs.Rooms.{RoomState}
 use Rattle.room_core.specs.Serving.{at_start, IsServed}
 use Rattle.room_core.specs.Told.{Tells}
 use Rattle.room_core.specs.declared.limits.ServeEnd.{ServeEnd}
 use Rattle.room_core.specs.declared.limits.ServeEnd.TheVariants.{AllClosed, Idle as IdleEnd, LinkFault as LinkEnd, LinksFull, EventsFull, Memory as MemoryEnd}
-use Rattle.commands.specs.Answers.{IsBoardOf, IsRefusal, shown_of}
-use Rattle.commands.specs.Ends.{Span, GaveWithin, GaveTooMuch, WasRead}
+use Rattle.commands.specs.Answers.{IsRefusal}
+use Rattle.commands.specs.Boards.{IsBoardOf, IsSceneOfStored}
+use Rattle.commands.specs.Ends.{Span, GaveWithin, GaveTooMuch, WasRead, IsInputFault, limit}
 use Rattle.commands.specs.Faults.{newline, status_of, Noted, IsNoted}
 use Rattle.commands.specs.Input.{HasScenes}
 use Rattle.commands.specs.declared.status.Fault.{Fault}
@@ -37,16 +34,6 @@ ends input output links = record { input = input; output = output; links = links
 -- a room that stores these elements, without links
 abbrev pub room_of : List ElementValue → RoomState
 room_of stored = record { elements = stored; joined = [] }
-
--- The text is that of the scene that is shown of these stored elements, and a newline. Its keys rise strictly, and its
--- elements agree on their links, frames and groups.
-pub record IsSceneOfStored (layout : Layout) (head : Heading) (stored : List ElementValue)
-    (text : List ℕ) : Type 0 where
-  pub written : List ℕ
-  pub scene : IsSceneText layout head (shown_of stored) written
-  pub ended : text ≡ written ++ newline
-  pub rise : HaveRisingKeys (shown_of stored)
-  pub settled : AreSettled (shown_of stored)
 
 -- What a room begins with: the head of its scenes, and what is stored of their updates.
 pub record Begun : Type 0 where
@@ -84,7 +71,7 @@ pub record ListensOn (service : Service) (end : ServeEnd) (links : Span LinksEnd
 pub record WasServed (service : Service) (end : ServeEnd) (ends : Ends)
     (part : List ℕ → List ℕ) : Type 0 where
   pub bytes : List ℕ
-  pub read : WasRead ends.input bytes
+  pub read : WasRead limit ends.input bytes
   pub scenes : List Scene
   pub has_scenes : HasScenes bytes scenes
   pub text : List ℕ
@@ -106,9 +93,9 @@ WasServedInPart service ends =
 
 -- The input was refused: it is too long, or no scenes, with this first fault.
 abbrev pub WasInputRefused : Fault → Span SourceEnd → Type 0
-WasInputRefused fault.TooLong input = GaveTooMuch input
+WasInputRefused fault.TooLong input = GaveTooMuch limit input
 WasInputRefused (fault.Refused found) input =
-    (bytes : List ℕ) × WasRead input bytes × IsRefusal bytes found
+    (bytes : List ℕ) × WasRead limit input bytes × IsRefusal bytes found
 WasInputRefused other input = ⊥
 
 -- the status that a room's end gives
@@ -129,15 +116,11 @@ end_line LinksFull = codes "board: room: links full" ++ newline
 end_line EventsFull = codes "board: room: events full" ++ newline
 end_line MemoryEnd = codes "board: out of memory" ++ newline
 
--- What a run that serves a room and ends with a fault comes from: a failure to read or to write
--- where that end's count of faults rose, a refusal where the input is to be refused.
+-- What a run that serves a room and ends with a fault comes from: a failure to write where the
+-- output's count of faults rose; every other fault is one of reading the input.
 abbrev pub HasServingCause : Fault → Service → Ends → Type 0
-HasServingCause fault.Memory service ends = Unit {0}
-HasServingCause fault.Usage service ends = ⊥
-HasServingCause fault.Read service ends =
-    Rose ends.input.before.faults ends.input.after.faults × GaveWithin ends.input
 HasServingCause fault.Write service ends = WasServedInPart service ends
-HasServingCause found service ends = WasInputRefused found ends.input
+HasServingCause found service ends = IsInputFault limit IsRefusal ends.input found
 
 -- How a run that serves a room ends, by its status. Each end of the room is told by its line; of an
 -- input that is refused, and of one that can't be read, nothing is served and nothing written.
@@ -153,7 +136,7 @@ EndsServing service ends notes status.Refused =
     ⊎ ((end : ServeEnd) × (end_status end ≡ status.Refused) × WasServedTo service end ends
     × IsNoted (end_line end) notes.before notes.after)
 EndsServing service ends notes status.ReadFault =
-    Rose ends.input.before.faults ends.input.after.faults × GaveWithin ends.input
+    Rose ends.input.before.faults ends.input.after.faults × GaveWithin limit ends.input
     × Noted fault.Read notes.before notes.after
 EndsServing service ends notes status.WriteFault =
     WasServedInPart service ends × Noted fault.Write notes.before notes.after

@@ -1,19 +1,20 @@
 //! What an input is answered with, command by command.
 
-ghost use Rattle.std.specs.Prelude.{◌≡◌, ◌⊎◌, ◌++◌, ℕ, [], ◌∷◌, List as Items, Ok, Err, IfOk, IfErr, OnOk, IsSome};
-ghost use Rattle.board_ends.specs.Counts.{Rose};
+ghost use Rattle.std.specs.Prelude.{◌≡◌, ◌++◌, ℕ, [], ◌∷◌, List as Items, Ok, IfOk, IfErr};
 ghost use Rattle.scene_file.specs.declared.scene.Scene.{Scene};
 ghost use Rattle.session.specs.Printed.{IsReportText};
 ghost use Rattle.session_text.specs.Facts.{IsSession};
-ghost use Rattle.commands.specs.Answers.{IsAnswer, IsBoardOf, IsShownAs, IsStoredAs, HasPictures};
-ghost use Rattle.commands.specs.Ends.{span, GaveWithin, GaveTooMuch, WasRead};
+ghost use Rattle.commands.specs.Answers.{IsAnswer, IsShownAs, IsStoredAs, HasPictures};
+ghost use Rattle.commands.specs.Boards.{IsBoardOf, IsSceneOfStored};
+ghost use Rattle.commands.specs.Ends.{span, limit_of, IsInputFault, IsRefusalOf, WasRead};
 ghost use Rattle.commands.specs.Faults.{newline};
-ghost use Rattle.commands.specs.declared.status.Fault.{Fault};
-ghost use Rattle.commands.specs.declared.status.Refusal.{Refusal};
 
-use crate::input::{one_scene, session, some_board};
+use crate::input::{one_scene, session, some_board, some_shelf, whole};
+use crate::pasting::pasted;
 use crate::pictures::picture_lines;
-use crate::status::{Fault, Refusal};
+use crate::recovering::{recovered, recovered_text};
+use crate::shelving::{inserted, shelved_text};
+use crate::status::Fault;
 use crate::words::Command;
 use board_base::Bytes;
 use board_ends::Source;
@@ -31,22 +32,10 @@ pub(crate) fn answer<S: Source>(
     input: &mut S,
 ) -> Result<Bytes, Fault>
     ensures text { IfOk result (λ text. (bytes : Items ℕ)
-        × WasRead (span (S.seen input.old) (S.seen input.new)) bytes
+        × WasRead (limit_of command) (span (S.seen input.old) (S.seen input.new)) bytes
         × IsAnswer command bytes (Ok text)) }
-    ensures refused { (why : Refusal) → result ≡ Err (Fault.Refused why)
-        → (bytes : Items ℕ) × WasRead (span (S.seen input.old) (S.seen input.new)) bytes
-        × IsAnswer command bytes (Err why) }
-    ensures read_fault { result ≡ Err Fault.Read
-        → Rose (S.seen input.old).faults (S.seen input.new).faults
-        × GaveWithin (span (S.seen input.old) (S.seen input.new)) }
-    ensures too_long { result ≡ Err Fault.TooLong
-        → GaveTooMuch (span (S.seen input.old) (S.seen input.new)) }
-    ensures long { IsSome (S.seen input.old).left
-        → GaveTooMuch (span (S.seen input.old) (S.seen input.new))
-        → (result ≡ Err Fault.Memory) ⊎ (result ≡ Err Fault.TooLong) }
-    ensures only { IfErr result (λ fault. (fault ≡ Fault.Memory)
-        ⊎ ((fault ≡ Fault.Read) ⊎ ((fault ≡ Fault.TooLong)
-        ⊎ ((why : Refusal) × (fault ≡ Fault.Refused why))))) }
+    ensures fault { IfErr result (IsInputFault (limit_of command) (IsRefusalOf command)
+        (span (S.seen input.old) (S.seen input.new))) }
 {
     match command {
         Command::Restore(layout) => {
@@ -69,6 +58,22 @@ pub(crate) fn answer<S: Source>(
             let session = session(alloc, input)?;
             Ok(replayed_text(alloc, &session)?)
         }
+        Command::Recover(form) => {
+            let (head, store) = recovered(alloc, input)?;
+            Ok(recovered_text(alloc, &head, store, form)?)
+        }
+        Command::Paste(prefix) => {
+            let bytes = whole(alloc, input)?;
+            Ok(pasted(alloc, bytes.as_slice(), &prefix)?)
+        }
+        Command::Library => {
+            let shelf = some_shelf(alloc, input)?;
+            Ok(shelved_text(alloc, &shelf)?)
+        }
+        Command::Insert(insertion) => {
+            let bytes = whole(alloc, input)?;
+            Ok(inserted(alloc, bytes.as_slice(), &insertion)?)
+        }
     }
 }
 
@@ -81,8 +86,14 @@ fn restored_text(alloc: Global, scene: Scene, layout: Layout) -> Result<Bytes, A
 }
 
 /// The text of the scene that a board shows, and a newline. What it shows is moved out of the store.
-fn shown_text(alloc: Global, head: &Head, store: Store, layout: Layout) -> Result<Bytes, AllocError>
-    ensures { IfOk result (λ text. (scenes : Items Scene)
+pub(crate) fn shown_text(
+    alloc: Global,
+    head: &Head,
+    store: Store,
+    layout: Layout,
+) -> Result<Bytes, AllocError>
+    ensures scene { IfOk result (IsSceneOfStored layout head.now store.elements) }
+    ensures board { IfOk result (λ text. (scenes : Items Scene)
         → IsBoardOf scenes head.now store.elements → IsShownAs scenes layout text) }
 {
     let shown = into_shown(alloc, store)?;
@@ -118,7 +129,7 @@ fn replayed_text(alloc: Global, session: &Session) -> Result<Bytes, AllocError>
 }
 
 /// The board of one scene.
-fn board_of(alloc: Global, scene: Scene) -> Result<(Head, Store), AllocError>
+pub(crate) fn board_of(alloc: Global, scene: Scene) -> Result<(Head, Store), AllocError>
     ensures { IfOk result (λ board. IsBoardOf (scene ∷ []) board.0 board.1.elements) }
 {
     let Scene {

@@ -1,24 +1,29 @@
 //! The scenes or the session of an input.
 
-ghost use Rattle.std.specs.Prelude.{◌≡◌, ◌⊎◌, ℕ, [], ◌∷◌, List as Items, IfOk, IfErr, Err, IsSome};
-ghost use Rattle.board_ends.specs.Counts.{Rose};
+ghost use Rattle.std.specs.Prelude.{◌≡◌, ℕ, [], ◌∷◌, List as Items, IfOk, IfErr};
 ghost use Rattle.intake.specs.Texts.{AreRead};
+ghost use Rattle.library.specs.Best.{AreBest};
+ghost use Rattle.library.specs.Libraries.{HaveItems};
+ghost use Rattle.library.specs.declared.item.Item.{Item};
 ghost use Rattle.session_text.specs.Facts.{IsSession};
 ghost use Rattle.session_text.specs.Sessions.{IsSessionOf};
 ghost use Rattle.scene_file.specs.declared.scene.Scene.{Scene};
-ghost use Rattle.commands.specs.Answers.{IsBoardOf, IsOneRefusal, IsRefusal, IsSessionRefusal};
-ghost use Rattle.commands.specs.Ends.{span, GaveWithin, GaveTooMuch, WasRead};
+ghost use Rattle.commands.specs.Answers.{IsOneRefusal, IsRefusal, IsSessionRefusal};
+ghost use Rattle.commands.specs.Boards.{IsBoardOf};
+ghost use Rattle.commands.specs.Ends.{span, limit, IsInputFault, IsNeverRefused, WasRead};
 ghost use Rattle.commands.specs.Input.{HasScenes};
 ghost use Rattle.commands.specs.Readers.{refusal_of};
 ghost use Rattle.commands.specs.SessionTexts.{session_refusal_of};
+ghost use Rattle.commands.specs.Shelves.{HasTexts, IsShelfRefusal, shelf_refusal_of};
 ghost use Rattle.commands.specs.declared.status.Refusal.{Refusal};
 
 use crate::status::{Fault, Refusal};
-use crate::taking::{Gathered, OneScene, OneSession};
-use board_base::Stop;
-use board_ends::{ReadError, Source};
+use crate::taking::{Gathered, OneScene, OneSession, Shelved};
+use board_base::{Bytes, Stop};
+use board_ends::{ReadError, Source, read_all};
 use elem_store::Store;
 use intake::{Reader, Stopped, read_texts};
+use library::{LibFault, Shelf};
 use scene_file::{Head, Scene, SceneFault};
 use session_text::{Session, SessionFeed, TextFault};
 use std::alloc::Global;
@@ -29,22 +34,10 @@ const LIMIT: usize = 67108864;
 /// The one scene that the input is.
 pub(crate) fn one_scene<S: Source>(alloc: Global, input: &mut S) -> Result<Scene, Fault>
     ensures scene { IfOk result (λ scene. (bytes : Items ℕ)
-        × WasRead (span (S.seen input.old) (S.seen input.new)) bytes
+        × WasRead limit (span (S.seen input.old) (S.seen input.new)) bytes
         × HasScenes bytes (scene ∷ [])) }
-    ensures refused { (why : Refusal) → result ≡ Err (Fault.Refused why)
-        → (bytes : Items ℕ) × WasRead (span (S.seen input.old) (S.seen input.new)) bytes
-        × IsOneRefusal bytes why }
-    ensures read_fault { result ≡ Err Fault.Read
-        → Rose (S.seen input.old).faults (S.seen input.new).faults
-        × GaveWithin (span (S.seen input.old) (S.seen input.new)) }
-    ensures too_long { result ≡ Err Fault.TooLong
-        → GaveTooMuch (span (S.seen input.old) (S.seen input.new)) }
-    ensures long { IsSome (S.seen input.old).left
-        → GaveTooMuch (span (S.seen input.old) (S.seen input.new))
-        → (result ≡ Err Fault.Memory) ⊎ (result ≡ Err Fault.TooLong) }
-    ensures only { IfErr result (λ fault. (fault ≡ Fault.Memory)
-        ⊎ ((fault ≡ Fault.Read) ⊎ ((fault ≡ Fault.TooLong)
-        ⊎ ((why : Refusal) × (fault ≡ Fault.Refused why))))) }
+    ensures fault { IfErr result (IsInputFault limit IsOneRefusal
+        (span (S.seen input.old) (S.seen input.new))) }
 {
     let mut reader = OneScene { read: None };
     let found = read_input(alloc, input, &mut reader)?;
@@ -60,23 +53,11 @@ pub(crate) fn one_scene<S: Source>(alloc: Global, input: &mut S) -> Result<Scene
 /// The board of the scenes that the input is, one at least.
 pub(crate) fn some_board<S: Source>(alloc: Global, input: &mut S) -> Result<(Head, Store), Fault>
     ensures board { IfOk result (λ board. (bytes : Items ℕ)
-        × WasRead (span (S.seen input.old) (S.seen input.new)) bytes
+        × WasRead limit (span (S.seen input.old) (S.seen input.new)) bytes
         × ((scenes : Items Scene) × HasScenes bytes scenes
         × IsBoardOf scenes board.0 board.1.elements)) }
-    ensures refused { (why : Refusal) → result ≡ Err (Fault.Refused why)
-        → (bytes : Items ℕ) × WasRead (span (S.seen input.old) (S.seen input.new)) bytes
-        × IsRefusal bytes why }
-    ensures read_fault { result ≡ Err Fault.Read
-        → Rose (S.seen input.old).faults (S.seen input.new).faults
-        × GaveWithin (span (S.seen input.old) (S.seen input.new)) }
-    ensures too_long { result ≡ Err Fault.TooLong
-        → GaveTooMuch (span (S.seen input.old) (S.seen input.new)) }
-    ensures long { IsSome (S.seen input.old).left
-        → GaveTooMuch (span (S.seen input.old) (S.seen input.new))
-        → (result ≡ Err Fault.Memory) ⊎ (result ≡ Err Fault.TooLong) }
-    ensures only { IfErr result (λ fault. (fault ≡ Fault.Memory)
-        ⊎ ((fault ≡ Fault.Read) ⊎ ((fault ≡ Fault.TooLong)
-        ⊎ ((why : Refusal) × (fault ≡ Fault.Refused why))))) }
+    ensures fault { IfErr result (IsInputFault limit IsRefusal
+        (span (S.seen input.old) (S.seen input.new))) }
 {
     let mut gathered = Gathered::new(alloc);
     let found = read_input(alloc, input, &mut gathered)?;
@@ -87,26 +68,32 @@ pub(crate) fn some_board<S: Source>(alloc: Global, input: &mut S) -> Result<(Hea
     }
 }
 
+/// The best items of the libraries that the input is, one at least.
+pub(crate) fn some_shelf<S: Source>(alloc: Global, input: &mut S) -> Result<Shelf, Fault>
+    ensures shelf { IfOk result (λ shelf. (bytes : Items ℕ)
+        × WasRead limit (span (S.seen input.old) (S.seen input.new)) bytes
+        × ((texts : Items (Items ℕ)) × (items : Items Item) × HasTexts bytes texts
+        × HaveItems texts items × AreBest items shelf)) }
+    ensures fault { IfErr result (IsInputFault limit IsShelfRefusal
+        (span (S.seen input.old) (S.seen input.new))) }
+{
+    let mut shelved = Shelved::new(alloc);
+    let found = read_input(alloc, input, &mut shelved)?;
+    let Shelved { shelf, next } = shelved;
+    match found {
+        None => Ok(shelf),
+        Some(stopped) => Err(Fault::Refused(shelf_refused(next, stopped))),
+    }
+}
+
 /// The session that the input is.
 pub(crate) fn session<S: Source>(alloc: Global, input: &mut S) -> Result<Session, Fault>
     ensures session { IfOk result (λ session. (bytes : Items ℕ)
-        × WasRead (span (S.seen input.old) (S.seen input.new)) bytes
+        × WasRead limit (span (S.seen input.old) (S.seen input.new)) bytes
         × IsSessionOf bytes session) }
     ensures kept { IfOk result IsSession }
-    ensures refused { (why : Refusal) → result ≡ Err (Fault.Refused why)
-        → (bytes : Items ℕ) × WasRead (span (S.seen input.old) (S.seen input.new)) bytes
-        × IsSessionRefusal bytes why }
-    ensures read_fault { result ≡ Err Fault.Read
-        → Rose (S.seen input.old).faults (S.seen input.new).faults
-        × GaveWithin (span (S.seen input.old) (S.seen input.new)) }
-    ensures too_long { result ≡ Err Fault.TooLong
-        → GaveTooMuch (span (S.seen input.old) (S.seen input.new)) }
-    ensures long { IsSome (S.seen input.old).left
-        → GaveTooMuch (span (S.seen input.old) (S.seen input.new))
-        → (result ≡ Err Fault.Memory) ⊎ (result ≡ Err Fault.TooLong) }
-    ensures only { IfErr result (λ fault. (fault ≡ Fault.Memory)
-        ⊎ ((fault ≡ Fault.Read) ⊎ ((fault ≡ Fault.TooLong)
-        ⊎ ((why : Refusal) × (fault ≡ Fault.Refused why))))) }
+    ensures fault { IfErr result (IsInputFault limit IsSessionRefusal
+        (span (S.seen input.old) (S.seen input.new))) }
 {
     let mut reader = OneSession {
         feed: SessionFeed::new(alloc),
@@ -122,6 +109,21 @@ pub(crate) fn session<S: Source>(alloc: Global, input: &mut S) -> Result<Session
     Ok(session)
 }
 
+/// The bytes of the input, all at once.
+pub(crate) fn whole<S: Source>(alloc: Global, input: &mut S) -> Result<Bytes, Fault>
+    ensures read { IfOk result
+        (WasRead limit (span (S.seen input.old) (S.seen input.new))) }
+    ensures fault { IfErr result (IsInputFault limit IsNeverRefused
+        (span (S.seen input.old) (S.seen input.new))) }
+{
+    match read_all(alloc, input, LIMIT) {
+        Ok(bytes) => Ok(bytes),
+        Err(Stop::Fault(ReadError::Failed)) => Err(Fault::Read),
+        Err(Stop::Fault(ReadError::TooLong)) => Err(Fault::TooLong),
+        Err(Stop::Memory) => Err(Fault::Memory),
+    }
+}
+
 /// Hands the texts of the input, within the limit, to a reader that has read none.
 fn read_input<S: Source, R: Reader>(
     alloc: Global,
@@ -130,18 +132,10 @@ fn read_input<S: Source, R: Reader>(
 ) -> Result<Option<Stopped<R::Fault>>, Fault>
     requires { (R.seen reader.old).has_read [] }
     ensures read { IfOk result (λ stopped. (bytes : Items ℕ)
-        × WasRead (span (S.seen input.old) (S.seen input.new)) bytes
+        × WasRead limit (span (S.seen input.old) (S.seen input.new)) bytes
         × AreRead bytes (R.seen reader.new) stopped) }
-    ensures read_fault { result ≡ Err Fault.Read
-        → Rose (S.seen input.old).faults (S.seen input.new).faults
-        × GaveWithin (span (S.seen input.old) (S.seen input.new)) }
-    ensures too_long { result ≡ Err Fault.TooLong
-        → GaveTooMuch (span (S.seen input.old) (S.seen input.new)) }
-    ensures long { IsSome (S.seen input.old).left
-        → GaveTooMuch (span (S.seen input.old) (S.seen input.new))
-        → (result ≡ Err Fault.Memory) ⊎ (result ≡ Err Fault.TooLong) }
-    ensures only { IfErr result (λ fault. (fault ≡ Fault.Memory)
-        ⊎ ((fault ≡ Fault.Read) ⊎ (fault ≡ Fault.TooLong))) }
+    ensures fault { IfErr result (IsInputFault limit IsNeverRefused
+        (span (S.seen input.old) (S.seen input.new))) }
 {
     match read_texts(alloc, input, LIMIT, reader) {
         Ok(stopped) => Ok(stopped),
@@ -158,6 +152,17 @@ fn refused(number: usize, stopped: Stopped<SceneFault>) -> Refusal
     match stopped {
         Stopped::Faulty(fault) => Refusal::Text(number, SceneFault::Json(fault)),
         Stopped::Refused(fault) => Refusal::Text(number, fault),
+        Stopped::Extra(place) => Refusal::Extra(place),
+    }
+}
+
+/// What an input that is to be libraries is refused for, whose text with this number isn't read.
+fn shelf_refused(number: usize, stopped: Stopped<LibFault>) -> Refusal
+    ensures { result ≡ shelf_refusal_of number stopped }
+{
+    match stopped {
+        Stopped::Faulty(fault) => Refusal::Text(number, SceneFault::Json(fault)),
+        Stopped::Refused(fault) => Refusal::Library(number, fault),
         Stopped::Extra(place) => Refusal::Extra(place),
     }
 }

@@ -7,28 +7,33 @@ ghost use Rattle.scene_file.specs.Heads.{Heading, IsJoinedHead};
 ghost use Rattle.scene_file.specs.Texts.{IsSceneText};
 ghost use Rattle.scene_file.specs.declared.layout.Layout.{Layout};
 ghost use Rattle.scene_file.specs.declared.scene.Scene.{Scene};
-ghost use Rattle.commands.specs.Answers.{IsAnswer, heads_of, updates_of, shown_of};
+ghost use Rattle.commands.specs.Answers.{IsAnswer};
+ghost use Rattle.commands.specs.Boards.{heads_of, updates_of, shown_of};
 ghost use Rattle.commands.specs.Drills.{IsDrilled};
 ghost use Rattle.commands.specs.Faults.{newline};
 ghost use Rattle.commands.specs.Input.{HasScenes};
 ghost use Rattle.commands.specs.Services.{IsDrillWithinLimits};
-ghost use Rattle.commands.specs.Words.{asked, words_of};
+ghost use Rattle.commands.specs.Words.{asked, words_of, HasNames};
 ghost use Rattle.commands.specs.declared.status.Refusal.{Refusal};
 ghost use Rattle.commands.specs.declared.words.Command.{Command};
 ghost use Rattle.commands.specs.declared.words.Drill.{Drill};
 ghost use Rattle.commands.specs.declared.words.Request.{Request};
 
-/// A command is asked for by its words, and by no others.
+/// A command is asked for by its words, where these may stand for the texts that it has, and by no others.
 pub fn words_ask()
     ensures { (command : Command) (words : List (List ℕ))
-        → (asked words ≡ Some (Request.Answer command)) ↔ (words ≡ words_of command) }
+        → (asked words ≡ Some (Request.Answer command))
+        ↔ ((words ≡ words_of command) × HasNames command) }
 {}
 
-/// Each command has an answer to each input, whatever its bytes.
+/// Each command that is asked for has an answer to each input, whatever its bytes.
 pub fn answer_exists()
-    ensures { (command : Command) (bytes : List ℕ) → (answer : Result (List ℕ) Refusal)
-        × IsAnswer command bytes answer }
-{}
+    ensures { (command : Command) (bytes : List ℕ) → HasNames command
+        → (answer : Result (List ℕ) Refusal) × IsAnswer command bytes answer }
+{
+    room_msg::laws::reading_exists();
+    room_disk::laws::recovered_is_whole();
+}
 
 /// An input has one answer alone.
 pub fn answer_is_unique()

@@ -3,12 +3,17 @@
 
 mod answer;
 mod drilling;
+mod front;
 mod headline;
 mod input;
+mod keeping;
 pub mod laws;
+mod pasting;
 mod pictures;
+mod recovering;
 mod running;
 mod serving;
+mod shelving;
 mod status;
 mod sure;
 mod taking;
@@ -17,4 +22,4 @@ mod words;
 pub use running::board;
 pub use status::{Fault, Refusal, Status};
 pub use sure::board_surely;
-pub use words::{Command, Drill, Request, Service};
+pub use words::{Begins, Command, Drill, Form, Insertion, Keeping, Request, Service};

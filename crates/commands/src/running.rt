@@ -7,36 +7,39 @@ ghost use Rattle.commands.specs.Answers.{IsAnswer, Converges};
 ghost use Rattle.commands.specs.Causes.{HasCause};
 ghost use Rattle.commands.specs.Closing.{IsServedToClose};
 ghost use Rattle.commands.specs.Drills.{DrillsAgree, EndsDrilling};
-ghost use Rattle.commands.specs.Ends.{span, EndsWith, GaveWithin, GaveTooMuch, HasLeft, WasDone, WasDoneInPart, WasRefused};
+ghost use Rattle.commands.specs.Ends.{span, limit, limit_of, EndsWith, GaveWithin, GaveTooMuch, HasLeft, WasDone, WasDoneInPart, WasRefused};
 ghost use Rattle.commands.specs.Faults.{status_of, Noted};
+ghost use Rattle.commands.specs.Keeping.{limit_from, EndsKeeping, KeepsInput};
 ghost use Rattle.commands.specs.Members.{MembersAgree, MembersStoreTheRoom};
 ghost use Rattle.commands.specs.Replays.{ChangesAreCaptured, NothingIsPending, OthersChangesStay, PrintedScenesAgree, RedoIsFound, RedoRepeats, ReplicasConverge, ReplicasStoreTheBest, ToldAllStoreTheSame, UndoBringsBack, UndoIsFound, WroteLawfulReport};
-ghost use Rattle.commands.specs.Services.{IsDrillWithinLimits, IsService};
+ghost use Rattle.commands.specs.Services.{IsDrillWithinLimits, IsKeeping, IsService};
 ghost use Rattle.commands.specs.Serving.{ends, end_status, EndsServing, ServesInput, WasServedTo};
-ghost use Rattle.commands.specs.Words.{asked};
+ghost use Rattle.commands.specs.Words.{asked, HasNames};
 ghost use Rattle.room_core.specs.declared.limits.ServeEnd.{ServeEnd};
 ghost use Rattle.commands.specs.declared.status.Fault.{Fault};
 ghost use Rattle.commands.specs.declared.status.Refusal.{Refusal};
 ghost use Rattle.commands.specs.declared.words.Command.{Command};
 ghost use Rattle.commands.specs.declared.words.Drill.{Drill};
+ghost use Rattle.commands.specs.declared.words.Keeping.{Keeping};
 ghost use Rattle.commands.specs.declared.words.Request.{Request};
 ghost use Rattle.commands.specs.declared.words.Service.{Service};
 
 use crate::answer::answer;
 use crate::drilling::drill;
 use crate::headline::{drills_hold, members_hold, merges_hold, replicas_hold};
+use crate::keeping::{keep, noted_keep_end};
 use crate::serving::{noted_end, serve};
 use crate::status::{Fault, Status};
 use crate::words;
-use crate::words::{Command, Drill, Request, Service};
+use crate::words::{Command, Drill, Keeping, Request, Service};
 use board_base::Bytes;
-use board_ends::{Failed, Links, Sink, Source, write_all};
-use std::alloc::Global;
+use board_ends::{Failed, Journal, Links, Sink, Source, write_all};
+use std::alloc::{AllocError, Global};
 
 /// Does what the words ask for, over this input, output and links. On every answer but `Done` and `Idle` one line on the
 /// fault goes to the notes; a fault of the notes changes no status. The whole output is made before its first byte is
 /// written. No command but `serve` calls the links.
-pub fn board<S: Source, K: Sink, N: Sink, L: Links>(
+pub fn board<S: Source, K: Journal, N: Sink, L: Links>(
     alloc: Global,
     words: &[Bytes],
     input: &mut S,
@@ -53,37 +56,38 @@ pub fn board<S: Source, K: Sink, N: Sink, L: Links>(
     // A command that answers an input. Done: the input, read to its end, is answered with a text, and that is written.
     ensures done { (command : Command) → asked words.now ≡ Some (Request.Answer command)
         → result ≡ Status.Done
-        → WasDone (Some command) (span (S.seen input.old) (S.seen input.new))
+        → WasDone command (span (S.seen input.old) (S.seen input.new))
         (span (K.seen output.old) (K.seen output.new)) }
 
     // Refused: the input is too long, or answered with a fault, and the notes tell it.
     ensures refused { (command : Command) → asked words.now ≡ Some (Request.Answer command)
         → result ≡ Status.Refused → (fault : Fault)
-        × WasRefused (Some command) fault (span (S.seen input.old) (S.seen input.new))
+        × WasRefused command fault (span (S.seen input.old) (S.seen input.new))
         × Noted fault (N.seen notes.old) (N.seen notes.new) }
 
     // ReadFault and WriteFault: the count of faults rose; what was read was within the limit, and a first part was written.
     ensures read_fault { (command : Command) → asked words.now ≡ Some (Request.Answer command)
         → result ≡ Status.ReadFault
         → Rose (S.seen input.old).faults (S.seen input.new).faults
-        × GaveWithin (span (S.seen input.old) (S.seen input.new)) }
+        × GaveWithin (limit_of command) (span (S.seen input.old) (S.seen input.new)) }
     ensures write_fault { (command : Command) → asked words.now ≡ Some (Request.Answer command)
         → result ≡ Status.WriteFault
-        → WasDoneInPart (Some command) (span (S.seen input.old) (S.seen input.new))
+        → WasDoneInPart command (span (S.seen input.old) (S.seen input.new))
         (span (K.seen output.old) (K.seen output.new)) }
 
     // Where the input tells its bytes and doesn't fail: Done with the one text that the command answers these bytes with,
     // unless the output fails, or Refused with the one fault; or memory is wanted.
     ensures complete { (command : Command) (bytes : List ℕ)
         → asked words.now ≡ Some (Request.Answer command)
-        → HasLeft (S.seen input.old) bytes
+        → HasLeft (limit_of command) (S.seen input.old) bytes
         → ¬ Rose (S.seen input.old).faults (S.seen input.new).faults
         → (result ≡ Status.Memory) ⊎ ((answer : Result (List ℕ) Refusal)
         × IsAnswer command bytes answer
         × EndsWith answer result (span (K.seen output.old) (K.seen output.new))
         (span (N.seen notes.old) (N.seen notes.new))) }
     ensures too_long { (command : Command) → asked words.now ≡ Some (Request.Answer command)
-        → IsSome (S.seen input.old).left → GaveTooMuch (span (S.seen input.old) (S.seen input.new))
+        → IsSome (S.seen input.old).left
+        → GaveTooMuch (limit_of command) (span (S.seen input.old) (S.seen input.new))
         → (result ≡ Status.Memory)
         ⊎ ((result ≡ Status.Refused) × Noted Fault.TooLong (N.seen notes.old) (N.seen notes.new)) }
 
@@ -117,14 +121,38 @@ pub fn board<S: Source, K: Sink, N: Sink, L: Links>(
     // with its first fault; and one that is too long is refused; or memory is wanted.
     ensures serve_input { (service : Service) (bytes : List ℕ)
         → asked words.now ≡ Some (Request.Serve service)
-        → HasLeft (S.seen input.old) bytes
+        → HasLeft limit (S.seen input.old) bytes
         → ¬ Rose (S.seen input.old).faults (S.seen input.new).faults
         → (result ≡ Status.Memory) ⊎ ServesInput service bytes
         (ends (span (S.seen input.old) (S.seen input.new))
         (span (K.seen output.old) (K.seen output.new)) (span (L.seen links.old) (L.seen links.new)))
         (span (N.seen notes.old) (N.seen notes.new)) result }
     ensures serve_too_long { (service : Service) → asked words.now ≡ Some (Request.Serve service)
-        → IsSome (S.seen input.old).left → GaveTooMuch (span (S.seen input.old) (S.seen input.new))
+        → IsSome (S.seen input.old).left
+        → GaveTooMuch limit (span (S.seen input.old) (S.seen input.new))
+        → (result ≡ Status.Memory)
+        ⊎ ((result ≡ Status.Refused) × Noted Fault.TooLong (N.seen notes.old) (N.seen notes.new)) }
+
+    // A durable room: each end by its cause, what was read, sent and kept by then, and what a stop leaves of that.
+    ensures kept { (keeping : Keeping) → asked words.now ≡ Some (Request.Keep keeping)
+        → EndsKeeping keeping
+        (ends (span (S.seen input.old) (S.seen input.new))
+        (span (K.seen output.old) (K.seen output.new)) (span (L.seen links.old) (L.seen links.new)))
+        (span (N.seen notes.old) (N.seen notes.new)) result }
+
+    // Where the input tells its bytes and doesn't fail, a room that begins with them is kept, or they are refused with their
+    // first fault; and an input that is too long is refused; or memory is wanted.
+    ensures keep_input { (keeping : Keeping) (bytes : List ℕ)
+        → asked words.now ≡ Some (Request.Keep keeping)
+        → HasLeft (limit_from keeping.begins) (S.seen input.old) bytes
+        → ¬ Rose (S.seen input.old).faults (S.seen input.new).faults
+        → (result ≡ Status.Memory) ⊎ KeepsInput keeping bytes
+        (ends (span (S.seen input.old) (S.seen input.new))
+        (span (K.seen output.old) (K.seen output.new)) (span (L.seen links.old) (L.seen links.new)))
+        (span (N.seen notes.old) (N.seen notes.new)) result }
+    ensures keep_too_long { (keeping : Keeping) → asked words.now ≡ Some (Request.Keep keeping)
+        → IsSome (S.seen input.old).left
+        → GaveTooMuch (limit_from keeping.begins) (span (S.seen input.old) (S.seen input.new))
         → (result ≡ Status.Memory)
         ⊎ ((result ≡ Status.Refused) × Noted Fault.TooLong (N.seen notes.old) (N.seen notes.new)) }
 
@@ -138,8 +166,12 @@ pub fn board<S: Source, K: Sink, N: Sink, L: Links>(
     ensures drill_unread { (drill : Drill) → asked words.now ≡ Some (Request.Drill drill)
         → (input.new ≡ input.old) × (links.new ≡ links.old) }
 
-    ensures unwritten { (result ≡ Status.Memory)
-        ⊎ ((result ≡ Status.Usage) ⊎ (result ≡ Status.ReadFault)) → output.new ≡ output.old }
+    // At want of memory nothing is written either, but by a durable room.
+    ensures unwritten { (result ≡ Status.Usage) ⊎ (result ≡ Status.ReadFault)
+        → output.new ≡ output.old }
+    ensures unwritten_at_memory { result ≡ Status.Memory
+        → ((keeping : Keeping) → asked words.now ≢ Some (Request.Keep keeping))
+        → output.new ≡ output.old }
     ensures unserved { result ≡ Status.ReadFault → links.new ≡ links.old }
     ensures refused_unserved { (service : Service) → asked words.now ≡ Some (Request.Serve service)
         → result ≡ Status.Refused
@@ -191,11 +223,25 @@ pub fn board<S: Source, K: Sink, N: Sink, L: Links>(
     replicas_hold();
     members_hold();
     drills_hold();
-    match words::asked(words) {
-        None => Fault::Usage.noted(notes),
-        Some(Request::Answer(command)) => answer_run(alloc, command, input, output, notes),
-        Some(Request::Drill(request)) => drill_run(alloc, request, output, notes),
-        Some(Request::Serve(service)) => serve_run(alloc, service, input, output, notes, links),
+    match request(alloc, words) {
+        Ok(Request::Answer(command)) => answer_run(alloc, command, input, output, notes),
+        Ok(Request::Drill(drill)) => drill_run(alloc, drill, output, notes),
+        Ok(Request::Serve(service)) => serve_run(alloc, service, input, output, notes, links),
+        Ok(Request::Keep(keeping)) => keep_run(alloc, keeping, input, output, notes, links),
+        Err(fault) => fault.noted(notes),
+    }
+}
+
+/// What the words ask for.
+fn request(alloc: Global, words: &[Bytes]) -> Result<Request, Fault>
+    ensures asked { IfOk result (λ request. asked words.now ≡ Some request) }
+    ensures fault { IfErr result (λ fault. ((fault ≡ Fault.Usage) × (asked words.now ≡ None))
+        ⊎ ((fault ≡ Fault.Memory) × IsSome (asked words.now))) }
+{
+    match words::asked(alloc, words) {
+        Ok(Some(request)) => Ok(request),
+        Ok(None) => Err(Fault::Usage),
+        Err(AllocError) => Err(Fault::Memory),
     }
 }
 
@@ -207,26 +253,27 @@ fn answer_run<S: Source, K: Sink, N: Sink>(
     output: &mut K,
     notes: &mut N,
 ) -> Status
+    requires { HasNames command }
     ensures done { result ≡ Status.Done
-        → WasDone (Some command) (span (S.seen input.old) (S.seen input.new))
+        → WasDone command (span (S.seen input.old) (S.seen input.new))
         (span (K.seen output.old) (K.seen output.new)) }
     ensures refused { result ≡ Status.Refused → (fault : Fault)
-        × WasRefused (Some command) fault (span (S.seen input.old) (S.seen input.new))
+        × WasRefused command fault (span (S.seen input.old) (S.seen input.new))
         × Noted fault (N.seen notes.old) (N.seen notes.new) }
     ensures read_fault { result ≡ Status.ReadFault
         → Rose (S.seen input.old).faults (S.seen input.new).faults
-        × GaveWithin (span (S.seen input.old) (S.seen input.new)) }
+        × GaveWithin (limit_of command) (span (S.seen input.old) (S.seen input.new)) }
     ensures write_fault { result ≡ Status.WriteFault
-        → WasDoneInPart (Some command) (span (S.seen input.old) (S.seen input.new))
+        → WasDoneInPart command (span (S.seen input.old) (S.seen input.new))
         (span (K.seen output.old) (K.seen output.new)) }
-    ensures complete { (bytes : List ℕ) → HasLeft (S.seen input.old) bytes
+    ensures complete { (bytes : List ℕ) → HasLeft (limit_of command) (S.seen input.old) bytes
         → ¬ Rose (S.seen input.old).faults (S.seen input.new).faults
         → (result ≡ Status.Memory) ⊎ ((answer : Result (List ℕ) Refusal)
         × IsAnswer command bytes answer
         × EndsWith answer result (span (K.seen output.old) (K.seen output.new))
         (span (N.seen notes.old) (N.seen notes.new))) }
     ensures too_long { IsSome (S.seen input.old).left
-        → GaveTooMuch (span (S.seen input.old) (S.seen input.new))
+        → GaveTooMuch (limit_of command) (span (S.seen input.old) (S.seen input.new))
         → (result ≡ Status.Memory)
         ⊎ ((result ≡ Status.Refused) × Noted Fault.TooLong (N.seen notes.old) (N.seen notes.new)) }
     ensures used { result ≢ Status.Usage }
@@ -238,6 +285,8 @@ fn answer_run<S: Source, K: Sink, N: Sink>(
         × Noted fault (N.seen notes.old) (N.seen notes.new) }
     ensures unlinked { (result ≢ Status.LinkFault) × (result ≢ Status.Idle) }
 {
+    room_msg::laws::reading_exists();
+    room_disk::laws::recovered_is_whole();
     match run(alloc, command, input, output) {
         Ok(()) => Status::Done,
         Err(fault) => fault.noted(notes),
@@ -301,6 +350,30 @@ fn serve_run<S: Source, K: Sink, N: Sink, L: Links>(
     }
 }
 
+/// Serves a durable room, whose journal is the output, or notes why not.
+fn keep_run<S: Source, K: Journal, N: Sink, L: Links>(
+    alloc: Global,
+    keeping: Keeping,
+    input: &mut S,
+    output: &mut K,
+    notes: &mut N,
+    links: &mut L,
+) -> Status
+    requires { IsKeeping keeping }
+    ensures kept { EndsKeeping keeping
+        (ends (span (S.seen input.old) (S.seen input.new))
+        (span (K.seen output.old) (K.seen output.new)) (span (L.seen links.old) (L.seen links.new)))
+        (span (N.seen notes.old) (N.seen notes.new)) result }
+    ensures notes_kept { (result ≡ Status.Done) ⊎ (result ≡ Status.Idle) → notes.new ≡ notes.old }
+    ensures unwritten { result ≡ Status.ReadFault → output.new ≡ output.old }
+    ensures unserved { result ≡ Status.ReadFault → links.new ≡ links.old }
+{
+    match keep(alloc, keeping, input, output, links) {
+        Ok(end) => noted_keep_end(end, notes),
+        Err(fault) => fault.noted(notes),
+    }
+}
+
 /// Answers the input with a text, and writes that.
 fn run<S: Source, K: Sink>(
     alloc: Global,
@@ -310,14 +383,11 @@ fn run<S: Source, K: Sink>(
 ) -> Result<(), Fault>
     ensures used { result ≢ Err Fault.Usage }
     ensures done { OnOk result
-        (WasDone (Some command) (span (S.seen input.old) (S.seen input.new))
+        (WasDone command (span (S.seen input.old) (S.seen input.new))
         (span (K.seen output.old) (K.seen output.new))) }
-    ensures fault { IfErr result (λ fault. HasCause fault (Some command)
+    ensures fault { IfErr result (λ fault. HasCause fault command
         (span (S.seen input.old) (S.seen input.new))
         (span (K.seen output.old) (K.seen output.new))) }
-    ensures too_long { IsSome (S.seen input.old).left
-        → GaveTooMuch (span (S.seen input.old) (S.seen input.new))
-        → (result ≡ Err Fault.Memory) ⊎ (result ≡ Err Fault.TooLong) }
     ensures output_kept { IfErr result (λ fault. fault ≢ Fault.Write → output.new ≡ output.old) }
 {
     let text = answer(alloc, command, input)?;

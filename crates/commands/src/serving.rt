@@ -4,11 +4,12 @@ ghost use Rattle.std.specs.Prelude.{◌≡◌, ◌≢◌, ◌⊎◌, ℕ, Some, 
 ghost use Rattle.board_ends.specs.Counts.{Rose};
 ghost use Rattle.room_core.specs.Serving.{at_start, IsServed};
 ghost use Rattle.scene_file.specs.declared.scene.Scene.{Scene};
-ghost use Rattle.commands.specs.Answers.{IsBoardOf, IsRefusal};
+ghost use Rattle.commands.specs.Answers.{IsRefusal};
+ghost use Rattle.commands.specs.Boards.{IsBoardOf, IsSceneOfStored};
 ghost use Rattle.commands.specs.Ends.{span, GaveWithin, GaveTooMuch, WasRead};
 ghost use Rattle.commands.specs.Input.{HasScenes};
 ghost use Rattle.commands.specs.Services.{IsService};
-ghost use Rattle.commands.specs.Serving.{ends, end_line, end_status, HasServingCause, IsSceneOfStored, ListensOn, WasHeld, WasServedTo};
+ghost use Rattle.commands.specs.Serving.{ends, end_line, end_status, HasServingCause, ListensOn, WasHeld, WasServedTo};
 ghost use Rattle.commands.specs.Faults.{IsNoted};
 ghost use Rattle.commands.specs.declared.status.Fault.{Fault};
 ghost use Rattle.commands.specs.declared.status.Refusal.{Refusal};

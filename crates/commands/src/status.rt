@@ -2,12 +2,16 @@
 
 ghost use Rattle.std.specs.Prelude.{◌≡◌, ◌++◌, codes, decimal};
 ghost use Rattle.board_base.specs.Pieces.{line_text, piece_text};
-ghost use Rattle.commands.specs.Faults.{code_of, newline, status_of, line_of, Noted};
+ghost use Rattle.commands.specs.Faults.{code_of, newline, status_of, line_of, text_line, Noted};
+ghost use Rattle.library.specs.Faults.{item_fault_words};
 ghost use Rattle.commands.specs.declared.status.Fault.{Fault};
 ghost use Rattle.commands.specs.declared.status.Refusal.{Refusal};
 
-use board_base::Piece;
+use board_base::{Piece, Stop};
 use board_ends::{Sink, write_pieces};
+use board_paste::ClipFault;
+use library::{ItemFault, LibFault};
+use room_disk::LineFault;
 use scene_file::SceneFault;
 use session_text::TextFault;
 use std::alloc::AllocError;
@@ -65,6 +69,17 @@ pub enum Refusal {
     Event(u64, TextFault),
     /// A session has more events than it may have.
     TooMany,
+    /// The line with this number of a journal, counted from 1, has this fault.
+    Line(u64, LineFault),
+    /// The second text is to be a clip, and has this fault.
+    Clip(ClipFault),
+    /// The text with this number, counted from 1, is to be a library, and has this fault.
+    Library(usize, LibFault),
+    /// The library has no item of the id that is to be inserted.
+    NoItem,
+    /// The id is stored that the copy of the element at this place of the second text's array would have, or of the item's
+    /// elements in it.
+    Exists(u64),
 }
 
 /// Why a run didn't do what it was asked for.
@@ -95,6 +110,20 @@ impl From<AllocError> for Fault {
     }
 }
 
+impl From<Stop<Refusal>> for Fault {
+    ghost use Rattle.std.specs.Prelude.{◌≡◌};
+    ghost use Rattle.commands.specs.Faults.{stopped};
+
+    ghost from_gives = { λ stop fault. fault ≡ stopped stop };
+
+    fn from(stop: Stop<Refusal>) -> Fault {
+        match stop {
+            Stop::Fault(why) => Fault::Refused(why),
+            Stop::Memory => Fault::Memory,
+        }
+    }
+}
+
 impl Fault {
     /// The status that this fault ends with.
     pub fn status(self) -> Status
@@ -119,13 +148,13 @@ impl Fault {
     }
 
     /// The pieces of the line that tells this fault.
-    fn pieces(self) -> [Piece; 9]
+    fn pieces(self) -> [Piece; 11]
         ensures { line_text result ≡ line_of self }
     {
         match self {
             Fault::Memory => line("board: out of memory\n"),
             Fault::Usage => line(
-                "board: usage: restore, merge, state, replay, pictures, drill SEED EVENTS, serve PORT LINKS IDLE\n",
+                "board: usage: restore, merge, state, replay, pictures, drill SEED EVENTS, serve PORT LINKS IDLE, recover, paste PREFIX, library, insert ITEM PREFIX\n",
             ),
             Fault::Read => line("board: read fault\n"),
             Fault::TooLong => line("board: input is longer than 67108864 bytes\n"),
@@ -141,14 +170,29 @@ impl Fault {
                     fourth,
                     Piece::Words("\n"),
                     NONE,
+                    NONE,
+                    NONE,
                 ]
             }
             Fault::Refused(Refusal::Event(number, found)) => event_line(number, found),
             Fault::Refused(Refusal::TooMany) => line("board: more than 250000 events\n"),
+            Fault::Refused(Refusal::Line(number, found)) => {
+                let [first, second, third, fourth] = found.pieces();
+                text_line(number, ": ", first, second, third, fourth)
+            }
+            Fault::Refused(Refusal::Clip(found)) => {
+                let [first, second, third, fourth] = found.pieces();
+                text_line(2, ": ", first, second, third, fourth)
+            }
+            Fault::Refused(Refusal::Library(number, found)) => library_line(number, found),
+            Fault::Refused(Refusal::NoItem) => text_line(2, ": no item", NONE, NONE, NONE, NONE),
+            Fault::Refused(Refusal::Exists(place)) => exists_line(place),
             Fault::Refused(Refusal::Extra(at)) => [
                 Piece::Words("board: extra text at byte "),
                 Piece::Number(at as u64),
                 Piece::Words("\n"),
+                NONE,
+                NONE,
                 NONE,
                 NONE,
                 NONE,
@@ -162,7 +206,7 @@ impl Fault {
 }
 
 /// The line of a fault of a session's text.
-fn event_line(number: u64, found: TextFault) -> [Piece; 9]
+fn event_line(number: u64, found: TextFault) -> [Piece; 11]
     ensures { line_text result ≡ line_of (Fault.Refused (Refusal.Event number found)) }
 {
     match found {
@@ -196,6 +240,48 @@ fn event_line(number: u64, found: TextFault) -> [Piece; 9]
     }
 }
 
+/// The line on the element at this place of the second text, whose copy's id is stored.
+fn exists_line(place: u64) -> [Piece; 11]
+    ensures { line_text result ≡ line_of (Fault.Refused (Refusal.Exists place)) }
+{
+    let place = Piece::Number(place);
+    text_line(2, ": element ", place, Piece::Words(": exists"), NONE, NONE)
+}
+
+/// The line on the library text with this number.
+fn library_line(number: usize, found: LibFault) -> [Piece; 11]
+    ensures { line_text result ≡ line_of (Fault.Refused (Refusal.Library number found)) }
+{
+    let number = number as u64;
+    match found {
+        LibFault::NotObject => text_line(number, ": not an object", NONE, NONE, NONE, NONE),
+        LibFault::NotLibrary => text_line(number, ": type", NONE, NONE, NONE, NONE),
+        LibFault::Items => text_line(number, ": libraryItems", NONE, NONE, NONE, NONE),
+        LibFault::Item(place, fault) => item_line(number, place, fault),
+    }
+}
+
+/// The line on the item at this place of the library text with this number.
+fn item_line(number: u64, place: u64, fault: ItemFault) -> [Piece; 11]
+    ensures { line_text result
+        ≡ text_line number (codes "item " ++ (decimal place ++ (codes ": " ++ item_fault_words fault))) }
+{
+    let [first, second, third, fourth] = fault.pieces();
+    [
+        Piece::Words("board: text "),
+        Piece::Number(number),
+        Piece::Words(": item "),
+        Piece::Number(place),
+        Piece::Words(": "),
+        first,
+        second,
+        third,
+        fourth,
+        Piece::Words("\n"),
+        NONE,
+    ]
+}
+
 /// The line on the text with this number, of these words and pieces.
 fn text_line(
     number: u64,
@@ -204,7 +290,7 @@ fn text_line(
     second: Piece,
     third: Piece,
     fourth: Piece,
-) -> [Piece; 9]
+) -> [Piece; 11]
     ensures { line_text result ≡ codes "board: text " ++ (decimal number ++ (words.now
         ++ (piece_text first ++ (piece_text second ++ (piece_text third ++ (piece_text fourth ++ newline)))))) }
 {
@@ -218,15 +304,19 @@ fn text_line(
         fourth,
         Piece::Words("\n"),
         NONE,
+        NONE,
+        NONE,
     ]
 }
 
 /// The line of these words alone.
-fn line(words: &'static str) -> [Piece; 9]
+fn line(words: &'static str) -> [Piece; 11]
     ensures { line_text result ≡ words.now }
 {
     [
         Piece::Words(words),
+        NONE,
+        NONE,
         NONE,
         NONE,
         NONE,

@@ -1,13 +1,17 @@
 //! What reads the scenes or the session of an input, text by text.
 
-ghost use Rattle.std.specs.Prelude.{◌≡◌, ◌+◌, [], Option, List as Items, IfOk};
+ghost use Rattle.std.specs.Prelude.{◌≡◌, ◌+◌, ◌++◌, ◌∷◌, [], Option, List as Items, IfOk, OnOk};
+ghost use Rattle.library.specs.Best.{AreBest};
+ghost use Rattle.library.specs.declared.item.Item.{Item as ItemValue};
 ghost use Rattle.commands.specs.Readers.{SayBoard, board_seen, one_seen};
+ghost use Rattle.commands.specs.Shelves.{SayShelf, shelf_seen};
 ghost use Rattle.commands.specs.SessionTexts.{session_seen};
 
-use board_base::Stop;
+use board_base::{List, Stop};
 use elem_store::Store;
 use intake::Reader;
 use json_text::Raw;
+use library::{Item, LibFault, Shelf, read_library};
 use scene_file::{Head, Scene, SceneFault, join, scene_of};
 use session_text::{SessionFeed, TextFault};
 use std::alloc::{AllocError, Global};
@@ -109,6 +113,82 @@ impl Reader for OneScene {
     fn read(&mut self, alloc: Global, text: &Raw) -> Result<(), Stop<SceneFault>> {
         self.read = Some(scene_of(alloc, text)?);
         Ok(())
+    }
+}
+
+/// The best items of the libraries that are read of an input; and the number of the next text, counted from 1.
+#[derive(Drop)]
+pub(crate) struct Shelved {
+    pub(crate) shelf: Shelf,
+    pub(crate) next: usize,
+}
+
+impl Model for Shelved {
+    ghost use Rattle.std.specs.Prelude.{◌≤◌};
+    ghost use Rattle.commands.specs.Shelves.{ShelfSoFar};
+
+    ghost Value = { ShelfSoFar };
+
+    ghost view = { λ s. record { best = s.shelf; next = s.next } };
+
+    ghost invariant = { λ s. 1 ≤ s.next };
+}
+
+impl Shelved {
+    /// Of no libraries. It takes no memory.
+    pub(crate) fn new(alloc: Global) -> Shelved
+        ensures { SayShelf [] result }
+    {
+        library::laws::best_exist();
+        Shelved {
+            shelf: Shelf::new(alloc),
+            next: 1,
+        }
+    }
+}
+
+impl Reader for Shelved {
+    type Fault = LibFault;
+
+    ghost seen = { shelf_seen };
+
+    fn is_full(&self) -> bool {
+        false
+    }
+
+    fn needs_text(&self) -> bool {
+        self.next == 1
+    }
+
+    /// Behind as many texts as can be counted, which no input has, it wants memory.
+    fn read(&mut self, alloc: Global, text: &Raw) -> Result<(), Stop<LibFault>> {
+        let items = read_library(alloc, text)?;
+        let next = number_after(self.next)?;
+        put_all(&mut self.shelf, items)?;
+        self.next = next;
+        Ok(())
+    }
+}
+
+/// Puts all items on the shelf.
+fn put_all(shelf: &mut Shelf, items: List<Item>) -> Result<(), AllocError>
+    ensures { OnOk result ((others : Items ItemValue) → AreBest others shelf.old
+        → AreBest (others ++ items) shelf.new) }
+{
+    for item in items.into_vec() {
+        put(shelf, item)?;
+    }
+    Ok(())
+}
+
+/// Puts an item on the shelf.
+fn put(shelf: &mut Shelf, item: Item) -> Result<(), AllocError>
+    ensures { OnOk result ((others : Items ItemValue) → AreBest others shelf.old
+        → AreBest (others ++ item ∷ []) shelf.new) }
+{
+    match shelf.put(item) {
+        Ok(_) => Ok(()),
+        Err(_) => Err(AllocError),
     }
 }
 

@@ -10,3 +10,13 @@ pub mod StopLaws
 pub mod Indices
 pub mod ResumeLaws
 pub mod Taking
+pub mod Gains
+pub mod KeptEvents
+pub mod KeptAccounts
+pub mod KeptStops
+pub mod KeyBeats
+pub mod KeptTexts
+pub mod KeptRooms
+pub mod ChainLaws
+pub mod KeptRounds
+pub mod LayerLaws

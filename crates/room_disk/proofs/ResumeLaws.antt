@@ -111,7 +111,7 @@ greater-key low (Some key) h k = elim (cases_Bool (ends_rise low (Some key))) [
   | inr f ↦ ap is_key_or_none (cond-false (ends_rise low (Some key)) (Some key) low f) ∙ h
 ]
 
-greatest-key : (low : Option (List ℕ)) (elements : List ElementValue) → is_key_or_none low ≡ true → list_all is_key_or_none (map index_of elements) ≡ true → is_key_or_none (greatest_key low elements) ≡ true
+pub greatest-key : (low : Option (List ℕ)) (elements : List ElementValue) → is_key_or_none low ≡ true → list_all is_key_or_none (map index_of elements) ≡ true → is_key_or_none (greatest_key low elements) ≡ true
 greatest-key low [] h k = h
 greatest-key low (e ∷ elements) h k =
     let parts = and_parts (is_key_or_none e.index) (list_all is_key_or_none (map index_of elements)) k in

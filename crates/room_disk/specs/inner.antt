@@ -1,2 +1,3 @@
 -- What only this crate's own bodies and proofs need.
+pub mod KeptSteps
 pub mod UnderWay

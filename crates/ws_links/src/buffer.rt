@@ -7,8 +7,9 @@ use std::marker::Model;
 use websocket::error::Error;
 use websocket::protocol::{FrameStatus, NoMask, Step, WebSocketContext};
 
-/// More room than this is given back where most of it isn't used.
-const ROOM: usize = 1 << 20;
+/// More room than this is given back where most of it isn't used. The system takes larger pieces
+/// back at once and whole; smaller ones it keeps for what is asked next.
+const ROOM: usize = 32 << 20;
 
 /// Bytes in the order in which they came, of which the first ones have left.
 #[derive(Drop)]
@@ -96,7 +97,7 @@ impl Buffer {
             self.left = 0;
             self.bytes.drain(..left);
             if self.bytes.len() < self.bytes.capacity() / 4 && self.bytes.capacity() > ROOM {
-                self.bytes.shrink_to(ROOM);
+                self.bytes.shrink_to(0);
             }
         } else {
             self.left = left;

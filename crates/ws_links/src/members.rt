@@ -103,11 +103,14 @@ impl Members {
     }
 
     /// Reads once from each link that is ready, until one has an event: beginning with the link
-    /// after the one served last.
+    /// after the one served last. Where none is ready nothing is counted.
     pub(crate) fn serve(
         &mut self,
         now: Option<Instant>,
     ) -> Result<Option<LinkEvent>, Stop<Failed>> {
+        if !self.want_turn() {
+            return Ok(None);
+        }
         self.drain(now);
         self.own = self.links_own();
         for _ in 0..self.links.len() {

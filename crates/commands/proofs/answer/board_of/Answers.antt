@@ -1,4 +1,4 @@
-use Rattle.std.proofs.Common.{◌∷◌, [], ◌++◌, sym, subst, append-nil}
+use Rattle.std.proofs.Common.{[], sym, subst, append-nil}
 use Rattle.elem_store.specs.Updates.{AreStored}
 use Rattle.scene_file.specs.Heads.{IsJoinedHead}
 use Rattle.commands.proofs.Readers.{nothing-joined}

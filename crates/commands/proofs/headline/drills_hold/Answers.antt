@@ -1,4 +1,4 @@
-use Rattle.std.proofs.Common.{◌≡◌, ℕ, [], Contains, length, sym, subst, ◌∙◌}
+use Rattle.std.proofs.Common.{[], Contains, length, sym, subst, ◌∙◌}
 use Rattle.scene_file.specs.Scenes.{scene_text}
 use Rattle.session.specs.Clashes.{HaveClashes}
 use Rattle.session.specs.Reports.{shown_at}

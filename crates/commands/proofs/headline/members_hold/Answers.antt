@@ -1,11 +1,11 @@
-use Rattle.std.proofs.Common.{◌≡◌, ℕ, List, sym, subst}
+use Rattle.std.proofs.Common.{ℕ, List, sym, subst}
 use Rattle.elem.specs.Said.{AreElements}
 use Rattle.elem_store.proofs.CallerLemmas.{elements-stored}
 use Rattle.room_core.specs.Members.{AreSteps}
 use Rattle.room_core.specs.Rooms.{RoomState}
 use Rattle.room_core.specs.Serving.{Serving, Round, AreRounds, at_start, serving_at, steps_of}
 use Rattle.room_core.specs.declared.limits.RoomLimits.{RoomLimits}
-use Rattle.commands.specs.Answers.{updates_of}
+use Rattle.commands.specs.Boards.{updates_of}
 use Rattle.commands.specs.Members.{IsMember}
 use Rattle.commands.proofs.Reread.{updates-elements}
 use Rattle.commands.proofs.headline.members_hold.Goals as goal

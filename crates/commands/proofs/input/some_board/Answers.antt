@@ -1,8 +1,12 @@
-use Rattle.std.proofs.Common.{◌≡◌, List, sym, subst, ◌∙◌}
+use Rattle.std.proofs.Common.{List, sym, subst}
+use Rattle.std.proofs.lemmas.Result.{err_from_is_err_and}
 use Rattle.intake.specs.Texts.{AreRead}
-use Rattle.commands.specs.Answers.{IsBoardOf, IsRefusal}
+use Rattle.commands.specs.Answers.{IsRefusal}
+use Rattle.commands.specs.Boards.{IsBoardOf}
 use Rattle.commands.specs.Input.{HasScenes}
 use Rattle.commands.specs.Readers.{BoardSoFar, board_seen, refusal_of}
+use Rattle.commands.specs.Ends.{limit}
+use Rattle.commands.proofs.Given.{unread}
 use Rattle.commands.proofs.Readers.{board-read, board-refused}
 use Rattle.scene_file.specs.declared.scene.Scene.{Scene}
 use Rattle.commands.proofs.input.some_board.Goals as goal
@@ -17,14 +21,18 @@ returns-in-None-clause-board g c =
           (board-read read.0 so_far (subst (AreRead read.0 (board_seen so_far)) c.in-None.is read.2)),
     )
 
-pub returns-in-Some-clause-refused : goal.returns-in-Some-clause-refused
-returns-in-Some-clause-refused g c why is =
+pub returns-in_err-found-clause-fault : goal.returns-in_err-found-clause-fault
+returns-in_err-found-clause-fault g c =
+    let p = err_from_is_err_and c.from_residual.result c.from_residual.ensures.1 in
+    rw (p.1, p.2) (unread limit IsRefusal _ _ c.in_err-found.ensures.fault)
+
+pub returns-in-Some-clause-fault : goal.returns-in-Some-clause-fault
+returns-in-Some-clause-fault g c =
     let read = c.in_ok-found.ensures.read in
     let so_far = c.read_input.new.reader in
-    let told : c.refused.result ≡ why = cc in
     let refused = board-refused read.0 so_far c.in-Some.stopped (subst (AreRead read.0 (board_seen so_far)) c.in-Some.is read.2) in (
       read.0,
       read.1,
-      subst (IsRefusal read.0) (sym c.refused.ensures ∙ told)
+      subst (IsRefusal read.0) (sym c.refused.ensures)
           (subst (λ (seen : BoardSoFar). IsRefusal read.0 (refusal_of seen.next c.in-Some.stopped)) (sym c.gathered.view_is) refused),
     )

@@ -1,6 +1,6 @@
 use Rattle.std.proofs.Common.{◌≡◌, true, ◌&&◌, Some, None, nat_le, if◌then◌else◌, refl, sym, ◌∙◌, arith}
 use Rattle.std.proofs.lemmas.Bool.Decides.{nat_tests}
-use Rattle.commands.proofs.Numbers.{number-found, number-none}
+use Rattle.commands.proofs.Numbers.{number-found}
 use Rattle.commands.proofs.words.number_within.Goals as goal
 
 pub returns-in-Some-clause-number : goal.returns-in-Some-clause-number

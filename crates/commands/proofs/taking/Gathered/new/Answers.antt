@@ -1,5 +1,3 @@
-use Rattle.std.proofs.Common.{ap, sym, subst}
-use Rattle.commands.specs.Readers.{BoardSoFar, SayBoard}
 use Rattle.commands.proofs.Readers.{nothing-said}
 use Rattle.commands.proofs.taking.Gathered.new.Goals as goal
 

@@ -1,4 +1,4 @@
-use Rattle.std.proofs.Common.{◌≡◌, ◌+◌, ◌==◌, ℕ, ◌≤◌, List, false, arith, sym, subst}
+use Rattle.std.proofs.Common.{◌≡◌, ◌+◌, ◌==◌, ℕ, ◌≤◌, false, arith, sym, subst}
 use Rattle.std.proofs.lemmas.Bool.Decides.{nat_tests}
 use Rattle.elem_store.specs.Updates.{AreStored}
 use Rattle.commands.specs.Readers.{BoardSoFar, SayBoard}

@@ -1,0 +1,288 @@
+-- Every input is answered with a text into which a clip is pasted, or refused.
+use Rattle.std.proofs.Common.{◌≡◌, ◌≢◌, ◌⊎◌, inl, inr, ℕ, List, [], ◌∷◌, ◌++◌, All, Option, Some, None, IfSome, Result, Ok, Err, true, false, length, codes, bytes_eq, Bool, if◌then◌else◌, refl, sym, ap, subst, ◌∙◌, lit≤, zero, suc, slice_get, option_and_then}
+use Rattle.std.specs.List.{AllByRecursion, list_all}
+use Rattle.std.specs.Str.{IsUtf8}
+use Rattle.std.proofs.lemmas.Bool.{cases_Bool, both_ways, and_parts}
+use Rattle.std.proofs.lemmas.List.{append-nil}
+use Rattle.json_text.specs.Compact.{Member as Pair, object_text}
+use Rattle.json_text.specs.Members.{pairs}
+use Rattle.json_text.specs.Parts.{AreMembers}
+use Rattle.json_text.specs.Value.{IsCompact}
+use Rattle.json_text.proofs.CallerLemmas.{Value-compact, array-or-not, bytes_eq-same, bytes_eq-true, object-or-not}
+use Rattle.scene_json.specs.Named.{value_at}
+use Rattle.elem.specs.ElementValue.{ElementValue}
+use Rattle.elem.specs.Forms.{IsObject, IsText}
+use Rattle.elem.proofs.CallerLemmas.{AreKept, IsKept, text-once, with_index, AllByRecursion-append}
+use Rattle.elem_read.specs.Elements.{AreRead}
+use Rattle.elem_read.proofs.CallerLemmas.{Decided, Fits, fits-in, pairs-unpaired, read-or-faulty, text-or-not, unpaired}
+use Rattle.elem_store.proofs.CallerLemmas.{stored-exist}
+use Rattle.file_table.specs.Table.{AreLeastEntries}
+use Rattle.file_table.proofs.CallerLemmas.{files-exist, AreLeastEntries-none}
+use Rattle.frac_keys.specs.Keys.{is_key}
+use Rattle.frac_keys.specs.Between.{keys_between}
+use Rattle.index_repair.specs.Keyed.{keyed, index_of}
+use Rattle.scene_file.specs.Heads.{Heading}
+use Rattle.scene_file.specs.Reading.{HasItems, HasMembers, value_unless_null}
+use Rattle.scene_file.specs.declared.layout.Layout.TheVariants.{Compact}
+use Rattle.scene_file.specs.declared.scene.Scene.{Scene}
+use Rattle.scene_file.proofs.CallerLemmas.{AllFit, HasText, IsFit, all-sound, heads-fit, joined-exists, joined-fits, stored-kept, updates-kept}
+use Rattle.board_paste.specs.Clips.{IsClipOf, IsClipFault, IsClipWith, IsClipboard, live_in}
+use Rattle.board_paste.specs.Copies.{copies_of}
+use Rattle.board_paste.specs.Pasting.{IsClipHead, first_stored, last_key, pasted}
+use Rattle.board_paste.specs.Placed.{AreReadFrom, elements_in, first_repeat, places_in}
+use Rattle.board_paste.specs.declared.clip.Clip.{Clip}
+use Rattle.board_paste.specs.declared.fault.ClipFault.{ClipFault}
+use Rattle.board_paste.specs.declared.fault.ClipFault.TheVariants.{NotObject, NotClip, Elements, Files, Element, Repeated}
+use Rattle.board_paste.specs.declared.placed.Placed.{Placed}
+use Rattle.board_paste.proofs.CallerLemmas.{copies-whole, live-all, placed-whole}
+use Rattle.board_paste.proofs.ClipFiles.{nests-given}
+use Rattle.elem_read.specs.Reading.{IsWholeElement}
+use Rattle.frac_keys.specs.Rising.{ends_rise, is_key_or_none}
+use Rattle.frac_keys.proofs.CallerLemmas.{keys_between-law}
+use Rattle.json_text.specs.Tree.{null_word}
+use Rattle.view.specs.Shown.{live_elements, shown}
+use Rattle.view.proofs.CallerLemmas.{live-kept, shown-kept}
+use Rattle.commands.specs.Answers.{IsAnswer}
+use Rattle.commands.specs.Boards.{IsBoardOf, heads_of, updates_of}
+use Rattle.commands.specs.Fronts.{HasFront}
+use Rattle.commands.specs.Pastes.{IsPastedAs}
+use Rattle.commands.specs.Words.{is_name}
+use Rattle.commands.specs.declared.status.Refusal.{Refusal}
+use Rattle.commands.specs.declared.status.Refusal.TheVariants as refusal
+use Rattle.commands.specs.declared.words.Command.TheVariants.{Paste}
+use Rattle.commands.proofs.FrontExists.{front-exists}
+use Rattle.commands.proofs.Names.{name-utf8}
+use Rattle.commands.proofs.Shows.{members-fit, scene-exists, wholes-kept}
+
+-- ---- what is given under the names of an object
+fits-given : (name : List ℕ) (members : List Pair) → AreMembers 127 members → Fits (value_unless_null name members)
+fits-given name members are =
+    elim (value_at name members) as (λ (found : Option (List ℕ)). Fits found → Fits (elim found [ None ↦ None | Some value ↦ if bytes_eq value null_word then None else Some value ])) [
+      | None ↦ λ fits. tt
+      | Some value ↦ λ fits. elim (bytes_eq value null_word) as (λ (b : Bool). Fits (if b then None else Some value)) [ true ↦ tt | false ↦ fits ]
+    ] (fits-in 127 members (lit≤ tt) are name)
+
+items-or-not : (found : Option (List ℕ)) → Fits found → Decided (HasItems found)
+items-or-not None fits = inl ([], refl)
+items-or-not (Some value) fits = elim (array-or-not value fits) [
+  | inl (items, all, e) ↦ inl (items, (all, e))
+  | inr none ↦ inr (λ items has. none items has.1)
+]
+
+members-or-not : (found : Option (List ℕ)) → Fits found → Decided (HasMembers found)
+members-or-not None fits = inl ([], refl)
+members-or-not (Some value) fits = elim (object-or-not value fits) [
+  | inl (members, are, e) ↦ inl (members, record { are_members = are; spelled = e })
+  | inr none ↦ inr (λ members has. none members has.spelled)
+]
+
+items-compact : (found : Option (List ℕ)) (values : List (List ℕ)) → HasItems found values → AllByRecursion (IsCompact 127) values
+items-compact None values none = subst (AllByRecursion (IsCompact 127)) (sym none) tt
+items-compact (Some value) values has = has.0
+
+is-text : (found : Option (List ℕ)) (wanted : List ℕ) → Fits found → IsText found wanted ⊎ (IsText found wanted → ⊥)
+is-text found wanted fits = by (text-or-not found fits)
+  where
+    by : Decided (IsText found) → IsText found wanted ⊎ (IsText found wanted → ⊥)
+    by (inr none) = inr (λ is. none wanted is)
+    by (inl (text, is)) = elim (cases_Bool (bytes_eq text wanted)) [
+      | inl e ↦ inl (subst (IsText found) (bytes_eq-true text wanted e) is)
+      | inr e ↦ inr (λ also. both_ways (bytes_eq text wanted) e (ap (λ t. bytes_eq t wanted) (text-once found text wanted is also) ∙ bytes_eq-same wanted))
+    ]
+
+-- ---- a clip, or its first fault
+placed-from : (n : ℕ) (values : List (List ℕ)) (elements : List ElementValue) → AreRead values elements → (placed : List Placed) × AreReadFrom n values placed
+placed-from n [] elements none = ([], refl)
+placed-from n (v ∷ values) elements (inl (dropped, read)) =
+    let rest = placed-from (suc n) values elements read in (rest.0, inl (dropped, rest.1))
+placed-from n (v ∷ values) elements (inr (e, others, all, is, read)) =
+    let rest = placed-from (suc n) values others read in
+    let own : Placed = record { place = n; element = e } in
+    (own ∷ rest.0, inr (own, rest.0, refl, refl, is, rest.1))
+
+-- A clip whose elements are whole, and whose files nest as they may.
+record IsWholeClip (text : List ℕ) (clip : Clip) : Type 0 where
+  pub is : IsClipOf text clip
+  pub whole : All IsWholeElement clip.elements
+  pub files : AllFit (pairs clip.files)
+
+abbrev Told : List ℕ → Type 0
+Told text = ((clip : Clip) × IsWholeClip text clip) ⊎ ((fault : ClipFault) × IsClipFault text fault)
+
+module _ (text : List ℕ) (members : List Pair) (are : AreMembers 127 members) (object : IsObject text members) (kind : IsClipboard members)
+    (values : List (List ℕ)) (items : HasItems (value_unless_null (codes "elements") members) values)
+    (files : List Pair) (table : HasMembers (value_unless_null (codes "files") members) files) where
+  is-with : IsClipWith text members values
+  is-with = record { object = object; kind = kind; items = items }
+
+  with-placed : (placed : List Placed) → AreReadFrom 0 values placed → Told text
+  with-placed placed read = by (first_repeat (live_in placed)) refl
+    where
+      by : (repeat : Option ℕ) → first_repeat (live_in placed) ≡ repeat → Told text
+      by None distinct = inl (
+        record { elements = elements_in (live_in placed); places = places_in (live_in placed); files = unpaired files },
+        record {
+          is = record {
+            members = members;
+            object = object;
+            kind = kind;
+            values = values;
+            items = items;
+            files = subst (HasMembers (value_unless_null (codes "files") members)) (sym (pairs-unpaired files)) table;
+            placed = placed;
+            read = read;
+            distinct = distinct;
+            elements = refl;
+            places = refl;
+          };
+          whole = live-all IsWholeElement placed (placed-whole values placed read);
+          files = subst AllFit (sym (pairs-unpaired files)) (members-fit files (nests-given (codes "files") members files are table));
+        },
+      )
+      by (Some place) repeated = inr (Repeated place, (members, values, is-with, (files, table), (placed, read, repeated)))
+
+  with-elements : Told text
+  with-elements = elim (read-or-faulty values (items-compact (value_unless_null (codes "elements") members) values items)) [
+    | inl (elements, read) ↦ let placed = placed-from 0 values elements read in with-placed placed.0 placed.1
+    | inr (place, fault, faulty) ↦ inr (Element place fault, (members, values, is-with, (files, table), faulty))
+  ]
+
+clip-or-faulty : (text : List ℕ) → IsCompact 128 text → Told text
+clip-or-faulty text is = by (object-or-not text is)
+  where
+    parts : (members : List Pair) → AreMembers 127 members → IsObject text members → IsClipboard members
+        → Decided (HasItems (value_unless_null (codes "elements") members)) → Decided (HasMembers (value_unless_null (codes "files") members)) → Told text
+    parts members are object kind (inr none) entries = inr (Elements, (members, object, kind, none))
+    parts members are object kind (inl (values, items)) (inr none) = inr (Files, (members, values, record { object = object; kind = kind; items = items }, none))
+    parts members are object kind (inl (values, items)) (inl (files, table)) = with-elements text members are object kind values items files table
+
+    by : ((members : List Pair) × AreMembers 127 members × (text ≡ object_text members)) ⊎ ((members : List Pair) → text ≢ object_text members) → Told text
+    by (inr none) = inr (NotObject, λ members object. none members object.spelled)
+    by (inl (members, are, e)) =
+        let object : IsObject text members = record { are_members = are; spelled = e } in
+        elim (is-text (value_at (codes "type") members) (codes "excalidraw/clipboard") (fits-in 127 members (lit≤ tt) are (codes "type"))) [
+          | inr none ↦ inr (NotClip, (members, object, none))
+          | inl kind ↦ parts members are object kind (items-or-not (value_unless_null (codes "elements") members) (fits-given (codes "elements") members are))
+              (members-or-not (value_unless_null (codes "files") members) (fits-given (codes "files") members are))
+        ]
+
+-- ---- what is pasted
+keyed-kept : (es : List ElementValue) (keys : List (List ℕ)) → list_all is_key keys ≡ true → AreKept es → AreKept (keyed es keys)
+keyed-kept [] keys are all = tt
+keyed-kept (e ∷ es) [] are all = tt
+keyed-kept (e ∷ es) (key ∷ keys) are all =
+    let parts = and_parts (is_key key) (list_all is_key keys) are in
+    (with_index e all.0 (Some key) parts.0, keyed-kept es keys parts.1 all.1)
+
+key-or-none : (index : Option (List ℕ)) → IfSome index (λ k. is_key k ≡ true) → is_key_or_none index ≡ true
+key-or-none None is = refl
+key-or-none (Some key) is = is
+
+nth-key : (es : List ElementValue) (n : ℕ) → AreKept es → is_key_or_none (option_and_then index_of (slice_get es n)) ≡ true
+nth-key [] n all = refl
+nth-key (e ∷ es) zero all = key-or-none e.index all.0.written.index
+nth-key (e ∷ es) (suc n) all = nth-key es n all.1
+
+ends-open : (low : Option (List ℕ)) → ends_rise low None ≡ true
+ends-open None = refl
+ends-open (Some key) = refl
+
+pasted-kept : (stored elements : List ElementValue) (prefix : List ℕ) → IsUtf8 prefix → AreKept stored → All IsWholeElement elements → AreKept (pasted stored elements prefix)
+unfolding pasted
+pasted-kept stored elements prefix utf8 all whole =
+    let low = last_key (shown (live_elements stored)) in
+    let copies = copies_of elements prefix in
+    let law = keys_between-law low None (length copies) (nth-key (shown (live_elements stored)) _ (shown-kept (live_elements stored) (live-kept stored all))) refl (ends-open low) in
+    keyed-kept copies (keys_between low None (length copies)) law.are_keys (wholes-kept copies (copies-whole elements prefix utf8 whole))
+
+-- the head that has these files alone
+own-head : (entries : List Pair) → (own : Heading) × IsClipHead entries own
+own-head entries =
+    let files = files-exist entries in
+    (record { source = None; app_state = []; files = files.0 }, record { source = refl; app_state = refl; files = files.1 })
+
+own-fits : (entries : List Pair) (own : Heading) → AllFit entries → IsClipHead entries own → IsFit own
+own-fits entries own all is =
+    let given : Heading = record { source = None; app_state = []; files = entries } in
+    joined-fits (given ∷ []) own (record { source = tt; settings = tt; files = all }, tt) (record {
+      source = is.source;
+      app_state = subst (λ (state : List Pair). AreLeastEntries [] state) (sym (ap pairs is.app_state)) AreLeastEntries-none;
+      files = subst (λ (es : List Pair). AreLeastEntries es own.files) (sym (append-nil entries)) is.files;
+    })
+
+pub pasted_as-exists : (prefix : List ℕ) (scene : Scene) (clip : Clip) (old : Heading) (stored : List ElementValue) → IsUtf8 prefix → HasText scene → All IsWholeElement clip.elements
+    → AllFit (pairs clip.files) → IsBoardOf (scene ∷ []) old stored → first_stored stored (copies_of clip.elements prefix) clip.places ≡ None → (text : List ℕ) × IsPastedAs prefix scene clip text
+pasted_as-exists prefix scene clip old stored utf8 read whole files board new =
+    let sound = all-sound (scene ∷ []) (read, tt) in
+    let updates = updates-kept (scene ∷ []) sound in
+    let kept = stored-kept (updates_of (scene ∷ [])) stored updates board.stores in
+    let copies = pasted-kept stored clip.elements prefix utf8 kept whole in
+    let own = own-head (pairs clip.files) in
+    let heads = heads_of (scene ∷ []) ++ own.0 ∷ [] in
+    let head = joined-exists heads in
+    let fit = joined-fits heads head.0 ((heads-fit (scene ∷ []) sound).0, (own-fits (pairs clip.files) own.0 files own.1, tt)) head.1 in
+    let taken = updates_of (scene ∷ []) ++ pasted stored clip.elements prefix in
+    let all = stored-exist taken in
+    let shows = scene-exists Compact head.0 all.0 fit head.1.app_state.ordered
+    (stored-kept taken all.0 (AllByRecursion-append IsKept (updates_of (scene ∷ [])) (pasted stored clip.elements prefix) updates copies) all.1) all.1.ordered in (
+      shows.0,
+      record {
+        old = old;
+        stored = stored;
+        board = board;
+        new = new;
+        own = own.0;
+        own_files = own.1;
+        head = head.0;
+        joined = head.1;
+        all = all.0;
+        stores = all.1;
+        shown = shows.1;
+      },
+    )
+
+-- the board of one scene
+pub scene-board : (scene : Scene) → (head : Heading) × (stored : List ElementValue) × IsBoardOf (scene ∷ []) head stored
+scene-board scene =
+    let head = joined-exists (heads_of (scene ∷ [])) in
+    let stored = stored-exist (updates_of (scene ∷ [])) in
+    (head.0, stored.0, record { joined = head.1; stores = stored.1 })
+
+-- ---- answers
+module _ (prefix bytes : List ℕ) (names : is_name prefix ≡ true) where
+  abbrev IsAnswered : Type 0
+  IsAnswered = (answer : Result (List ℕ) Refusal) × IsAnswer (Paste prefix) bytes answer
+
+  with-clip : (scene : Scene) (text : List ℕ) (more : Option ℕ) → HasFront bytes scene text more → (clip : Clip) → IsWholeClip text clip → IsAnswered
+  with-clip scene text (Some at) front clip is = (Err (refusal.Extra at), inl (inr (inr (at, refl, (scene, text, front, (clip, is.is))))))
+  with-clip scene text None front clip is = by (first_stored board.1 (copies_of clip.elements prefix) clip.places) refl
+    where
+      board : (head : Heading) × (stored : List ElementValue) × IsBoardOf (scene ∷ []) head stored
+      board = scene-board scene
+
+      by : (place : Option ℕ) → first_stored board.1 (copies_of clip.elements prefix) clip.places ≡ place → IsAnswered
+      by None new =
+          let made = pasted_as-exists prefix scene clip board.0 board.1 (name-utf8 prefix names) (front.first.text, front.first.says) is.whole is.files board.2 new in
+          (Ok made.0, record { scene = scene; clip = clip; holds = (text, front, is.is); is = made.1 })
+      by (Some place) exists = (
+        Err (refusal.Exists place),
+        inr (
+          place,
+          refl,
+          record {
+            scene = scene;
+            clip = clip;
+            holds = (text, front, is.is);
+            is = record { head = board.0; stored = board.1; board = board.2; exists = exists };
+          },
+        ),
+      )
+
+  pub pasted-exists : IsAnswered
+  pasted-exists = elim (front-exists bytes) [
+    | inr (found, is) ↦ (Err found, inl (inl is))
+    | inl (scene, text, more, front) ↦ elim (clip-or-faulty text (Value-compact front.second.reads)) [
+      | inl (clip, is) ↦ with-clip scene text more front clip is
+      | inr (fault, is) ↦ (Err (refusal.Clip fault), inl (inr (inl (scene, text, more, front, (fault, refl, is)))))
+    ]
+  ]

@@ -1,0 +1,15 @@
+pub mod OrderLaws
+pub mod Rising
+pub mod BestLaws
+pub mod FiledLaws
+pub mod ItemTexts
+pub mod ItemForms
+pub mod ItemOnce
+pub mod LibraryOnce
+pub mod Whole
+pub mod Existing
+pub mod LibraryLaws
+pub mod ItemClips
+pub mod ItemsReading
+pub mod ClipParts
+pub mod CallerLemmas
