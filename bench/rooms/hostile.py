@@ -2,10 +2,11 @@
 """What members can do to a room's memory. usage: hostile.py BOARD [NAMES..]
 Each part opens a room under a limit of 2 GiB of memory, twice what its links may hold, in which one member does nothing but read.
 Others do their worst. Then two newcomers join, and one is sent what the other draws. Tells how many members the room ended, how
-much memory it had and asked for at most, and what came of the first one, the newcomers and the room.
+much memory it had and asked for at most, and what came of the first one, the newcomers and the room, as a row of a table.
 """
 import json
 import os
+import re
 import resource
 import selectors
 import socket
@@ -22,7 +23,7 @@ LIMIT = 2 << 30
 LONGEST = 64 << 20
 LONG = 1 << 20
 TEXT, CONTINUED, PING, PONG = 1, 0, 9, 10
-STAMP = b'"at":"'
+STAMP = re.compile(rb'"(?:at|id)":"')
 ALIVE = 10
 
 
@@ -36,7 +37,13 @@ def head(first, count):
 
 def presence(count):
     """A frame with a message of so many bytes, which a room hands on. A member numbers those that it sends."""
-    text = b'{"type":"MOUSE_LOCATION",' + STAMP + bytes([120]) * (count - 33) + b'"}'
+    text = b'{"type":"MOUSE_LOCATION","at":"' + bytes([120]) * (count - 33) + b'"}'
+    return head(128 | TEXT, len(text)) + text
+
+
+def update(count):
+    """A frame with an element of so many bytes. A member gives each that it sends an id of its own."""
+    text = b'{"type":"SCENE_UPDATE","payload":{"elements":[{"type":"text","id":"%16d","text":"' % 0 + bytes([120]) * (count - 88) + b'"}]}}'
     return head(128 | TEXT, len(text)) + text
 
 
@@ -45,7 +52,8 @@ class Member:
 
     def __init__(self, socket_, part, times, reads):
         self.socket, self.part, self.times, self.reads = socket_, memoryview(bytearray(part)), times, reads
-        self.at, self.stamp = 0, part.find(STAMP, 0, 100)
+        stamp = STAMP.search(bytes(part[:100]))
+        self.at, self.stamp = 0, stamp.end() if stamp else None
 
     def wants(self):
         return (selectors.EVENT_WRITE if self.times else 0) | (selectors.EVENT_READ if self.reads else 0)
@@ -54,9 +62,8 @@ class Member:
         if ready & selectors.EVENT_READ and not self.socket.recv(LONG):
             raise ConnectionResetError
         if ready & selectors.EVENT_WRITE:
-            if self.at == 0 and self.stamp > 0:
-                at = self.stamp + len(STAMP)
-                self.part[at:at + 16] = b"%8d%8d" % (self.socket.fileno(), self.times)
+            if self.at == 0 and self.stamp:
+                self.part[self.stamp:self.stamp + 16] = b"%8d%8d" % (self.socket.fileno(), self.times)
             self.at += self.socket.send(self.part[self.at:self.at + LONG])
             if self.at == len(self.part):
                 self.at, self.times = 0, self.times - 1
@@ -139,6 +146,8 @@ class Room:
 
     def lost(self):
         """How many members the room ended: all that joined but those whose sockets it has, the one that listens aside."""
+        if self.run.poll() is not None:
+            return self.joined
         place = f"/proc/{self.run.pid}/fd"
         sockets = [it for it in os.listdir(place) if os.readlink(f"{place}/{it}").startswith("socket")]
         return self.joined - (len(sockets) - 1)
@@ -247,7 +256,13 @@ def slow(room):
             return room.drop(reader)
 
 
-PARTS = (pings, fragments, frames, stalled, all_stalled, long_presences, long_presences_unread, slow)
+def storing(room):
+    """one draws 80 elements of 32 MiB each"""
+    room.add(update(32 * LONG), 80)
+    room.go(300)
+
+
+PARTS = (pings, fragments, frames, stalled, all_stalled, long_presences, long_presences_unread, slow, storing)
 
 
 def main():
@@ -255,16 +270,14 @@ def main():
     for part in PARTS:
         if names and part.__name__ not in names:
             continue
-        room, began = Room(board), time.monotonic()
+        room = Room(board)
         part(room)
         time.sleep(0.5)
-        stays, ended, passed = room.first in room.members, room.lost(), time.monotonic() - began
-        reaches = room.reaches()
+        stays, ended, reaches = room.first in room.members, room.lost(), room.reaches()
         had, asked = room.most()
         status = room.end()
-        print(f"{part.__doc__} ({passed:.0f} s): {ended} ended, {had} MB had and {asked} MB asked for at most, "
-              f"the first one {'stays' if stays else 'ended'}, newcomers {'reach' if reaches else 'do not reach'} each other, "
-              f"the room ended with {status}", flush=True)
+        print(f"| {part.__doc__} | {ended} | {had}, {asked} MB | {'stays' if stays else 'ended'} | "
+              f"{'reach' if reaches else 'do not reach'} each other | ended with {status} |", flush=True)
 
 
 main()

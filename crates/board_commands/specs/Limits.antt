@@ -6,6 +6,7 @@ use Rattle.json_text.specs.declared.text.Member.{Member}
 use Rattle.std.specs.Prelude.{List}
 use Rattle.frac_keys.specs.Rising.{are_rising}
 use Rattle.elem.specs.Facts.{AllNest, names}
+use Rattle.elem.specs.Order.{HaveDistinctIds}
 use Rattle.board_commands.specs.declared.command.Command.{Command}
 use Rattle.board_commands.specs.declared.command.Command.TheVariants as commands
 
@@ -15,8 +16,9 @@ pub record IsRest (rest : List Member) : Type 0 where
   pub free : list_any (bytes_eq (codes "elementId")) (names rest) ≡ false
   pub nest : AllNest 99 rest
 
--- The value of a command nests at most 100, and so does its binding.
+-- The value of a command nests at most 100, and so does its binding; the ids of elements that it pastes are distinct.
 abbrev pub IsWithinLimits : Command → Type 0
 IsWithinLimits (commands.Set id member value) = IsCompact 100 value
 IsWithinLimits (commands.Bind arrow side target rest) = IsRest rest
+IsWithinLimits (commands.Paste elements prefix spot) = HaveDistinctIds elements
 IsWithinLimits _ = Unit {0}

@@ -105,6 +105,19 @@ pub enum Command {
         ids: List<Text>,
         group: Text,
     },
+    /// What the board shows of these elements is copied under a prefix, the copies one above the other at a place in the
+    /// order. The prefix stands before each id and each group of a copy; copies name each other as their originals do.
+    Duplicate {
+        ids: List<Text>,
+        prefix: Text,
+        spot: Spot,
+    },
+    /// The same of given elements, whose ids are distinct.
+    Paste {
+        elements: List<Element>,
+        prefix: Text,
+        spot: Spot,
+    },
 }
 
 // By hand, so that whoever drops a command sees one call and not what it holds.
@@ -152,6 +165,16 @@ impl Drop for Command {
             Command::Ungroup {
                 ids: _ids,
                 group: _group,
+            } => {}
+            Command::Duplicate {
+                ids: _ids,
+                prefix: _prefix,
+                spot: _spot,
+            } => {}
+            Command::Paste {
+                elements: _elements,
+                prefix: _prefix,
+                spot: _spot,
             } => {}
         }
     }

@@ -8,9 +8,9 @@ use Rattle.elem.specs.Order.{has_id, HaveDistinctIds}
 use Rattle.index_repair.specs.Keyed.{keyed, with_index}
 use Rattle.elem_store.specs.Updates.{element_of, is_best, is_unbeaten, stored_of, AreStored}
 use Rattle.elem_store.proofs.CallerLemmas.{Contains-cases, Contains-cons, Contains-head, find-None, find-Some, of_itself, of_other, same_id, stored-append, joined_leader, stored-None, AreStored-stored, IsBestOf-stored}
-use Rattle.board_paste.specs.Copies.{copies_of}
+use Rattle.copies.specs.Copies.{copies_of}
 use Rattle.board_paste.specs.Pasting.{pasted}
-use Rattle.board_paste.proofs.CopyNames.{copies-distinct, original, copy-named}
+use Rattle.copies.proofs.CallerLemmas.{copies-distinct, original, copy-named}
 
 -- ---- elements of distinct ids
 apart-from : (id : List ℕ) (xs : List ElementValue) (e : ElementValue) → AllByRecursion (λ y. bytes_eq id y ≡ false) (map (λ (x : ElementValue). x.id) xs) → Contains xs e → bytes_eq id e.id ≡ false

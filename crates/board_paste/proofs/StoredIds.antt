@@ -1,13 +1,13 @@
 -- Whether the ids of copies are stored.
-use Rattle.std.proofs.Common.{◌≡◌, ◌↔◌, inl, inr, ℕ, suc, Bool, true, false, cond, List, [], ◌∷◌, ◌++◌, Option, Some, None, is_some, Contains, map, min, zero, drop, length, refl, sym, ap, ◌∙◌, arith}
+use Rattle.std.proofs.Common.{◌≡◌, ◌↔◌, inl, inr, ℕ, suc, Bool, true, false, cond, List, [], ◌∷◌, ◌++◌, Option, Some, None, is_some, Contains, min, zero, drop, length, refl, sym, ap, ◌∙◌, arith}
 use Rattle.std.proofs.lemmas.Bool.{false≢true}
 use Rattle.elem.specs.ElementValue.{ElementValue}
 use Rattle.elem_store.specs.Updates.{element_of}
 use Rattle.elem_store.proofs.CallerLemmas.{Contains-cases, Contains-cons, Contains-head}
-use Rattle.board_paste.specs.Copies.{copies_of, copy_among, is_among}
-use Rattle.board_paste.specs.Naming.{copy_of}
+use Rattle.copies.specs.Copies.{copies_of}
+use Rattle.copies.specs.Naming.{copy_of}
+use Rattle.copies.proofs.CallerLemmas.{copied, copies-length, copy-named, original}
 use Rattle.board_paste.specs.Pasting.{first_stored, is_stored}
-use Rattle.board_paste.proofs.CopyNames.{copied, copy-named, original}
 
 -- ---- ids that are stored
 none-stored : (stored elements : List ElementValue) (places : List ℕ) → length places ≡ length elements → first_stored stored elements places ≡ None
@@ -35,14 +35,6 @@ all-new stored (x ∷ elements) (place ∷ places) new =
 not-some : (o : Option ElementValue) → is_some o ≡ false → o ≡ None
 not-some None e = refl
 not-some (Some x) e = absurd (false≢true (sym e))
-
-length-map : {X Y : Type 0} (f : X → Y) (xs : List X) → length (map f xs) ≡ length xs
-length-map f [] = refl
-length-map f (x ∷ xs) = ap suc (length-map f xs)
-
-copies-length : (list : List ElementValue) (prefix : List ℕ) → length (copies_of list prefix) ≡ length list
-unfolding copies_of
-copies-length list prefix = length-map (copy_among (is_among list) prefix) list
 
 -- what is left of two lists behind the shorter one
 none-left : (stored elements : List ElementValue) → first_stored stored elements [] ≡ None

@@ -9,7 +9,7 @@ use Rattle.elem_store.specs.Updates.{element_of}
 use Rattle.view.specs.Shown.{live_elements, shown}
 use Rattle.file_table.specs.Table.{AreLeastEntries}
 use Rattle.scene_file.specs.Heads.{Heading, IsJoinedHead}
-use Rattle.board_paste.specs.Copies.{copies_of}
+use Rattle.copies.specs.Copies.{copies_of}
 
 -- the key of the last element, if there is one and it has one
 abbrev pub last_key : List ElementValue → Option (List ℕ)

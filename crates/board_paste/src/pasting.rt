@@ -4,21 +4,21 @@ ghost use Rattle.std.specs.Prelude.{◌≡◌, ◌++◌, List as Items, Some, No
 ghost use Rattle.frac_keys.specs.Between.{keys_between};
 ghost use Rattle.json_text.specs.Members.{pairs};
 ghost use Rattle.elem.specs.ElementValue.{ElementValue};
-ghost use Rattle.index_repair.specs.Keyed.{keyed, with_index};
+ghost use Rattle.index_repair.specs.Keyed.{keyed};
 ghost use Rattle.elem_store.specs.Updates.{AreStored};
 ghost use Rattle.view.specs.Shown.{live_elements, shown};
 ghost use Rattle.file_table.specs.Table.{AreLeastEntries, EntriesNest};
-ghost use Rattle.board_paste.specs.Copies.{copies_of};
+ghost use Rattle.copies.specs.Copies.{copies_of};
 ghost use Rattle.board_paste.specs.Pasting.{first_stored, is_stored, last_key, pasted, HasJoinedFiles, IsClipHead};
 ghost use Rattle.board_paste.specs.declared.pasting.Exists.{Exists};
 
-use crate::clip::Clip;
-use crate::copying::copies;
-use board_base::{List, Stop, change_each};
+use board_base::{List, Stop};
+use clips::Clip;
+use copies::{copies, keyed_between};
 use elem::Element;
 use elem_store::Store;
 use file_table::Files;
-use frac_keys::{Key, n_between};
+use frac_keys::Key;
 use json_text::{Member, Text};
 use scene_file::{Head, join};
 use std::alloc::{AllocError, Global};
@@ -93,10 +93,7 @@ fn keyed_above(
     ensures { IfOk result (λ new. new ≡ keyed elements (keys_between (last_key (shown (live_elements store.now.elements))) None (length elements))) }
 {
     let shown = shown_elements(alloc, store)?;
-    let mut elements = elements.into_vec();
-    let keys = n_between(alloc, last_key(&shown), None, elements.len())?;
-    change_each(&mut elements, keys.into_vec(), set_index);
-    Ok(List::from_vec(elements))
+    keyed_between(alloc, elements, last_key(&shown), None)
 }
 
 /// The key of the last element, if it has one.
@@ -112,13 +109,6 @@ fn index_of(e: &Element) -> Option<&Key>
     ensures { option_copied result ≡ e.now.index }
 {
     e.index.as_ref()
-}
-
-/// Gives an element this key.
-fn set_index(e: &mut Element, key: Key)
-    ensures { e.new ≡ with_index e.old key }
-{
-    e.index = Some(key);
 }
 
 /// The head with these files alone.

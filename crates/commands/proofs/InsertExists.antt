@@ -4,10 +4,10 @@ use Rattle.std.proofs.lemmas.List.Elements.{All-contains}
 use Rattle.json_text.proofs.CallerLemmas.{Value-compact}
 use Rattle.elem.specs.ElementValue.{ElementValue}
 use Rattle.elem_read.specs.Reading.{IsWholeElement}
-use Rattle.board_paste.specs.Copies.{copies_of}
+use Rattle.copies.specs.Copies.{copies_of}
 use Rattle.board_paste.specs.Pasting.{first_stored}
-use Rattle.board_paste.specs.Placed.{elements_in}
-use Rattle.board_paste.proofs.CallerLemmas.{live-all, placed-whole}
+use Rattle.clips.specs.Placed.{elements_in}
+use Rattle.clips.proofs.CallerLemmas.{live-all, placed-whole}
 use Rattle.library.specs.Best.{AreBest, item_of}
 use Rattle.library.specs.Inserting.{clip_of, placed_from}
 use Rattle.library.specs.Reading.{IsLibraryOf, IsWholeItem}

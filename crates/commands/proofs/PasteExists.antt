@@ -1,20 +1,14 @@
 -- Every input is answered with a text into which a clip is pasted, or refused.
-use Rattle.std.proofs.Common.{◌≡◌, ◌≢◌, ◌⊎◌, inl, inr, ℕ, List, [], ◌∷◌, ◌++◌, All, Option, Some, None, IfSome, Result, Ok, Err, true, false, length, codes, bytes_eq, Bool, if◌then◌else◌, refl, sym, ap, subst, ◌∙◌, lit≤, zero, suc, slice_get, option_and_then}
-use Rattle.std.specs.List.{AllByRecursion, list_all}
+use Rattle.std.proofs.Common.{◌≡◌, inl, inr, ℕ, List, [], ◌∷◌, ◌++◌, All, Option, Some, None, IfSome, Result, Ok, Err, true, length, refl, sym, ap, subst, zero, suc, slice_get, option_and_then}
+use Rattle.std.specs.List.{list_all}
 use Rattle.std.specs.Str.{IsUtf8}
-use Rattle.std.proofs.lemmas.Bool.{cases_Bool, both_ways, and_parts}
+use Rattle.std.proofs.lemmas.Bool.{and_parts}
 use Rattle.std.proofs.lemmas.List.{append-nil}
-use Rattle.json_text.specs.Compact.{Member as Pair, object_text}
+use Rattle.json_text.specs.Compact.{Member as Pair}
 use Rattle.json_text.specs.Members.{pairs}
-use Rattle.json_text.specs.Parts.{AreMembers}
-use Rattle.json_text.specs.Value.{IsCompact}
-use Rattle.json_text.proofs.CallerLemmas.{Value-compact, array-or-not, bytes_eq-same, bytes_eq-true, object-or-not}
-use Rattle.scene_json.specs.Named.{value_at}
+use Rattle.json_text.proofs.CallerLemmas.{Value-compact}
 use Rattle.elem.specs.ElementValue.{ElementValue}
-use Rattle.elem.specs.Forms.{IsObject, IsText}
-use Rattle.elem.proofs.CallerLemmas.{AreKept, IsKept, text-once, with_index, AllByRecursion-append}
-use Rattle.elem_read.specs.Elements.{AreRead}
-use Rattle.elem_read.proofs.CallerLemmas.{Decided, Fits, fits-in, pairs-unpaired, read-or-faulty, text-or-not, unpaired}
+use Rattle.elem.proofs.CallerLemmas.{AreKept, IsKept, with_index, AllByRecursion-append}
 use Rattle.elem_store.proofs.CallerLemmas.{stored-exist}
 use Rattle.file_table.specs.Table.{AreLeastEntries}
 use Rattle.file_table.proofs.CallerLemmas.{files-exist, AreLeastEntries-none}
@@ -22,24 +16,17 @@ use Rattle.frac_keys.specs.Keys.{is_key}
 use Rattle.frac_keys.specs.Between.{keys_between}
 use Rattle.index_repair.specs.Keyed.{keyed, index_of}
 use Rattle.scene_file.specs.Heads.{Heading}
-use Rattle.scene_file.specs.Reading.{HasItems, HasMembers, value_unless_null}
 use Rattle.scene_file.specs.declared.layout.Layout.TheVariants.{Compact}
 use Rattle.scene_file.specs.declared.scene.Scene.{Scene}
 use Rattle.scene_file.proofs.CallerLemmas.{AllFit, HasText, IsFit, all-sound, heads-fit, joined-exists, joined-fits, stored-kept, updates-kept}
-use Rattle.board_paste.specs.Clips.{IsClipOf, IsClipFault, IsClipWith, IsClipboard, live_in}
-use Rattle.board_paste.specs.Copies.{copies_of}
+use Rattle.clips.specs.Clips.{IsClipOf}
+use Rattle.copies.specs.Copies.{copies_of}
 use Rattle.board_paste.specs.Pasting.{IsClipHead, first_stored, last_key, pasted}
-use Rattle.board_paste.specs.Placed.{AreReadFrom, elements_in, first_repeat, places_in}
-use Rattle.board_paste.specs.declared.clip.Clip.{Clip}
-use Rattle.board_paste.specs.declared.fault.ClipFault.{ClipFault}
-use Rattle.board_paste.specs.declared.fault.ClipFault.TheVariants.{NotObject, NotClip, Elements, Files, Element, Repeated}
-use Rattle.board_paste.specs.declared.placed.Placed.{Placed}
-use Rattle.board_paste.proofs.CallerLemmas.{copies-whole, live-all, placed-whole}
-use Rattle.board_paste.proofs.ClipFiles.{nests-given}
+use Rattle.clips.specs.declared.clip.Clip.{Clip}
+use Rattle.clips.proofs.CallerLemmas.{clip-files, clip-or-fault, clip-whole, copies-whole}
 use Rattle.elem_read.specs.Reading.{IsWholeElement}
 use Rattle.frac_keys.specs.Rising.{ends_rise, is_key_or_none}
 use Rattle.frac_keys.proofs.CallerLemmas.{keys_between-law}
-use Rattle.json_text.specs.Tree.{null_word}
 use Rattle.view.specs.Shown.{live_elements, shown}
 use Rattle.view.proofs.CallerLemmas.{live-kept, shown-kept}
 use Rattle.commands.specs.Answers.{IsAnswer}
@@ -53,118 +40,6 @@ use Rattle.commands.specs.declared.words.Command.TheVariants.{Paste}
 use Rattle.commands.proofs.FrontExists.{front-exists}
 use Rattle.commands.proofs.Names.{name-utf8}
 use Rattle.commands.proofs.Shows.{members-fit, scene-exists, wholes-kept}
-
--- ---- what is given under the names of an object
-fits-given : (name : List ℕ) (members : List Pair) → AreMembers 127 members → Fits (value_unless_null name members)
-fits-given name members are =
-    elim (value_at name members) as (λ (found : Option (List ℕ)). Fits found → Fits (elim found [ None ↦ None | Some value ↦ if bytes_eq value null_word then None else Some value ])) [
-      | None ↦ λ fits. tt
-      | Some value ↦ λ fits. elim (bytes_eq value null_word) as (λ (b : Bool). Fits (if b then None else Some value)) [ true ↦ tt | false ↦ fits ]
-    ] (fits-in 127 members (lit≤ tt) are name)
-
-items-or-not : (found : Option (List ℕ)) → Fits found → Decided (HasItems found)
-items-or-not None fits = inl ([], refl)
-items-or-not (Some value) fits = elim (array-or-not value fits) [
-  | inl (items, all, e) ↦ inl (items, (all, e))
-  | inr none ↦ inr (λ items has. none items has.1)
-]
-
-members-or-not : (found : Option (List ℕ)) → Fits found → Decided (HasMembers found)
-members-or-not None fits = inl ([], refl)
-members-or-not (Some value) fits = elim (object-or-not value fits) [
-  | inl (members, are, e) ↦ inl (members, record { are_members = are; spelled = e })
-  | inr none ↦ inr (λ members has. none members has.spelled)
-]
-
-items-compact : (found : Option (List ℕ)) (values : List (List ℕ)) → HasItems found values → AllByRecursion (IsCompact 127) values
-items-compact None values none = subst (AllByRecursion (IsCompact 127)) (sym none) tt
-items-compact (Some value) values has = has.0
-
-is-text : (found : Option (List ℕ)) (wanted : List ℕ) → Fits found → IsText found wanted ⊎ (IsText found wanted → ⊥)
-is-text found wanted fits = by (text-or-not found fits)
-  where
-    by : Decided (IsText found) → IsText found wanted ⊎ (IsText found wanted → ⊥)
-    by (inr none) = inr (λ is. none wanted is)
-    by (inl (text, is)) = elim (cases_Bool (bytes_eq text wanted)) [
-      | inl e ↦ inl (subst (IsText found) (bytes_eq-true text wanted e) is)
-      | inr e ↦ inr (λ also. both_ways (bytes_eq text wanted) e (ap (λ t. bytes_eq t wanted) (text-once found text wanted is also) ∙ bytes_eq-same wanted))
-    ]
-
--- ---- a clip, or its first fault
-placed-from : (n : ℕ) (values : List (List ℕ)) (elements : List ElementValue) → AreRead values elements → (placed : List Placed) × AreReadFrom n values placed
-placed-from n [] elements none = ([], refl)
-placed-from n (v ∷ values) elements (inl (dropped, read)) =
-    let rest = placed-from (suc n) values elements read in (rest.0, inl (dropped, rest.1))
-placed-from n (v ∷ values) elements (inr (e, others, all, is, read)) =
-    let rest = placed-from (suc n) values others read in
-    let own : Placed = record { place = n; element = e } in
-    (own ∷ rest.0, inr (own, rest.0, refl, refl, is, rest.1))
-
--- A clip whose elements are whole, and whose files nest as they may.
-record IsWholeClip (text : List ℕ) (clip : Clip) : Type 0 where
-  pub is : IsClipOf text clip
-  pub whole : All IsWholeElement clip.elements
-  pub files : AllFit (pairs clip.files)
-
-abbrev Told : List ℕ → Type 0
-Told text = ((clip : Clip) × IsWholeClip text clip) ⊎ ((fault : ClipFault) × IsClipFault text fault)
-
-module _ (text : List ℕ) (members : List Pair) (are : AreMembers 127 members) (object : IsObject text members) (kind : IsClipboard members)
-    (values : List (List ℕ)) (items : HasItems (value_unless_null (codes "elements") members) values)
-    (files : List Pair) (table : HasMembers (value_unless_null (codes "files") members) files) where
-  is-with : IsClipWith text members values
-  is-with = record { object = object; kind = kind; items = items }
-
-  with-placed : (placed : List Placed) → AreReadFrom 0 values placed → Told text
-  with-placed placed read = by (first_repeat (live_in placed)) refl
-    where
-      by : (repeat : Option ℕ) → first_repeat (live_in placed) ≡ repeat → Told text
-      by None distinct = inl (
-        record { elements = elements_in (live_in placed); places = places_in (live_in placed); files = unpaired files },
-        record {
-          is = record {
-            members = members;
-            object = object;
-            kind = kind;
-            values = values;
-            items = items;
-            files = subst (HasMembers (value_unless_null (codes "files") members)) (sym (pairs-unpaired files)) table;
-            placed = placed;
-            read = read;
-            distinct = distinct;
-            elements = refl;
-            places = refl;
-          };
-          whole = live-all IsWholeElement placed (placed-whole values placed read);
-          files = subst AllFit (sym (pairs-unpaired files)) (members-fit files (nests-given (codes "files") members files are table));
-        },
-      )
-      by (Some place) repeated = inr (Repeated place, (members, values, is-with, (files, table), (placed, read, repeated)))
-
-  with-elements : Told text
-  with-elements = elim (read-or-faulty values (items-compact (value_unless_null (codes "elements") members) values items)) [
-    | inl (elements, read) ↦ let placed = placed-from 0 values elements read in with-placed placed.0 placed.1
-    | inr (place, fault, faulty) ↦ inr (Element place fault, (members, values, is-with, (files, table), faulty))
-  ]
-
-clip-or-faulty : (text : List ℕ) → IsCompact 128 text → Told text
-clip-or-faulty text is = by (object-or-not text is)
-  where
-    parts : (members : List Pair) → AreMembers 127 members → IsObject text members → IsClipboard members
-        → Decided (HasItems (value_unless_null (codes "elements") members)) → Decided (HasMembers (value_unless_null (codes "files") members)) → Told text
-    parts members are object kind (inr none) entries = inr (Elements, (members, object, kind, none))
-    parts members are object kind (inl (values, items)) (inr none) = inr (Files, (members, values, record { object = object; kind = kind; items = items }, none))
-    parts members are object kind (inl (values, items)) (inl (files, table)) = with-elements text members are object kind values items files table
-
-    by : ((members : List Pair) × AreMembers 127 members × (text ≡ object_text members)) ⊎ ((members : List Pair) → text ≢ object_text members) → Told text
-    by (inr none) = inr (NotObject, λ members object. none members object.spelled)
-    by (inl (members, are, e)) =
-        let object : IsObject text members = record { are_members = are; spelled = e } in
-        elim (is-text (value_at (codes "type") members) (codes "excalidraw/clipboard") (fits-in 127 members (lit≤ tt) are (codes "type"))) [
-          | inr none ↦ inr (NotClip, (members, object, none))
-          | inl kind ↦ parts members are object kind (items-or-not (value_unless_null (codes "elements") members) (fits-given (codes "elements") members are))
-              (members-or-not (value_unless_null (codes "files") members) (fits-given (codes "files") members are))
-        ]
 
 -- ---- what is pasted
 keyed-kept : (es : List ElementValue) (keys : List (List ℕ)) → list_all is_key keys ≡ true → AreKept es → AreKept (keyed es keys)
@@ -253,8 +128,8 @@ module _ (prefix bytes : List ℕ) (names : is_name prefix ≡ true) where
   abbrev IsAnswered : Type 0
   IsAnswered = (answer : Result (List ℕ) Refusal) × IsAnswer (Paste prefix) bytes answer
 
-  with-clip : (scene : Scene) (text : List ℕ) (more : Option ℕ) → HasFront bytes scene text more → (clip : Clip) → IsWholeClip text clip → IsAnswered
-  with-clip scene text (Some at) front clip is = (Err (refusal.Extra at), inl (inr (inr (at, refl, (scene, text, front, (clip, is.is))))))
+  with-clip : (scene : Scene) (text : List ℕ) (more : Option ℕ) → HasFront bytes scene text more → (clip : Clip) → IsClipOf text clip → IsAnswered
+  with-clip scene text (Some at) front clip is = (Err (refusal.Extra at), inl (inr (inr (at, refl, (scene, text, front, (clip, is))))))
   with-clip scene text None front clip is = by (first_stored board.1 (copies_of clip.elements prefix) clip.places) refl
     where
       board : (head : Heading) × (stored : List ElementValue) × IsBoardOf (scene ∷ []) head stored
@@ -262,8 +137,9 @@ module _ (prefix bytes : List ℕ) (names : is_name prefix ≡ true) where
 
       by : (place : Option ℕ) → first_stored board.1 (copies_of clip.elements prefix) clip.places ≡ place → IsAnswered
       by None new =
-          let made = pasted_as-exists prefix scene clip board.0 board.1 (name-utf8 prefix names) (front.first.text, front.first.says) is.whole is.files board.2 new in
-          (Ok made.0, record { scene = scene; clip = clip; holds = (text, front, is.is); is = made.1 })
+          let made = pasted_as-exists prefix scene clip board.0 board.1 (name-utf8 prefix names) (front.first.text, front.first.says) (clip-whole text clip is)
+          (members-fit (pairs clip.files) (clip-files text clip is)) board.2 new in
+          (Ok made.0, record { scene = scene; clip = clip; holds = (text, front, is); is = made.1 })
       by (Some place) exists = (
         Err (refusal.Exists place),
         inr (
@@ -272,7 +148,7 @@ module _ (prefix bytes : List ℕ) (names : is_name prefix ≡ true) where
           record {
             scene = scene;
             clip = clip;
-            holds = (text, front, is.is);
+            holds = (text, front, is);
             is = record { head = board.0; stored = board.1; board = board.2; exists = exists };
           },
         ),
@@ -281,7 +157,7 @@ module _ (prefix bytes : List ℕ) (names : is_name prefix ≡ true) where
   pub pasted-exists : IsAnswered
   pasted-exists = elim (front-exists bytes) [
     | inr (found, is) ↦ (Err found, inl (inl is))
-    | inl (scene, text, more, front) ↦ elim (clip-or-faulty text (Value-compact front.second.reads)) [
+    | inl (scene, text, more, front) ↦ elim (clip-or-fault text (Value-compact front.second.reads)) [
       | inl (clip, is) ↦ with-clip scene text more front clip is
       | inr (fault, is) ↦ (Err (refusal.Clip fault), inl (inr (inl (scene, text, more, front, (fault, refl, is)))))
     ]

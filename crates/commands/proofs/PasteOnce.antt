@@ -6,11 +6,11 @@ use Rattle.elem.specs.ElementValue.{ElementValue}
 use Rattle.elem_store.specs.Updates.{AreStored}
 use Rattle.elem_store.proofs.CallerLemmas.{store-unique}
 use Rattle.file_table.proofs.CallerLemmas.{AreLeastEntries-unique}
-use Rattle.board_paste.specs.Clips.{IsClipOf}
-use Rattle.board_paste.specs.Copies.{copies_of}
+use Rattle.clips.specs.Clips.{IsClipOf}
+use Rattle.copies.specs.Copies.{copies_of}
 use Rattle.board_paste.specs.Pasting.{IsClipHead, first_stored, pasted}
-use Rattle.board_paste.specs.declared.clip.Clip.{Clip}
-use Rattle.board_paste.proofs.CallerLemmas.{clip-faultless, clip-once, fault-once}
+use Rattle.clips.specs.declared.clip.Clip.{Clip}
+use Rattle.clips.proofs.CallerLemmas.{clip-faultless, clip-once, fault-once}
 use Rattle.scene_file.specs.Heads.{Heading, IsJoinedHead}
 use Rattle.scene_file.specs.declared.layout.Layout.TheVariants.{Compact}
 use Rattle.scene_file.specs.declared.scene.Scene.{Scene}

@@ -4,7 +4,7 @@ use Rattle.board_base.specs.declared.stop.Stop.{Stop}
 use Rattle.board_base.specs.declared.stop.Stop.TheVariants as stop
 use Rattle.board_ends.specs.Counts.{Rose}
 use Rattle.board_ends.specs.Ends.{SinkEnd, Took}
-use Rattle.board_paste.specs.Faults.{clip_fault_words, words_of_element}
+use Rattle.clips.specs.Faults.{clip_fault_words, words_of_element}
 use Rattle.library.specs.Faults.{lib_fault_words}
 use Rattle.room_disk.specs.Faults.{line_fault_words}
 use Rattle.scene_file.specs.Faults.{scene_fault_words}

@@ -3,11 +3,11 @@ use Rattle.std.specs.Prelude.{◌≡◌, ◌⊎◌, ℕ, List, [], ◌∷◌, �
 use Rattle.json_text.specs.Members.{pairs}
 use Rattle.elem.specs.ElementValue.{ElementValue}
 use Rattle.elem_store.specs.Updates.{AreStored}
-use Rattle.board_paste.specs.Clips.{IsClipOf, IsClipFault}
-use Rattle.board_paste.specs.Copies.{copies_of}
+use Rattle.clips.specs.Clips.{IsClipOf, IsClipFault}
+use Rattle.copies.specs.Copies.{copies_of}
 use Rattle.board_paste.specs.Pasting.{first_stored, pasted, IsClipHead}
-use Rattle.board_paste.specs.declared.clip.Clip.{Clip}
-use Rattle.board_paste.specs.declared.fault.ClipFault.{ClipFault}
+use Rattle.clips.specs.declared.clip.Clip.{Clip}
+use Rattle.clips.specs.declared.fault.ClipFault.{ClipFault}
 use Rattle.scene_file.specs.Heads.{Heading, IsJoinedHead}
 use Rattle.scene_file.specs.declared.layout.Layout.TheVariants.{Compact}
 use Rattle.scene_file.specs.declared.scene.Scene.{Scene}

@@ -3,7 +3,7 @@
 ghost use Rattle.std.specs.Prelude.{◌≡◌, ℕ, Err, IfOk, length};
 ghost use Rattle.json_text.specs.Members.{pairs};
 ghost use Rattle.file_table.specs.Table.{EntriesNest};
-ghost use Rattle.board_paste.specs.Clips.{IsClipOf};
+ghost use Rattle.clips.specs.Clips.{IsClipOf};
 ghost use Rattle.commands.specs.Fronts.{IsSecondRefusal};
 ghost use Rattle.commands.specs.Pastes.{HasSceneAndClip, IsClip, IsExisting, IsNoClip, IsPasted, IsPastedAs, IsPasteRefusal};
 ghost use Rattle.commands.specs.declared.status.Refusal.{Refusal};
@@ -12,7 +12,8 @@ use crate::answer::{board_of, shown_text};
 use crate::front::read_front;
 use crate::status::Refusal;
 use board_base::{Bytes, Stop};
-use board_paste::{Clip, Exists, paste, read_clip};
+use board_paste::{Exists, paste};
+use clips::{Clip, read_clip};
 use json_text::{Raw, Text};
 use scene_file::{Layout, Scene};
 use std::alloc::Global;

@@ -9,7 +9,7 @@ ghost use Rattle.commands.specs.declared.status.Refusal.{Refusal};
 
 use board_base::{Piece, Stop};
 use board_ends::{Sink, write_pieces};
-use board_paste::ClipFault;
+use clips::ClipFault;
 use library::{ItemFault, LibFault};
 use room_disk::LineFault;
 use scene_file::SceneFault;
@@ -237,6 +237,10 @@ fn event_line(number: u64, found: TextFault) -> [Piece; 11]
             Piece::Words(fault.word()),
             NONE,
         ),
+        TextFault::Clip(fault) => {
+            let [first, second, third, fourth] = fault.pieces();
+            text_line(number, ": clip: ", first, second, third, fourth)
+        }
     }
 }
 

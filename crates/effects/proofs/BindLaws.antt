@@ -35,6 +35,7 @@ use Rattle.effects.proofs.DeletingLaws.{deleted_from-none}
 use Rattle.effects.proofs.KeepingLaws.{Self, with_end_of-keeps, listed-keeps}
 use Rattle.effects.proofs.LabelLaws.{append-none, unlisting, unlisting-others, unlisting-lists, either-bound, is_id-apart, apart-still, apart-there}
 use Rattle.effects.proofs.NamedLaws.{at-some, named-after, own-id, among-Contains, chosen, passed, stays, of-live, becomes, live-before}
+use Rattle.effects.proofs.CreatedLaws.{distinct-one}
 use Rattle.effects.proofs.OutcomeLaws.{none-misfit, created-given}
 
 -- ---- listings and ends
@@ -157,7 +158,7 @@ module _ (arrow : List ℕ) (side : Side) (binding : Option Binding) (old : Opti
 
 -- ---- what is stored then, for whatever gives an end a binding, or takes it
 module _ (stored shown : List ElementValue) (time nonce : ℕ) (given : List ElementValue) (ordered : are_rising (ids_of stored) ≡ true) where
-  module _ (command : Command) (arrow : List ℕ) (side : Side) (binding : Option Binding) (told : outcome stored shown command time nonce ≡ Ok given) (nothing : created shown command time nonce ≡ None)
+  module _ (command : Command) (arrow : List ℕ) (side : Side) (binding : Option Binding) (told : outcome stored shown command time nonce ≡ Ok given) (nothing : created shown command time nonce ≡ [])
       (makes : (old : ElementValue) → effect stored shown command old ≡ bound_to arrow side binding (old_target stored arrow side) old) where
     abbrev was : Option (List ℕ)
     was = old_target stored arrow side
@@ -253,8 +254,9 @@ module _ (stored shown : List ElementValue) (time nonce : ℕ) (given : List Ele
   pub create-given : (element : ElementValue) (spot : Spot) → outcome stored shown (commands.Create element spot) time nonce ≡ Ok given
       → IsSomeAnd (element_of given element.id) (λ (e : ElementValue). unstamped e ≡ unstamped (record element { deleted = false; index = e.index }))
   create-given element spot told =
-      at-some (λ (e : ElementValue). unstamped e ≡ unstamped (record element { deleted = false; index = e.index })) (element_of given element.id) (created_at shown element spot time nonce)
-      (created-given stored shown (commands.Create element spot) time nonce given told ordered (created_at shown element spot time nonce) refl) refl
+      let new = created_at shown element spot time nonce in
+      at-some (λ (e : ElementValue). unstamped e ≡ unstamped (record element { deleted = false; index = e.index })) (element_of given element.id) new
+      (created-given stored shown (commands.Create element spot) time nonce given told ordered (distinct-one new) new (Contains-head new [])) refl
 
   pub create-rest : (element : ElementValue) (spot : Spot) → outcome stored shown (commands.Create element spot) time nonce ≡ Ok given
       → (id : List ℕ) (old : ElementValue) → element_of stored id ≡ Some old → is_live old ≡ true → IsSomeAnd (stored_after stored given id) (λ (e : ElementValue). unstamped e ≡ unstamped (with_view_key shown old))
@@ -263,7 +265,7 @@ module _ (stored shown : List ElementValue) (time nonce : ℕ) (given : List Ele
 
   module _ (id : List ℕ) (spot : Spot) (told : outcome stored shown (commands.Place id spot) time nonce ≡ Ok given) where
     abbrev place-key : Option (List ℕ)
-    place-key = key_at shown spot id (key_in shown id)
+    place-key = key_at shown spot (Some id) (key_in shown id)
 
     pub place-given : Becomes stored given id (λ (old e : ElementValue). unstamped e ≡ unstamped (record old { index = e.index }))
     place-given = becomes stored shown (commands.Place id spot) time nonce given told ordered (λ (old e : ElementValue). unstamped e ≡ unstamped (record old { index = e.index })) id (Contains-head id (spot_ids spot))

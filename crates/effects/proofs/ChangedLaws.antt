@@ -1,17 +1,31 @@
 -- What a command comes to, by what was found of it.
-use Rattle.std.proofs.Common.{◌≡◌, ℕ, suc, ◌+◌, List, [], ◌∷◌, Option, Some, None, Result, Ok, Err, find, insert, inl, inr, refl, sym, ap, ◌∙◌, subst, arith}
-use Rattle.std.specs.List.{prefix_len}
+use Rattle.std.proofs.Common.{◌≡◌, ℕ, Bool, true, false, List, [], ◌∷◌, Option, Some, None, Result, Ok, Err, Contains, filter, find, map, length, bytes_eq, inl, inr, refl, sym, ap, ◌∙◌, subst}
+use Rattle.std.specs.List.{AllByRecursion, IsDistinct}
 use Rattle.std.specs.Option.{option_map, option_or}
 use Rattle.std.proofs.lemmas.Bool.{cases_Bool}
-use Rattle.std.proofs.lemmas.Option.{same_Some}
-use Rattle.frac_keys.specs.Keys.{bytes_less}
+use Rattle.std.proofs.lemmas.Option.{cond_some, same_Some}
+use Rattle.frac_keys.specs.Rising.{are_rising}
 use Rattle.elem.specs.ElementValue.{ElementValue}
+use Rattle.elem.specs.Order.{has_id, HaveDistinctIds}
+use Rattle.elem_store.specs.Updates.{ids_of}
+use Rattle.elem_store.proofs.CallerLemmas.{find-None}
+use Rattle.index_repair.specs.Keyed.{keyed}
+use Rattle.copies.specs.Copies.{copies_of}
+use Rattle.copies.proofs.CallerLemmas.{copies-distinct}
 use Rattle.board_commands.specs.declared.command.Command.{Command}
+use Rattle.board_commands.specs.declared.command.Command.TheVariants as commands
+use Rattle.board_commands.specs.declared.command.Spot.{Spot}
+use Rattle.board_commands.specs.Limits.{IsWithinLimits}
 use Rattle.effects.specs.declared.refusal.Refusal.{Refusal}
 use Rattle.effects.specs.declared.effect.Effect.{Effect}
-use Rattle.effects.specs.Changed.{is_full, changes_of, created, with_created, outcome, outcome_from, outcome_unless, refusal_at}
+use Rattle.effects.specs.Changed.{stamped, is_changed, is_full, change_of, changes_of, created, created_at, with_created, outcome, outcome_from, outcome_unless, refusal_at}
+use Rattle.effects.specs.Copying.{as_new, copies_at, shown_among}
+use Rattle.effects.specs.Naming.{is_among}
+use Rattle.effects.specs.Placing.{keys_at}
 use Rattle.effects.specs.Prepared.{made_by, Prepares}
-use Rattle.effects.specs.Refusals.{refusal_of}
+use Rattle.effects.specs.Refusals.{existing, refusal_of}
+use Rattle.effects.proofs.CreatedLaws.{AreApart, absent, created-unknown, distinct-one}
+use Rattle.effects.proofs.OutcomeLaws.{mapped-cases, mapped-rises}
 
 module _ (stored shown : List ElementValue) (command : Command) (time nonce : ℕ) where
   pub outcome-refused : (refusal : Refusal) → refusal_of stored shown command ≡ Some refusal → outcome stored shown command time nonce ≡ Err refusal
@@ -24,7 +38,7 @@ module _ (stored shown : List ElementValue) (command : Command) (time nonce : �
   open-outcome prepared none prepares =
       ap (λ o. outcome_unless o stored shown command time nonce) none ∙ sym (ap found (λ i e. prepares.exact e i))
 
-  full-from : (o : Option ElementValue) (new : Option ElementValue) (changes : List ElementValue) (refusal : Refusal) → option_map refusal_at o ≡ Some refusal → outcome_from o new changes ≡ Err refusal
+  full-from : (o : Option ElementValue) (new changes : List ElementValue) (refusal : Refusal) → option_map refusal_at o ≡ Some refusal → outcome_from o new changes ≡ Err refusal
   full-from None new changes refusal h = absurd (subst (λ (o : Option Refusal). elim o as (λ _. Type 0) [ None ↦ Unit {0} | Some _ ↦ ⊥ ]) h tt)
   full-from (Some e) new changes refusal h = ap Err (same_Some (refusal_at e) refusal h)
 
@@ -33,23 +47,12 @@ module _ (stored shown : List ElementValue) (command : Command) (time nonce : �
   outcome-full prepared refusal none prepares full =
       open-outcome prepared none prepares ∙ full-from _ (created shown command time nonce) (changes_of (made_by prepared) time nonce stored) refusal full
 
-  pub outcome-ok : (prepared : Effect) (new : Option ElementValue) (changed all : List ElementValue) → refusal_of stored shown command ≡ None → Prepares stored shown command prepared → find (is_full (made_by prepared)) stored ≡ None
+  pub outcome-ok : (prepared : Effect) (new changed all : List ElementValue) → refusal_of stored shown command ≡ None → Prepares stored shown command prepared → find (is_full (made_by prepared)) stored ≡ None
       → changed ≡ changes_of (made_by prepared) time nonce stored → new ≡ created shown command time nonce → all ≡ with_created new changed → outcome stored shown command time nonce ≡ Ok all
   outcome-ok prepared new changed all none prepares free made created' is =
       open-outcome prepared none prepares
       ∙ ap (λ o. outcome_from o (created shown command time nonce) (changes_of (made_by prepared) time nonce stored)) free
       ∙ ap Ok (sym (is ∙ ap (λ n. with_created n changed) created' ∙ ap (with_created (created shown command time nonce)) made))
-
-one_more : (n : ℕ) → 1 + n ≡ suc n
-one_more n = omega arith
-
--- a new element has its place behind those of lesser ids
-pub with_created-insert : (e : ElementValue) (elements : List ElementValue) → insert elements (prefix_len (λ (other : ElementValue). bytes_less other.id e.id) elements) e ≡ with_created (Some e) elements
-with_created-insert e [] = refl
-with_created-insert e (other ∷ elements) = elim (cases_Bool (bytes_less other.id e.id)) [
-  | inl t ↦ rw (t, one_more) (ap (λ others. other ∷ others) (with_created-insert e elements))
-  | inr f ↦ rw f refl
-]
 
 -- no part of what is refused refuses
 pub guarded-none : (a b c d : Option Refusal) → option_or a (option_or b (option_or c d)) ≡ None → d ≡ None
@@ -57,3 +60,71 @@ guarded-none None None None d h = h
 guarded-none None None (Some c) d h = absurd (subst (λ (o : Option Refusal). elim o as (λ _. Type 0) [ None ↦ ⊥ | Some _ ↦ Unit {0} ]) h tt)
 guarded-none None (Some b) c d h = absurd (subst (λ (o : Option Refusal). elim o as (λ _. Type 0) [ None ↦ ⊥ | Some _ ↦ Unit {0} ]) h tt)
 guarded-none (Some a) b c d h = absurd (subst (λ (o : Option Refusal). elim o as (λ _. Type 0) [ None ↦ ⊥ | Some _ ↦ Unit {0} ]) h tt)
+
+-- ---- the new elements of a command beside the changed ones
+module _ (stored shown : List ElementValue) (command : Command) (time nonce : ℕ) (makes : ElementValue → ElementValue) (keeps : (e : ElementValue) → (makes e).id ≡ e.id) where
+  change-id : (old e : ElementValue) → change_of makes time nonce old ≡ Some e → e.id ≡ old.id
+  change-id old e h =
+      let one = cond_some (is_changed makes old) (stamped time nonce (makes old)) e h in
+      ap (λ (d : ElementValue). d.id) (sym one.1) ∙ keeps old
+
+  pub changes-rise : are_rising (ids_of stored) ≡ true → are_rising (ids_of (changes_of makes time nonce stored)) ≡ true
+  changes-rise rise = mapped-rises (change_of makes time nonce) change-id None stored rise
+
+  pub new-apart : existing stored command ≡ None → AreApart (created shown command time nonce) (changes_of makes time nonce stored)
+  new-apart free d c =
+      find-None (has_id d.id) (changes_of makes time nonce stored) (λ e f.
+      let from = mapped-cases (change_of makes time nonce) stored e f in
+      ap (bytes_eq d.id) (change-id from.0 e from.2) ∙ absent d.id stored from.0 (created-unknown stored shown time nonce command d free c) from.1)
+
+-- ---- the ids of new elements are distinct
+module _ (x : List ℕ) where
+  abbrev IsApart : List ElementValue → Type 0
+  IsApart es = AllByRecursion (λ id. bytes_eq x id ≡ false) (ids_of es)
+
+  keyed-apart : (es : List ElementValue) (keys : List (List ℕ)) → IsApart es → IsApart (keyed es keys)
+  keyed-apart [] keys apart = tt
+  keyed-apart (e ∷ es) [] apart = tt
+  keyed-apart (e ∷ es) (key ∷ keys) apart = (apart.0, keyed-apart es keys apart.1)
+
+  among-apart : (p : ElementValue → Bool) (es : List ElementValue) → IsApart es → IsApart (filter p es)
+  among-apart p [] apart = tt
+  among-apart p (e ∷ es) apart = elim (cases_Bool (p e)) [
+    | inl t ↦ rw t (apart.0, among-apart p es apart.1)
+    | inr f ↦ rw f (among-apart p es apart.1)
+  ]
+
+keyed-distinct : (es : List ElementValue) (keys : List (List ℕ)) → HaveDistinctIds es → HaveDistinctIds (keyed es keys)
+unfolding IsDistinct
+keyed-distinct [] keys distinct = tt
+keyed-distinct (e ∷ es) [] distinct = tt
+keyed-distinct (e ∷ es) (key ∷ keys) distinct = (keyed-apart e.id es keys distinct.0, keyed-distinct es keys distinct.1)
+
+among-distinct : (p : ElementValue → Bool) (es : List ElementValue) → HaveDistinctIds es → HaveDistinctIds (filter p es)
+unfolding IsDistinct
+among-distinct p [] distinct = tt
+among-distinct p (e ∷ es) distinct = elim (cases_Bool (p e)) [
+  | inl t ↦ rw t (among-apart e.id p es distinct.0, among-distinct p es distinct.1)
+  | inr f ↦ rw f (among-distinct p es distinct.1)
+]
+
+new-ids : (time nonce : ℕ) (es : List ElementValue) → ids_of (map (as_new time nonce) es) ≡ ids_of es
+new-ids time nonce [] = refl
+new-ids time nonce (e ∷ es) = ap (λ ids. e.id ∷ ids) (new-ids time nonce es)
+
+pub copies-at-distinct : (shown list : List ElementValue) (prefix : List ℕ) (spot : Spot) (time nonce : ℕ) → HaveDistinctIds list → HaveDistinctIds (copies_at shown list prefix spot time nonce)
+copies-at-distinct shown list prefix spot time nonce distinct =
+    let copies = copies_of list prefix in
+    let keys = keys_at shown spot (length copies) in
+    subst (IsDistinct bytes_eq) (sym (new-ids time nonce (keyed copies keys))) (keyed-distinct copies keys (copies-distinct list prefix distinct))
+
+pub duplicates-distinct : (shown : List ElementValue) (ids : List (List ℕ)) (prefix : List ℕ) (spot : Spot) (time nonce : ℕ) → HaveDistinctIds shown → HaveDistinctIds (copies_at shown (shown_among ids shown) prefix spot time nonce)
+duplicates-distinct shown ids prefix spot time nonce distinct =
+    copies-at-distinct shown (shown_among ids shown) prefix spot time nonce (among-distinct (λ (e : ElementValue). is_among ids e.id) shown distinct)
+
+pub created-distinct : (shown : List ElementValue) (command : Command) (time nonce : ℕ) → IsWithinLimits command → HaveDistinctIds shown → HaveDistinctIds (created shown command time nonce)
+unfolding IsDistinct
+created-distinct shown (commands.Create element spot) time nonce limits distinct = distinct-one (created_at shown element spot time nonce)
+created-distinct shown (commands.Duplicate ids prefix spot) time nonce limits distinct = duplicates-distinct shown ids prefix spot time nonce distinct
+created-distinct shown (commands.Paste elements prefix spot) time nonce limits distinct = copies-at-distinct shown elements prefix spot time nonce limits
+created-distinct shown command time nonce limits distinct = tt

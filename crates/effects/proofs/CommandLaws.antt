@@ -35,10 +35,11 @@ use Rattle.effects.specs.Effects.{effect}
 use Rattle.effects.specs.Given.{stored_after}
 use Rattle.effects.specs.Linking.{end_at, with_end, with_end_of, listed, unlisted, with_listing_entry, without_listing_entry, old_target}
 use Rattle.effects.specs.Naming.{is_among, is_some_that, apart_from}
-use Rattle.effects.specs.Placing.{Gap, others, first_key, last_key_or, gap_above, gap_at, gap_of, lies_within, key_within, key_at, key_in, with_view_key}
+use Rattle.effects.specs.Placing.{Gap, is_of, others, first_key, last_key_or, gap_above, gap_at, gap_of, lies_within, key_within, key_at, key_in, with_view_key}
 use Rattle.effects.specs.Refusals.{is_kind_of, spot_ids, unless_right}
 use Rattle.effects.proofs.KeepingLaws.{Self, with_end_of-keeps}
-use Rattle.effects.proofs.OutcomeLaws.{some-or-none, or-none, none-misfit, created-given, stored_after-given, stored_after-kept, after-live}
+use Rattle.effects.proofs.CreatedLaws.{distinct-one, some-or-none}
+use Rattle.effects.proofs.OutcomeLaws.{or-none, none-misfit, created-given, stored_after-given, stored_after-kept, after-live}
 use Rattle.effects.proofs.NamedLaws.{at-some, named-live, named-after, live-before}
 use Rattle.effects.proofs.PlacingLaws.{Rises, Rises-shown, Rises-lower, ends_rise-none}
 
@@ -202,20 +203,20 @@ pub record IsOpen (gap : Gap) : Type 0 where
   pub high : is_key_or_none gap.high ≡ true
   pub rises : ends_rise gap.low gap.high ≡ true
 
-others-keys : (id : List ℕ) (es : List ElementValue) → HaveKeysOrNone es → HaveKeysOrNone (others id es)
-others-keys id [] h = h
-others-keys id (e ∷ es) h =
+others-keys : (except : Option (List ℕ)) (es : List ElementValue) → HaveKeysOrNone es → HaveKeysOrNone (others except es)
+others-keys except [] h = h
+others-keys except (e ∷ es) h =
     let parts = and_parts (is_key_or_none e.index) (list_all is_key_or_none (map index_of es)) h in
-    elim (cases_Bool (bytes_eq id e.id)) [
-      | inl same ↦ rw same (others-keys id es parts.1)
-      | inr other ↦ rw other (and_from (is_key_or_none e.index) (list_all is_key_or_none (map index_of (others id es))) parts.0 (others-keys id es parts.1))
+    elim (cases_Bool (is_of except e)) [
+      | inl same ↦ rw same (others-keys except es parts.1)
+      | inr other ↦ rw other (and_from (is_key_or_none e.index) (list_all is_key_or_none (map index_of (others except es))) parts.0 (others-keys except es parts.1))
     ]
 
-others-rise : (id : List ℕ) (low : Option (List ℕ)) (es : List ElementValue) → Rises low es → Rises low (others id es)
-others-rise id low [] h = tt
-others-rise id low (e ∷ es) h = elim (cases_Bool (bytes_eq id e.id)) [
-  | inl same ↦ rw same (Rises-lower low h.0 (others id es) h.2 (others-rise id (Some h.0) es h.3))
-  | inr other ↦ rw other (h.0, h.1, h.2, others-rise id (Some h.0) es h.3)
+others-rise : (except : Option (List ℕ)) (low : Option (List ℕ)) (es : List ElementValue) → Rises low es → Rises low (others except es)
+others-rise except low [] h = tt
+others-rise except low (e ∷ es) h = elim (cases_Bool (is_of except e)) [
+  | inl same ↦ rw same (Rises-lower low h.0 (others except es) h.2 (others-rise except (Some h.0) es h.3))
+  | inr other ↦ rw other (h.0, h.1, h.2, others-rise except (Some h.0) es h.3)
 ]
 
 first-key : (es : List ElementValue) → HaveKeysOrNone es → is_key_or_none (first_key es) ≡ true
@@ -259,28 +260,33 @@ within-open gap old is = elim (cases_Bool (lies_within gap old)) [
       ∙ and_from (ends_rise gap.low (Some (key_between gap.low gap.high))) (ends_rise (Some (key_between gap.low gap.high)) gap.high) law.above law.below
 ]
 
+-- what is beside a spot among shown elements is open
+pub spot-open : (shown : List ElementValue) (spot : Spot) (except : Option (List ℕ)) → HaveRisingKeys shown → HaveKeysOrNone shown → IsOpen (gap_of shown spot except)
+spot-open shown spot except rising keys =
+    gap-open spot (others except shown) (others-rise except None shown (Rises-shown shown rising)) (others-keys except shown keys)
+
 -- a key at a spot lies strictly between the keys beside it
-pub key-within : (shown : List ElementValue) (spot : Spot) (id : List ℕ) (old : Option (List ℕ)) → HaveRisingKeys shown → HaveKeysOrNone shown → lies_within (gap_of shown spot id) (key_at shown spot id old) ≡ true
-key-within shown spot id old rising keys =
-    within-open (gap_of shown spot id) old (gap-open spot (others id shown) (others-rise id None shown (Rises-shown shown rising)) (others-keys id shown keys))
+pub key-within : (shown : List ElementValue) (spot : Spot) (except old : Option (List ℕ)) → HaveRisingKeys shown → HaveKeysOrNone shown → lies_within (gap_of shown spot except) (key_at shown spot except old) ≡ true
+key-within shown spot except old rising keys = within-open (gap_of shown spot except) old (spot-open shown spot except rising keys)
 
 module _ (stored shown : List ElementValue) (time nonce : ℕ) (given : List ElementValue) (ordered : are_rising (ids_of stored) ≡ true) (rising : HaveRisingKeys shown) (keys : HaveKeysOrNone shown) where
   -- so a new element has a key there
   pub created-within : (element : ElementValue) (spot : Spot) → outcome stored shown (commands.Create element spot) time nonce ≡ Ok given
-      → IsSomeAnd (element_of given element.id) (λ (e : ElementValue). lies_within (gap_of shown spot element.id) e.index ≡ true)
+      → IsSomeAnd (element_of given element.id) (λ (e : ElementValue). lies_within (gap_of shown spot None) e.index ≡ true)
   created-within element spot told =
-      at-some (λ (e : ElementValue). lies_within (gap_of shown spot element.id) e.index ≡ true) (element_of given element.id) (created_at shown element spot time nonce)
-      (created-given stored shown (commands.Create element spot) time nonce given told ordered (created_at shown element spot time nonce) refl)
-      (key-within shown spot element.id None rising keys)
+      let new = created_at shown element spot time nonce in
+      at-some (λ (e : ElementValue). lies_within (gap_of shown spot None) e.index ≡ true) (element_of given element.id) new
+      (created-given stored shown (commands.Create element spot) time nonce given told ordered (distinct-one new) new (Contains-head new []))
+      (key-within shown spot None None rising keys)
 
   -- and one that is placed
   pub placed-within : (id : List ℕ) (spot : Spot) → outcome stored shown (commands.Place id spot) time nonce ≡ Ok given
-      → IsSomeAnd (stored_after stored given id) (λ (e : ElementValue). lies_within (gap_of shown spot id) e.index ≡ true)
+      → IsSomeAnd (stored_after stored given id) (λ (e : ElementValue). lies_within (gap_of shown spot (Some id)) e.index ≡ true)
   placed-within id spot told =
-      named-after stored shown (commands.Place id spot) time nonce given told ordered (λ (e : ElementValue). lies_within (gap_of shown spot id) e.index ≡ true) id (Contains-head id (spot_ids spot))
+      named-after stored shown (commands.Place id spot) time nonce given told ordered (λ (e : ElementValue). lies_within (gap_of shown spot (Some id)) e.index ≡ true) id (Contains-head id (spot_ids spot))
       (λ old found live e same.
       let own = same_id id old (find-Some (has_id id) stored old found).1 in
-      let key = key_at shown spot id (key_in shown id) in
-      ap (λ (d : ElementValue). lies_within (gap_of shown spot id) d.index) same
-      ∙ ap (λ (d : ElementValue). lies_within (gap_of shown spot id) d.index) (cond-true (bytes_eq id old.id) (record (with_view_key shown old) { index = key }) (with_view_key shown old) (subst (λ i. bytes_eq id i ≡ true) own (bytes_eq-same id)))
-      ∙ key-within shown spot id (key_in shown id) rising keys)
+      let key = key_at shown spot (Some id) (key_in shown id) in
+      ap (λ (d : ElementValue). lies_within (gap_of shown spot (Some id)) d.index) same
+      ∙ ap (λ (d : ElementValue). lies_within (gap_of shown spot (Some id)) d.index) (cond-true (bytes_eq id old.id) (record (with_view_key shown old) { index = key }) (with_view_key shown old) (subst (λ i. bytes_eq id i ≡ true) own (bytes_eq-same id)))
+      ∙ key-within shown spot (Some id) (key_in shown id) rising keys)

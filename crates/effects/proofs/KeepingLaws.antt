@@ -91,7 +91,7 @@ effect-keeps stored shown (commands.Create element spot) e = refl
 effect-keeps stored shown (commands.Set id name value) e = one_of (bytes_eq id e.id) e (with_set_member name value e) e refl refl
 effect-keeps stored shown (commands.Delete ids) e = one_of (is_among ids e.id) e (record e { deleted = true }) (without_names (is_among ids) e) refl refl
 effect-keeps stored shown (commands.Place id spot) e =
-    one_of (bytes_eq id e.id) e (record (with_view_key shown e) { index = key_at shown spot id (key_in shown id) }) (with_view_key shown e) refl refl
+    one_of (bytes_eq id e.id) e (record (with_view_key shown e) { index = key_at shown spot (Some id) (key_in shown id) }) (with_view_key shown e) refl refl
 effect-keeps stored shown (commands.Bind arrow side target rest) e =
     bound_to-keeps arrow side (Some (record { target = target; rest = rest })) (old_target stored arrow side) e
 effect-keeps stored shown (commands.Unbind arrow side) e = bound_to-keeps arrow side None (old_target stored arrow side) e
@@ -106,3 +106,5 @@ effect-keeps stored shown (commands.Frame ids frame) e = one_of (is_among ids e.
 effect-keeps stored shown (commands.Unframe ids) e = one_of (is_among ids e.id) e (record e { frame = None }) e refl refl
 effect-keeps stored shown (commands.Group ids group) e = one_of (is_among ids e.id) e (record e { groups = with_group group e.groups }) e refl refl
 effect-keeps stored shown (commands.Ungroup ids group) e = one_of (is_among ids e.id) e (record e { groups = without_group group e.groups }) e refl refl
+effect-keeps stored shown (commands.Duplicate ids prefix spot) e = refl
+effect-keeps stored shown (commands.Paste elements prefix spot) e = refl

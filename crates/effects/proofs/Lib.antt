@@ -1,4 +1,5 @@
 pub mod ChangedLaws
+pub mod CreatedLaws
 pub mod DeletingLaws
 pub mod DifferingLaws
 pub mod FirstLaws
@@ -8,9 +9,13 @@ pub mod SettingLaws
 pub mod WalkingLaws
 pub mod PreparingLaws
 pub mod OutcomeLaws
+pub mod SortedLaws
+pub mod StoredLaws
 pub mod NamedLaws
 pub mod CommandLaws
+pub mod CopyLaws
 pub mod MemberLaws
+pub mod MissingLaws
 pub mod LabelLaws
 pub mod BindLaws
 pub mod CallerLemmas

@@ -1,5 +1,5 @@
 -- What a command leaves as it is stays, and what it names becomes what the command makes of it.
-use Rattle.std.proofs.Common.{◌≡◌, ℕ, true, false, not, List, Option, Some, None, is_some, Ok, Contains, IsSomeAnd, find, if◌then◌else◌, inl, inr, refl, sym, ap, ◌∙◌, subst}
+use Rattle.std.proofs.Common.{◌≡◌, ℕ, true, false, not, List, [], Option, Some, None, is_some, Ok, Contains, IsSomeAnd, find, if◌then◌else◌, inl, inr, refl, sym, ap, ◌∙◌, subst}
 use Rattle.std.specs.Option.{option_map, option_map_or}
 use Rattle.std.proofs.lemmas.Bool.{cases_Bool, false≢true, both_ways, not-false, cond-true, cond-false}
 use Rattle.std.proofs.lemmas.Map.Views.{Contains-from_any}
@@ -20,7 +20,8 @@ use Rattle.effects.specs.Naming.{is_among}
 use Rattle.effects.specs.declared.refusal.Refusal.TheVariants.{NoElement}
 use Rattle.effects.specs.Refusals.{first_missing, is_live_id, command_ids, own_spot}
 use Rattle.effects.proofs.DifferingLaws.{differs-not}
-use Rattle.effects.proofs.OutcomeLaws.{some-or-none, or-none, none-missing, stored_after-kept, not-created, not-given, after-live, after-dead}
+use Rattle.effects.proofs.CreatedLaws.{some-or-none, unmapped}
+use Rattle.effects.proofs.OutcomeLaws.{or-none, none-missing, stored_after-kept, not-created, not-given, after-live, after-dead}
 
 -- ---- ids
 -- the element of an id has it
@@ -36,10 +37,6 @@ chosen ids id own x y is h = cond-true (is_among ids own) x y (subst (λ i. is_a
 
 pub passed : (ids : List (List ℕ)) (id own : List ℕ) (x y : ElementValue) → id ≡ own → is_among ids id ≡ false → (if is_among ids own then x else y) ≡ y
 passed ids id own x y is h = cond-false (is_among ids own) x y (subst (λ i. is_among ids i ≡ false) is h)
-
-unmapped : {X Y : Type 0} (f : X → Y) (o : Option X) → option_map f o ≡ None → o ≡ None
-unmapped f None h = refl
-unmapped f (Some x) h = absurd (none-some (f x) (sym h))
 
 live-found : (stored : List ElementValue) (id : List ℕ) → is_live_id stored id ≡ true → (old : ElementValue) × (element_of stored id ≡ Some old) × (is_live old ≡ true)
 live-found stored id h = elim (some-or-none (element_of stored id)) [
@@ -66,7 +63,7 @@ module _ (stored shown : List ElementValue) (command : Command) (time nonce : �
     makes = effect stored shown command
 
     -- what the command leaves as it is stays, its stamp too
-    pub stays : created shown command time nonce ≡ None → (id : List ℕ) → ((old : ElementValue) → element_of stored id ≡ Some old → makes old ≡ old) → Stays stored given id
+    pub stays : created shown command time nonce ≡ [] → (id : List ℕ) → ((old : ElementValue) → element_of stored id ≡ Some old → makes old ≡ old) → Stays stored given id
     stays nothing id same = elim (some-or-none (element_of stored id)) [
       | inl none ↦ stored_after-kept stored given id (not-created stored shown command time nonce given told ordered id none nothing)
       | inr some ↦ stored_after-kept stored given id
@@ -99,7 +96,7 @@ module _ (stored shown : List ElementValue) (command : Command) (time nonce : �
         (of-live (P old.0) id old.0 old.1 old.2 (λ e same. holds old.0 e old.1 same))
 
     -- and a live element that is stored then was live before, or is new
-    pub live-before : created shown command time nonce ≡ None → (id : List ℕ) (e : ElementValue) → stored_after stored given id ≡ Some e → is_live e ≡ true
+    pub live-before : created shown command time nonce ≡ [] → (id : List ℕ) (e : ElementValue) → stored_after stored given id ≡ Some e → is_live e ≡ true
         → (old : ElementValue) × (element_of stored id ≡ Some old) × (unstamped e ≡ unstamped (makes old))
     live-before nothing id e is live = elim (some-or-none (element_of stored id)) [
       | inl none ↦ absurd (none-some e

@@ -7,7 +7,7 @@ use Rattle.std.proofs.lemmas.Option.{none-some, same_Some, cond_some}
 use Rattle.frac_keys.specs.Keys.{bytes_less}
 use Rattle.frac_keys.specs.Rising.{ends_rise, rise_between, are_rising}
 use Rattle.elem.specs.ElementValue.{ElementValue}
-use Rattle.elem.specs.Order.{beats, unstamped, has_id}
+use Rattle.elem.specs.Order.{beats, unstamped, has_id, HaveDistinctIds}
 use Rattle.elem.proofs.CallerLemmas.{bytes_less-turned}
 use Rattle.elem_store.specs.Updates.{element_of, ids_of, is_newer, is_taken}
 use Rattle.elem_store.proofs.CallerLemmas.{same_id, Contains-head, Contains-cons, Contains-cases, find-Some, find-None, is_some-find, list_any-false, member}
@@ -22,23 +22,15 @@ use Rattle.effects.specs.Differing.{differs}
 use Rattle.effects.specs.Effects.{effect}
 use Rattle.effects.specs.Given.{stored_after, ChangesStored, IsNew}
 use Rattle.effects.specs.Refusals.{refusal_of, refusal_if, existing, missing, misfit, guarded}
+use Rattle.effects.proofs.CreatedLaws.{absent, created-cases, created-fresh, created-kept, created-rises, created-there, created-unknown, some-or-none}
 use Rattle.effects.proofs.DifferingLaws.{same-where-not, differs-not}
 use Rattle.effects.proofs.KeepingLaws.{Self, effect-keeps}
 use Rattle.effects.proofs.PlacingLaws.{ends_rise-none, ends_rise-trans}
-
-pub some-or-none : {X : Type 0} (o : Option X) → (o ≡ None) ⊎ ((x : X) × (o ≡ Some x))
-some-or-none None = inl refl
-some-or-none (Some x) = inr (x, refl)
 
 -- none of two where the first of them is none
 pub or-none : {X : Type 0} (o p : Option X) → option_or o p ≡ None → (o ≡ None) × (p ≡ None)
 or-none None p h = (refl, h)
 or-none (Some x) p h = absurd (none-some x (sym h))
-
--- ---- the elements of an id
--- an id without an element is the id of none
-pub absent : (id : List ℕ) (elements : List ElementValue) (e : ElementValue) → element_of elements id ≡ None → Contains elements e → has_id id e ≡ false
-absent id elements e none c = list_any-false (has_id id) elements e (sym (is_some-find (has_id id) elements) ∙ ap is_some none) c
 
 -- a given element, and else the stored one
 pub stored_after-given : (stored given : List ElementValue) (id : List ℕ) (e : ElementValue) → element_of given id ≡ Some e → stored_after stored given id ≡ Some e
@@ -46,71 +38,6 @@ stored_after-given stored given id e is = ap (λ o. option_or o (element_of stor
 
 pub stored_after-kept : (stored given : List ElementValue) (id : List ℕ) → element_of given id ≡ None → stored_after stored given id ≡ element_of stored id
 stored_after-kept stored given id none = ap (λ o. option_or o (element_of stored id)) none
-
--- ---- one more at the place of its id
-abbrev put : ElementValue → List ElementValue → List ElementValue
-put e elements = with_created (Some e) elements
-
-put-cases : (x : ElementValue) (es : List ElementValue) (e : ElementValue) → Contains (put x es) e → (x ≡ e) ⊎ Contains es e
-put-cases x [] e c = Contains-cases x [] e c
-put-cases x (f ∷ fs) e c =
-    elim (cases_Bool (bytes_less f.id x.id)) [
-      | inl less ↦ elim (Contains-cases f (put x fs) e (rw less at c)) [
-        | inl same ↦ inr (subst (Contains (f ∷ fs)) same (Contains-head f fs))
-        | inr later ↦ elim (put-cases x fs e later) [ inl same ↦ inl same | inr there ↦ inr (Contains-cons f fs e there) ]
-      ]
-      | inr more ↦ Contains-cases x (f ∷ fs) e (rw more at c)
-    ]
-
-put-there : (x : ElementValue) (es : List ElementValue) → Contains (put x es) x
-put-there x [] = Contains-head x []
-put-there x (f ∷ fs) = elim (cases_Bool (bytes_less f.id x.id)) [
-  | inl less ↦ rw less (Contains-cons f (put x fs) x (put-there x fs))
-  | inr more ↦ rw more (Contains-head x (f ∷ fs))
-]
-
-put-kept : (x : ElementValue) (es : List ElementValue) (e : ElementValue) → Contains es e → Contains (put x es) e
-put-kept x [] e c = absurd (omega (arith, c.1))
-put-kept x (f ∷ fs) e c = elim (cases_Bool (bytes_less f.id x.id)) [
-  | inl less ↦ rw less (elim (Contains-cases f fs e c) [
-    | inl same ↦ subst (Contains (f ∷ put x fs)) same (Contains-head f (put x fs))
-    | inr later ↦ Contains-cons f (put x fs) e (put-kept x fs e later)
-  ])
-  | inr more ↦ rw more (Contains-cons x (f ∷ fs) e c)
-]
-
-absent-parts : (id : List ℕ) (f : ElementValue) (fs : List ElementValue) → element_of (f ∷ fs) id ≡ None → (bytes_eq id f.id ≡ false) × (element_of fs id ≡ None)
-absent-parts id f fs h = elim (cases_Bool (bytes_eq id f.id)) [
-  | inl own ↦ absurd (none-some f (sym (rw own at h)))
-  | inr other ↦ (other, rw other at h)
-]
-
-put-rises : (a : Option (List ℕ)) (x : ElementValue) (es : List ElementValue) → ends_rise a (Some x.id) ≡ true → element_of es x.id ≡ None → rise_between a None (ids_of es) ≡ true → rise_between a None (ids_of (put x es)) ≡ true
-put-rises a x [] first none h = and_from (ends_rise a (Some x.id)) true first refl
-put-rises a x (f ∷ fs) first none h =
-    let parts = and_parts (ends_rise a (Some f.id)) (rise_between (Some f.id) None (ids_of fs)) h in
-    let others = absent-parts x.id f fs none in
-    elim (cases_Bool (bytes_less f.id x.id)) [
-      | inl less ↦ rw less (and_from (ends_rise a (Some f.id)) (rise_between (Some f.id) None (ids_of (put x fs))) parts.0 (put-rises (Some f.id) x fs less others.1 parts.1))
-      | inr more ↦ rw more
-          (and_from (ends_rise a (Some x.id)) (rise_between (Some x.id) None (ids_of (f ∷ fs))) first
-          (and_from (bytes_less x.id f.id) (rise_between (Some f.id) None (ids_of fs)) (bytes_less-turned x.id f.id others.0 more) parts.1))
-    ]
-
-created-cases : (new : Option ElementValue) (es : List ElementValue) (e : ElementValue) → Contains (with_created new es) e → (new ≡ Some e) ⊎ Contains es e
-created-cases None es e c = inr c
-created-cases (Some x) es e c = elim (put-cases x es e c) [ inl same ↦ inl (ap Some same) | inr there ↦ inr there ]
-
-created-there : (new : Option ElementValue) (es : List ElementValue) (e : ElementValue) → new ≡ Some e → Contains (with_created new es) e
-created-there new es e is = subst (λ (o : Option ElementValue). Contains (with_created o es) e) (sym is) (put-there e es)
-
-created-kept : (new : Option ElementValue) (es : List ElementValue) (e : ElementValue) → Contains es e → Contains (with_created new es) e
-created-kept None es e c = c
-created-kept (Some x) es e c = put-kept x es e c
-
-created-rises : (new : Option ElementValue) (es : List ElementValue) → ((x : ElementValue) → new ≡ Some x → element_of es x.id ≡ None) → are_rising (ids_of es) ≡ true → are_rising (ids_of (with_created new es)) ≡ true
-created-rises None es none h = h
-created-rises (Some x) es none h = put-rises None x es refl (none x refl) h
 
 -- ---- what a function of elements gives of them
 rises-from : (a : Option (List ℕ)) (k : List ℕ) (es : List ElementValue) → ends_rise a (Some k) ≡ true → rise_between (Some k) None (ids_of es) ≡ true → rise_between a None (ids_of es) ≡ true
@@ -120,7 +47,7 @@ rises-from a k (e ∷ es) less h =
     and_from (ends_rise a (Some e.id)) (rise_between (Some e.id) None (ids_of es)) (ends_rise-trans a k (Some e.id) less parts.0) parts.1
 
 module _ (f : ElementValue → Option ElementValue) where
-  mapped-cases : (es : List ElementValue) (e : ElementValue) → Contains (filter_map f es) e → (old : ElementValue) × Contains es old × (f old ≡ Some e)
+  pub mapped-cases : (es : List ElementValue) (e : ElementValue) → Contains (filter_map f es) e → (old : ElementValue) × Contains es old × (f old ≡ Some e)
   mapped-cases [] e c = absurd (omega (arith, c.1))
   mapped-cases (x ∷ xs) e c =
       elim (some-or-none (f x)) [
@@ -145,7 +72,7 @@ module _ (f : ElementValue → Option ElementValue) where
         ]
       ]
 
-  mapped-rises : ((old e : ElementValue) → f old ≡ Some e → e.id ≡ old.id) → (a : Option (List ℕ)) (es : List ElementValue) → rise_between a None (ids_of es) ≡ true → rise_between a None (ids_of (filter_map f es)) ≡ true
+  pub mapped-rises : ((old e : ElementValue) → f old ≡ Some e → e.id ≡ old.id) → (a : Option (List ℕ)) (es : List ElementValue) → rise_between a None (ids_of es) ≡ true → rise_between a None (ids_of (filter_map f es)) ≡ true
   mapped-rises keeps a [] h = h
   mapped-rises keeps a (e ∷ es) h =
       let parts = and_parts (ends_rise a (Some e.id)) (rise_between (Some e.id) None (ids_of es)) h in
@@ -156,28 +83,6 @@ module _ (f : ElementValue → Option ElementValue) where
             (subst (λ (k : List ℕ). (ends_rise a (Some k) && rise_between (Some k) None (ids_of (filter_map f es))) ≡ true) (sym (keeps e some.0 some.1))
             (and_from (ends_rise a (Some e.id)) (rise_between (Some e.id) None (ids_of (filter_map f es))) parts.0 later))
       ]
-
--- ---- a new element
-unless : (b : Bool) (refusal : Refusal) → refusal_if b refusal ≡ None → b ≡ false
-unless true refusal h = absurd (none-some refusal (sym h))
-unless false refusal h = refl
-
-no-some : (o : Option ElementValue) → is_some o ≡ false → o ≡ None
-no-some None h = refl
-no-some (Some x) h = absurd (false≢true (sym h))
-
-module _ (stored shown : List ElementValue) (time nonce : ℕ) where
-  created-unknown : (command : Command) (e : ElementValue) → existing stored command ≡ None → created shown command time nonce ≡ Some e → element_of stored e.id ≡ None
-  created-unknown (commands.Create element spot) e free is =
-      ap (λ (d : ElementValue). element_of stored d.id) (sym (same_Some (created_at shown element spot time nonce) e is))
-      ∙ no-some (element_of stored element.id) (unless (is_some (element_of stored element.id)) (Exists element.id) free)
-  created-unknown command e free is = absurd (none-some e is)
-
-  created-fresh : (command : Command) (e : ElementValue) → created shown command time nonce ≡ Some e → (is_live e ≡ true) × (e.version ≡ 1)
-  created-fresh (commands.Create element spot) e is =
-      let same = sym (same_Some (created_at shown element spot time nonce) e is) in
-      (ap is_live same, ap (λ (d : ElementValue). d.version) same)
-  created-fresh command e is = absurd (none-some e is)
 
 -- ---- what is given
 -- what the command makes of the live stored element of its id, from which it differs, stamped
@@ -191,7 +96,7 @@ pub record IsChangeOf (stored shown : List ElementValue) (command : Command) (ti
 -- the new element of the command
 pub record IsCreated (stored shown : List ElementValue) (command : Command) (time nonce : ℕ) (e : ElementValue) : Type 0 where
   pub unknown : element_of stored e.id ≡ None
-  pub is : created shown command time nonce ≡ Some e
+  pub is : Contains (created shown command time nonce) e
 
 err-ok : (refusal : Refusal) (given : List ElementValue) → ◌≡◌ {A = Result (List ElementValue) Refusal} (Err refusal) (Ok given) → ⊥
 err-ok refusal given h = cc
@@ -199,7 +104,7 @@ err-ok refusal given h = cc
 ok-same : (es given : List ElementValue) → ◌≡◌ {A = Result (List ElementValue) Refusal} (Ok es) (Ok given) → es ≡ given
 ok-same es given h = cc
 
-from-ok : (full new : Option ElementValue) (changes given : List ElementValue) → outcome_from full new changes ≡ Ok given → (full ≡ None) × (given ≡ with_created new changes)
+from-ok : (full : Option ElementValue) (new changes given : List ElementValue) → outcome_from full new changes ≡ Ok given → (full ≡ None) × (given ≡ with_created new changes)
 from-ok None new changes given h = (refl, sym (ok-same (with_created new changes) given h))
 from-ok (Some full) new changes given h = absurd (err-ok (refusal_at full) given h)
 
@@ -295,7 +200,6 @@ module _ (stored shown : List ElementValue) (command : Command) (time nonce : �
     given-rise =
         subst (λ (es : List ElementValue). are_rising (ids_of es) ≡ true) (sym given-is)
         (created-rises (created shown command time nonce) changes
-        (λ x is. changes-absent x.id (created-unknown stored shown time nonce command x none-existing is))
         (mapped-rises (change_of makes time nonce) change-id None stored ordered))
 
     -- each is the one of its id
@@ -352,9 +256,11 @@ module _ (stored shown : List ElementValue) (command : Command) (time nonce : �
         (cond-true (is_changed makes old) (Some new) None (and_from (is_live old) (differs old (makes old)) live differ))))
 
     -- and a new element is given
-    pub created-given : (e : ElementValue) → created shown command time nonce ≡ Some e → element_of given e.id ≡ Some e
-    created-given e is =
-        given-found e (subst (λ (es : List ElementValue). Contains es e) (sym given-is) (created-there (created shown command time nonce) changes e is))
+    pub created-given : HaveDistinctIds (created shown command time nonce) → (e : ElementValue) → Contains (created shown command time nonce) e → element_of given e.id ≡ Some e
+    created-given distinct e is =
+        given-found e (subst (λ (es : List ElementValue). Contains es e) (sym given-is)
+        (created-there (created shown command time nonce) changes e distinct
+        (λ d c. changes-absent d.id (created-unknown stored shown time nonce command d none-existing c)) is))
 
     -- an element that is deleted, or that the command leaves as it is, isn't given
     pub not-given : (id : List ℕ) (old : ElementValue) → element_of stored id ≡ Some old → (is_live old ≡ true → differs old (makes old) ≡ true → ⊥) → element_of given id ≡ None
@@ -373,7 +279,7 @@ module _ (stored shown : List ElementValue) (command : Command) (time nonce : �
         ]
 
     -- an id that isn't stored and isn't the new element's isn't given
-    pub not-created : (id : List ℕ) → element_of stored id ≡ None → created shown command time nonce ≡ None → element_of given id ≡ None
+    pub not-created : (id : List ℕ) → element_of stored id ≡ None → created shown command time nonce ≡ [] → element_of given id ≡ None
     not-created id none nothing =
         elim (some-or-none (element_of given id)) [
           | inl free ↦ free
@@ -381,7 +287,7 @@ module _ (stored shown : List ElementValue) (command : Command) (time nonce : �
               let at = find-Some (has_id id) given some.0 some.1 in
               elim (given-cases some.0 at.0) [
                 | inl change ↦ absurd (none-some change.old (sym none ∙ ap (element_of stored) (same_id id some.0 at.1) ∙ change.found))
-                | inr new ↦ absurd (none-some some.0 (sym nothing ∙ new.is))
+                | inr new ↦ absurd (let c = subst (λ (es : List ElementValue). Contains es some.0) nothing new.is in omega (arith, c.1))
               ]
         ]
 

@@ -11,7 +11,7 @@ use Rattle.elem.proofs.CallerLemmas.{bytes_less-trans}
 use Rattle.elem.specs.Order.{has_id}
 use Rattle.elem_store.specs.Updates.{element_of}
 use Rattle.index_repair.specs.Keyed.{index_of, HaveRisingKeys}
-use Rattle.effects.specs.Placing.{others, first_key, gap_above}
+use Rattle.effects.specs.Placing.{is_of, others, first_key, gap_above}
 use Rattle.effects.specs.Prepared.{HasKeys}
 use Rattle.effects.proofs.FirstLaws.{first-append}
 
@@ -58,15 +58,15 @@ pub Rises-lower : (low : Option (List ℕ)) (key : List ℕ) (elements : List El
 Rises-lower low key [] less h = tt
 Rises-lower low key (e ∷ elements) less h = (h.0, h.1, ends_rise-trans low key (Some h.0) less h.2, h.3)
 
-pub first_key-rises : (id : List ℕ) (low : Option (List ℕ)) (elements : List ElementValue) → Rises low elements → ends_rise low (first_key (others id elements)) ≡ true
-first_key-rises id low [] h = ends_rise-none low
-first_key-rises id low (e ∷ elements) h = elim (cases_Bool (bytes_eq id e.id)) [
-  | inl same ↦ rw same (ends_rise-trans low h.0 (first_key (others id elements)) h.2 (first_key-rises id (Some h.0) elements h.3))
+pub first_key-rises : (except : Option (List ℕ)) (low : Option (List ℕ)) (elements : List ElementValue) → Rises low elements → ends_rise low (first_key (others except elements)) ≡ true
+first_key-rises except low [] h = ends_rise-none low
+first_key-rises except low (e ∷ elements) h = elim (cases_Bool (is_of except e)) [
+  | inl same ↦ rw same (ends_rise-trans low h.0 (first_key (others except elements)) h.2 (first_key-rises except (Some h.0) elements h.3))
   | inr other ↦ rw (other, h.1) h.2
 ]
 
-pub gap_above-next : (below id : List ℕ) (e : ElementValue) (elements : List ElementValue) → (not (bytes_eq id e.id) && bytes_eq below e.id) ≡ false → gap_above below (others id (e ∷ elements)) ≡ gap_above below (others id elements)
-gap_above-next below id e elements h = elim (cases_Bool (bytes_eq id e.id)) [
+pub gap_above-next : (below : List ℕ) (except : Option (List ℕ)) (e : ElementValue) (elements : List ElementValue) → (not (is_of except e) && bytes_eq below e.id) ≡ false → gap_above below (others except (e ∷ elements)) ≡ gap_above below (others except elements)
+gap_above-next below except e elements h = elim (cases_Bool (is_of except e)) [
   | inl same ↦ rw same refl
   | inr other ↦ rw (other, rw other at h) refl
 ]

@@ -11,7 +11,8 @@ use Rattle.index_repair.specs.Keyed.{index_of}
 use Rattle.effects.specs.Deleting.{deleted_from}
 use Rattle.effects.specs.Naming.{is_among}
 use Rattle.effects.specs.Placing.{with_view_key, key_in}
-use Rattle.effects.specs.Prepared.{HasKeys, HasIds, settled_in, Prepares}
+use Rattle.effects.specs.Effects.{effect}
+use Rattle.effects.specs.Prepared.{made_by, HasKeys, HasIds, settled_in, IsSoundEffect, Prepares}
 use Rattle.board_commands.specs.declared.command.Command.{Command}
 use Rattle.effects.specs.declared.effect.Effect.{Effect}
 
@@ -76,3 +77,10 @@ module _ {E : Type 0} (r : Result Effect E) (stored view : List ElementValue) (c
       at : (r : Result Effect E) → IfOk r (λ made. (stored view : List ElementValue) → Prepares stored view command made) → IfOk r (Prepares stored view command)
       at (Ok made) h = h stored view
       at (Err e) h = tt
+
+  pub from-parts : IfOk r (λ made. (e : ElementValue) → made_by made e ≡ effect stored view command e) → IfOk r IsSoundEffect → IfOk r (Prepares stored view given)
+  from-parts exact sound = as-given (at r exact sound)
+    where
+      at : (r : Result Effect E) → IfOk r (λ made. (e : ElementValue) → made_by made e ≡ effect stored view command e) → IfOk r IsSoundEffect → IfOk r (Prepares stored view command)
+      at (Ok made) exact sound = record { exact = exact; sound = sound }
+      at (Err e) exact sound = tt

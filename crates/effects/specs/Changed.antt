@@ -1,16 +1,18 @@
 -- The changed elements of a command, or its refusal. This project's own.
-use Rattle.std.specs.Prelude.{ℕ, ◌+◌, ◌==◌, List, Bool, false, ◌&&◌, Option, Some, None, Result, Ok, Err, find, filter_map, if◌then◌else◌}
+use Rattle.std.specs.Prelude.{ℕ, ◌+◌, ◌==◌, List, [], ◌∷◌, Bool, ◌&&◌, Option, Some, None, is_some, Result, Ok, Err, find, filter_map, if◌then◌else◌}
 use Rattle.board_base.specs.declared.stop.Stop.{Stop}
 use Rattle.board_base.specs.declared.stop.Stop.TheVariants.{Fault, Memory}
 use Rattle.frac_keys.specs.Keys.{bytes_less}
 use Rattle.elem.specs.ElementValue.{ElementValue}
 use Rattle.elem.specs.Facts.{greatest_whole}
+use Rattle.elem_store.specs.Updates.{element_of}
 use Rattle.view.specs.Shown.{is_live, with_element}
 use Rattle.board_commands.specs.declared.command.Command.{Command}
 use Rattle.board_commands.specs.declared.command.Command.TheVariants as commands
 use Rattle.effects.specs.declared.refusal.Refusal.{Refusal}
 use Rattle.effects.specs.declared.refusal.Refusal.TheVariants.{VersionFull}
 use Rattle.board_commands.specs.declared.command.Spot.{Spot}
+use Rattle.effects.specs.Copying.{as_new, copies_at, shown_among}
 use Rattle.effects.specs.Differing.{differs}
 use Rattle.effects.specs.Effects.{effect}
 use Rattle.effects.specs.Placing.{key_at}
@@ -41,29 +43,30 @@ abbrev pub changes_of : (ElementValue → ElementValue) → ℕ → ℕ → List
     → List ElementValue
 changes_of makes time nonce stored = filter_map (change_of makes time nonce) stored
 
--- the element as a new one: with version 1, not deleted, and with the key at the spot
+-- the element as a new one, with the key at the spot
 abbrev pub created_at : List ElementValue → ElementValue → Spot → ℕ → ℕ → ElementValue
-created_at shown element spot time nonce = record element {
-  version = 1;
-  nonce = nonce;
-  updated = time;
-  deleted = false;
-  index = key_at shown spot element.id None;
-}
+created_at shown element spot time nonce = record (as_new time nonce element) { index = key_at shown spot None None }
 
--- the new element of a command, if it creates one
-abbrev pub created : List ElementValue → Command → ℕ → ℕ → Option ElementValue
-created shown (commands.Create element spot) time nonce =
-    Some (created_at shown element spot time nonce)
-created shown _ time nonce = None
+-- the new elements of a command
+abbrev pub created : List ElementValue → Command → ℕ → ℕ → List ElementValue
+created shown (commands.Create element spot) time nonce = created_at shown element spot time nonce ∷ []
+created shown (commands.Duplicate ids prefix spot) time nonce =
+    copies_at shown (shown_among ids shown) prefix spot time nonce
+created shown (commands.Paste elements prefix spot) time nonce = copies_at shown elements prefix spot time nonce
+created shown _ time nonce = []
 
--- elements in the order of their ids, and a new one at its place
-abbrev pub with_created : Option ElementValue → List ElementValue → List ElementValue
-with_created None elements = elements
-with_created (Some e) elements = with_element (λ other new. bytes_less other.id new.id) e elements
+-- elements in the order of their ids, and a new one at its place; one whose id is there is left out
+abbrev pub with_new : ElementValue → List ElementValue → List ElementValue
+with_new e elements =
+    if is_some (element_of elements e.id) then elements else with_element (λ other new. bytes_less other.id new.id) e elements
 
--- what comes of a function of elements and a new one: the least id whose element can't change, or the changed elements
-abbrev pub outcome_from : Option ElementValue → Option ElementValue → List ElementValue
+-- the same of several
+abbrev pub with_created : List ElementValue → List ElementValue → List ElementValue
+with_created [] elements = elements
+with_created (e ∷ new) elements = with_created new (with_new e elements)
+
+-- what comes of a function of elements and new ones: the least id whose element can't change, or the changed elements
+abbrev pub outcome_from : Option ElementValue → List ElementValue → List ElementValue
     → Result (List ElementValue) Refusal
 outcome_from (Some full) new changes = Err (refusal_at full)
 outcome_from None new changes = Ok (with_created new changes)

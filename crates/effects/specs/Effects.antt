@@ -3,6 +3,7 @@ use Rattle.std.specs.Prelude.{ℕ, List, [], ◌∷◌, ◌++◌, not, Option, S
 use Rattle.elem.specs.ElementValue.{ElementValue}
 use Rattle.board_commands.specs.declared.command.Command.{Command}
 use Rattle.board_commands.specs.declared.command.Command.TheVariants as commands
+use Rattle.effects.specs.Copying.{settled_for, shown_among}
 use Rattle.effects.specs.Deleting.{deleted_from}
 use Rattle.effects.specs.Linking.{bound_to, old_target, labelled, unlabelled, old_container}
 use Rattle.effects.specs.Naming.{is_among}
@@ -37,7 +38,7 @@ effect stored shown (commands.Set id member value) e =
     if bytes_eq id e.id then with_set_member member value e else e
 effect stored shown (commands.Delete ids) e = deleted_from (is_among ids) e
 effect stored shown (commands.Place id spot) e =
-    with_key_of id (key_at shown spot id (key_in shown id)) (with_view_key shown e)
+    with_key_of id (key_at shown spot (Some id) (key_in shown id)) (with_view_key shown e)
 effect stored shown (commands.Bind arrow side target rest) e =
     bound_to arrow side (Some (record { target = target; rest = rest })) (old_target stored arrow side) e
 effect stored shown (commands.Unbind arrow side) e =
@@ -49,3 +50,7 @@ effect stored shown (commands.Frame ids frame) e = framed ids (Some frame) e
 effect stored shown (commands.Unframe ids) e = framed ids None e
 effect stored shown (commands.Group ids group) e = grouped ids group e
 effect stored shown (commands.Ungroup ids group) e = ungrouped ids group e
+effect stored shown (commands.Duplicate ids prefix spot) e =
+    with_view_key (settled_for (shown_among ids shown) shown) e
+effect stored shown (commands.Paste elements prefix spot) e =
+    with_view_key (settled_for elements shown) e

@@ -1,4 +1,5 @@
 pub mod Changed
+pub mod Copying
 pub mod Deleting
 pub mod Differing
 pub mod Effects

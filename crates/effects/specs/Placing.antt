@@ -1,7 +1,7 @@
 -- Keys of the scene's order: settled ones, and those at a spot. This project's own.
 use Rattle.std.specs.Prelude.{ℕ, List, [], ◌∷◌, Bool, false, not, Option, Some, None, filter, bytes_eq, if◌then◌else◌}
 use Rattle.std.specs.Option.{option_map_or, option_and_then}
-use Rattle.frac_keys.specs.Between.{key_between}
+use Rattle.frac_keys.specs.Between.{key_between, keys_between}
 use Rattle.frac_keys.specs.Rising.{lies_between}
 use Rattle.elem.specs.ElementValue.{ElementValue}
 use Rattle.elem_store.specs.Updates.{element_of}
@@ -16,9 +16,14 @@ settled_key shown e = option_map_or (λ (s : ElementValue). s.index) (element_of
 abbrev pub with_view_key : List ElementValue → ElementValue → ElementValue
 with_view_key shown e = record e { index = settled_key shown e }
 
--- the elements but the one of this id
-abbrev pub others : List ℕ → List ElementValue → List ElementValue
-others id elements = filter (λ (e : ElementValue). not (bytes_eq id e.id)) elements
+-- whether an element is of this id, if one is given
+abbrev pub is_of : Option (List ℕ) → ElementValue → Bool
+is_of None e = false
+is_of (Some id) e = bytes_eq id e.id
+
+-- the elements but the one of this id, if one is given
+abbrev pub others : Option (List ℕ) → List ElementValue → List ElementValue
+others except elements = filter (λ (e : ElementValue). not (is_of except e)) elements
 
 -- the key of the first of elements, and of the last, if there is one
 abbrev pub first_key : List ElementValue → Option (List ℕ)
@@ -56,13 +61,17 @@ lies_within gap (Some key) = lies_between gap.low gap.high key
 abbrev pub key_within : Gap → Option (List ℕ) → Option (List ℕ)
 key_within gap old = if lies_within gap old then old else Some (key_between gap.low gap.high)
 
--- the gap at a spot among the elements but the one of this id
-abbrev pub gap_of : List ElementValue → Spot → List ℕ → Gap
-gap_of shown spot id = gap_at spot (others id shown)
+-- the gap at a spot among the elements but the one of this id, if one is given
+abbrev pub gap_of : List ElementValue → Spot → Option (List ℕ) → Gap
+gap_of shown spot except = gap_at spot (others except shown)
 
--- The key of an element of this id at a spot among the others: its old one where it stands there.
-abbrev pub key_at : List ElementValue → Spot → List ℕ → Option (List ℕ) → Option (List ℕ)
-key_at shown spot id old = key_within (gap_of shown spot id) old
+-- The key at a spot among the others of an element of this id, or of a new one: its old one where it stands there.
+abbrev pub key_at : List ElementValue → Spot → Option (List ℕ) → Option (List ℕ) → Option (List ℕ)
+key_at shown spot except old = key_within (gap_of shown spot except) old
+
+-- the keys of so many new elements at a spot, one above the other
+abbrev pub keys_at : List ElementValue → Spot → ℕ → List (List ℕ)
+keys_at shown spot count = keys_between (gap_of shown spot None).low (gap_of shown spot None).high count
 
 -- the key of the shown element of an id
 abbrev pub key_in : List ElementValue → List ℕ → Option (List ℕ)

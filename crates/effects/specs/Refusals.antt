@@ -3,7 +3,7 @@ use Rattle.std.specs.Prelude.{ℕ, List, [], ◌∷◌, ◌++◌, Bool, true, fa
 use Rattle.std.specs.Option.{option_or, option_map, option_map_or}
 use Rattle.elem.specs.declared.kind.Kind.{Kind}
 use Rattle.elem.specs.ElementValue.{ElementValue}
-use Rattle.elem_store.specs.Updates.{element_of}
+use Rattle.elem_store.specs.Updates.{element_of, ids_of}
 use Rattle.frames_groups.specs.Frames.{is_frame_kind}
 use Rattle.links.specs.Arrows.{names_target}
 use Rattle.links.specs.Names.{is_text, is_arrow, can_hold_text}
@@ -50,11 +50,20 @@ command_ids (commands.Frame ids frame) = ids ++ frame ∷ []
 command_ids (commands.Unframe ids) = ids
 command_ids (commands.Group ids group) = ids
 command_ids (commands.Ungroup ids group) = ids
+command_ids (commands.Duplicate ids prefix spot) = ids ++ spot_ids spot
+command_ids (commands.Paste elements prefix spot) = spot_ids spot
+
+-- the first of these ids that is stored under a prefix, maybe as deleted
+abbrev pub first_stored : List ElementValue → List ℕ → List (List ℕ) → Option Refusal
+first_stored stored prefix ids =
+    option_map (λ id. Exists (prefix ++ id)) (find (λ id. is_some (element_of stored (prefix ++ id))) ids)
 
 -- The id of a new element is stored, maybe as deleted.
 abbrev pub existing : List ElementValue → Command → Option Refusal
 existing stored (commands.Create element spot) =
     refusal_if (is_some (element_of stored element.id)) (Exists element.id)
+existing stored (commands.Duplicate ids prefix spot) = first_stored stored prefix ids
+existing stored (commands.Paste elements prefix spot) = first_stored stored prefix (ids_of elements)
 existing stored _ = None
 
 -- an element has no place above itself

@@ -1,16 +1,20 @@
 //! The changed elements of a command.
 
-ghost use Rattle.std.specs.Prelude.{◌≡◌, ◌≤◌, None, false, IfErr, IfOk, OnOk, length};
-ghost use Rattle.std.specs.List.{prefix_len};
-ghost use Rattle.frac_keys.specs.Keys.{bytes_less};
+ghost use Rattle.std.specs.Prelude.{◌≡◌, ◌≤◌, [], ◌∷◌, None, true, Contains, IfErr, IfOk};
+ghost use Rattle.std.specs.Cmp.Lexicographic.{slice_cmp};
+ghost use Rattle.std.specs.Ordering.{nat_cmp};
+ghost use Rattle.frac_keys.specs.Rising.{are_rising};
+ghost use Rattle.elem.specs.ElementValue.{ElementValue};
 ghost use Rattle.elem.specs.Facts.{greatest_whole};
+ghost use Rattle.elem.specs.Order.{HaveDistinctIds};
+ghost use Rattle.elem_store.specs.Updates.{element_of, ids_of};
 ghost use Rattle.index_repair.specs.Keyed.{HaveRisingKeys};
+ghost use Rattle.board_commands.specs.Limits.{IsWithinLimits};
 ghost use Rattle.effects.specs.Changed as changes;
 ghost use Rattle.effects.specs.Changed.{OnFault, outcome};
-ghost use Rattle.board_commands.specs.Limits.{IsWithinLimits};
-ghost use Rattle.effects.specs.Placing as placing;
 
-use crate::placing::key_at;
+use crate::copying::{as_new, copies_at, shown_among};
+use crate::placing::{key_at, with_index};
 use crate::preparing::prepared;
 use crate::refusal::Refusal;
 use crate::refusing::check;
@@ -19,8 +23,8 @@ use board_base::{List, Stop};
 use board_commands::{Command, Spot};
 use elem::Element;
 use elem_store::Store;
-use frac_keys::Key;
 use std::alloc::{AllocError, Global};
+use std::cmp::Ordering;
 
 /// The elements that a command changes on a board, as they become, in the order of their ids; or why it is refused. `shown`
 /// is what the board shows. Each that changes is stamped with the time and the nonce. The board itself stays: whoever calls
@@ -37,42 +41,51 @@ pub fn changed(
     requires nonce { nonce ≤ greatest_whole }
     requires limits { IsWithinLimits command.now }
     requires keys { HaveRisingKeys shown.now }
+    requires stored { are_rising (ids_of store.now.elements) ≡ true }
+    requires shown { HaveDistinctIds shown.now }
     ensures exact { IfOk result
         (λ changed. outcome store.now.elements shown.now command.now time nonce ≡ Ok changed) }
     ensures refused { IfErr result
         (λ stop. OnFault stop
         (λ refusal. outcome store.now.elements shown.now command.now time nonce ≡ Err refusal)) }
 {
-    check(store, shown, command)?;
+    check(alloc, store, shown, command)?;
     let effect = prepared(alloc, store, shown, command)?;
-    let mut changed = changes_of(alloc, store, &effect, time, nonce)?;
+    let changed = changes_of(alloc, store, &effect, time, nonce)?;
     let new = created(alloc, shown, command, time, nonce)?;
-    add_created(&mut changed, new)?;
-    Ok(List::from_vec(changed))
+    let all = with_created(changed, new)?;
+    Ok(List::from_vec(all))
 }
 
-/// The new element of a command, if it creates one.
+/// The new elements of a command.
 fn created(
     alloc: Global,
     shown: &[Element],
     command: &Command,
     time: u64,
     nonce: u64,
-) -> Result<Option<Element>, AllocError>
+) -> Result<List<Element>, AllocError>
     requires time { time ≤ greatest_whole }
     requires nonce { nonce ≤ greatest_whole }
     requires keys { HaveRisingKeys shown.now }
     ensures { IfOk result (λ new. new ≡ changes.created shown.now command.now time nonce) }
 {
     match command {
-        Command::Create { element, spot } => {
-            Ok(Some(created_at(alloc, shown, element, spot, time, nonce)?))
+        Command::Create { element, spot } => created_at(alloc, shown, element, spot, time, nonce),
+        Command::Duplicate { ids, prefix, spot } => {
+            let originals = shown_among(alloc, ids, shown)?;
+            copies_at(alloc, shown, &originals, prefix, spot, time, nonce)
         }
-        _ => Ok(None),
+        Command::Paste {
+            elements,
+            prefix,
+            spot,
+        } => copies_at(alloc, shown, elements, prefix, spot, time, nonce),
+        _ => Ok(List::new(alloc)),
     }
 }
 
-/// The new element, with a key at the spot.
+/// The new element alone, with a key at the spot.
 fn created_at(
     alloc: Global,
     shown: &[Element],
@@ -80,69 +93,36 @@ fn created_at(
     spot: &Spot,
     time: u64,
     nonce: u64,
-) -> Result<Element, AllocError>
+) -> Result<List<Element>, AllocError>
     requires time { time ≤ greatest_whole }
     requires nonce { nonce ≤ greatest_whole }
     requires keys { HaveRisingKeys shown.now }
-    ensures { IfOk result (λ new. new ≡ changes.created_at shown.now e.now spot.now time nonce) }
+    ensures { IfOk result
+        (λ new. new ≡ changes.created_at shown.now e.now spot.now time nonce ∷ []) }
 {
-    let key = key_of_new(alloc, shown, e, spot)?;
-    Ok(fresh(e.try_clone()?, key, time, nonce))
+    let key = key_at(alloc, shown, spot, None, &None)?;
+    let new = with_index(as_new(e.try_clone()?, time, nonce), key);
+    let mut list = Vec::new(alloc);
+    list.push(new)?;
+    Ok(List::from_vec(list))
 }
 
-/// The key of a new element at a spot.
-fn key_of_new(
-    alloc: Global,
-    shown: &[Element],
-    e: &Element,
-    spot: &Spot,
-) -> Result<Option<Key>, AllocError>
-    requires { HaveRisingKeys shown.now }
-    ensures { IfOk result (λ key. key ≡ placing.key_at shown.now spot.now e.now.id None) }
+/// The elements in the order of their ids, new ones too.
+fn with_created(mut changed: Vec<Element>, new: List<Element>) -> Result<Vec<Element>, AllocError>
+    requires rise { are_rising (ids_of changed.items) ≡ true }
+    requires distinct { HaveDistinctIds new }
+    requires apart { (e : ElementValue) → Contains new e → element_of changed.items e.id ≡ None }
+    ensures { IfOk result (λ all. all.items ≡ changes.with_created new changed.items) }
 {
-    key_at(alloc, shown, spot, &e.id, &None)
+    let mut new = new.into_vec();
+    changed.append(&mut new)?;
+    changed.sort_by(id_order)?;
+    Ok(changed)
 }
 
-/// The element as a new one, with this key.
-fn fresh(mut e: Element, key: Option<Key>, time: u64, nonce: u64) -> Element
-    requires time { time ≤ greatest_whole }
-    requires nonce { nonce ≤ greatest_whole }
-    ensures { result ≡ record e { version = 1; nonce = nonce; updated = time; deleted = false; index = key } }
+/// How the ids of two elements compare.
+fn id_order(e: &Element, other: &Element) -> Ordering
+    ensures { result ≡ slice_cmp nat_cmp e.now.id other.now.id }
 {
-    e.version = 1;
-    e.nonce = nonce;
-    e.updated = time;
-    e.deleted = false;
-    e.index = key;
-    e
-}
-
-/// Adds a new element, if there is one, at the place of its id.
-fn add_created(changed: &mut Vec<Element>, new: Option<Element>) -> Result<(), AllocError>
-    ensures { OnOk result (changed.new.items ≡ changes.with_created new changed.old.items) }
-{
-    let Some(new) = new else {
-        return Ok(());
-    };
-    let place = count_below(changed, &new);
-    changed.insert(place, new)?;
-    Ok(())
-}
-
-/// How many of the first elements have lesser ids.
-fn count_below(elements: &Vec<Element>, e: &Element) -> usize
-    ensures count { result ≡ prefix_len (λ other. bytes_less other.id e.now.id) elements.now.items }
-    ensures bound { result ≤ length elements.now.items }
-{
-    elements
-        .iter()
-        .take_while(|other| is_below(other, e))
-        .count()
-}
-
-/// Whether the id of an element is less than another one's.
-fn is_below(e: &Element, other: &Element) -> bool
-    ensures { result ≡ bytes_less e.now.id other.now.id }
-{
-    e.id.cmp(&other.id).is_lt()
+    e.id.cmp(&other.id)
 }

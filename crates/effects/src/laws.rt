@@ -1,23 +1,25 @@
 //! Laws on what a command gives, for all boards. They do nothing when they run.
 
-ghost use Rattle.std.specs.Prelude.{◌≡◌, ◌≢◌, ◌+◌, ◌⊎◌, ℕ, List, Option, Some, None, true, false, Contains, IsSomeAnd, bytes_eq};
+ghost use Rattle.std.specs.Prelude.{◌≡◌, ◌≢◌, ◌+◌, ◌⊎◌, ℕ, List, [], Option, Some, None, true, false, Contains, IsSomeAnd, bytes_eq, length, map};
 ghost use Rattle.json_text.specs.declared.text.Member.{Member};
-ghost use Rattle.frac_keys.specs.Rising.{are_rising};
+ghost use Rattle.frac_keys.specs.Rising.{are_rising, rise_between};
 ghost use Rattle.elem.specs.ElementValue.{ElementValue};
-ghost use Rattle.elem.specs.Order.{unstamped};
+ghost use Rattle.elem.specs.Order.{unstamped, HaveDistinctIds};
 ghost use Rattle.elem_store.specs.Updates.{element_of, ids_of, is_taken};
 ghost use Rattle.delta.specs.Headers.{value_named};
 ghost use Rattle.links.specs.Entries.{arrow_entry, text_entry, lists};
-ghost use Rattle.index_repair.specs.Keyed.{HaveRisingKeys, HaveKeysOrNone};
+ghost use Rattle.index_repair.specs.Keyed.{index_of, HaveRisingKeys, HaveKeysOrNone};
+ghost use Rattle.copies.specs.Copies.{copies_of};
 ghost use Rattle.view.specs.Shown.{is_live};
 ghost use Rattle.effects.specs.Changed.{outcome};
+ghost use Rattle.effects.specs.Copying.{copies_at, settled_for, shown_among, unplaced};
 ghost use Rattle.effects.specs.Deleting.{without_names, has_gone_names};
 ghost use Rattle.effects.specs.Effects.{effect, with_group, without_group};
 ghost use Rattle.effects.specs.Given.{stored_after, Stays, Becomes, ChangesStored, IsNew};
 ghost use Rattle.effects.specs.Keeping.{LabelKeeps, UnlabelKeeps, BindKeeps};
 ghost use Rattle.effects.specs.Linking.{end_at, old_target, old_container};
 ghost use Rattle.effects.specs.Naming.{is_among};
-ghost use Rattle.effects.specs.Placing.{gap_of, key_at, lies_within, with_view_key};
+ghost use Rattle.effects.specs.Placing.{gap_of, key_at, keys_at, lies_within, settled_key, with_view_key};
 ghost use Rattle.effects.specs.Settings.{given_value};
 ghost use Rattle.board_commands.specs.declared.command.Command.{Command};
 ghost use Rattle.board_commands.specs.declared.command.Command.TheVariants as commands;
@@ -159,21 +161,21 @@ pub fn delete_leaves_no_names()
 
 /// The key at a spot lies strictly between the keys beside it, and a new element and one that is placed have such keys.
 pub fn key_lies_at_its_spot()
-    ensures key { (shown : List ElementValue) (spot : Spot) (id : List ℕ) (old : Option (List ℕ))
+    ensures key { (shown : List ElementValue) (spot : Spot) (except old : Option (List ℕ))
         → HaveRisingKeys shown → HaveKeysOrNone shown
-        → lies_within (gap_of shown spot id) (key_at shown spot id old) ≡ true }
+        → lies_within (gap_of shown spot except) (key_at shown spot except old) ≡ true }
     ensures created { (stored shown given : List ElementValue) (element : ElementValue)
         (spot : Spot) (time nonce : ℕ)
         → are_rising (ids_of stored) ≡ true → HaveRisingKeys shown → HaveKeysOrNone shown
         → outcome stored shown (commands.Create element spot) time nonce ≡ Ok given
         → IsSomeAnd (element_of given element.id)
-        (λ e. lies_within (gap_of shown spot element.id) e.index ≡ true) }
+        (λ e. lies_within (gap_of shown spot None) e.index ≡ true) }
     ensures placed { (stored shown given : List ElementValue) (id : List ℕ) (spot : Spot)
         (time nonce : ℕ)
         → are_rising (ids_of stored) ≡ true → HaveRisingKeys shown → HaveKeysOrNone shown
         → outcome stored shown (commands.Place id spot) time nonce ≡ Ok given
         → IsSomeAnd (stored_after stored given id)
-        (λ e. lies_within (gap_of shown spot id) e.index ≡ true) }
+        (λ e. lies_within (gap_of shown spot (Some id)) e.index ≡ true) }
 {}
 
 /// Beside its place a create makes what was asked for, and a place changes nothing; each other live element has its key of
@@ -206,6 +208,83 @@ pub fn new_keys_change_nothing_else()
         → is_live old ≡ true → other ≢ id
         → IsSomeAnd (stored_after stored given other)
         (λ e. unstamped e ≡ unstamped (with_view_key shown old)) }
+{}
+
+/// Copies stand between the keys beside the spot, one above the other in the order of their originals, and are else the copies
+/// of these under the prefix.
+pub fn copies_stand_at_their_spot()
+    ensures rise { (shown : List ElementValue) (spot : Spot) (count : ℕ)
+        → HaveRisingKeys shown → HaveKeysOrNone shown
+        → rise_between (gap_of shown spot None).low (gap_of shown spot None).high
+        (keys_at shown spot count) ≡ true }
+    ensures keys { (shown list : List ElementValue) (prefix : List ℕ) (spot : Spot) (time nonce : ℕ)
+        → HaveRisingKeys shown → HaveKeysOrNone shown
+        → map index_of (copies_at shown list prefix spot time nonce)
+        ≡ map Some (keys_at shown spot (length list)) }
+    ensures rest { (shown list : List ElementValue) (prefix : List ℕ) (spot : Spot) (time nonce : ℕ)
+        → HaveRisingKeys shown → HaveKeysOrNone shown
+        → map unplaced (copies_at shown list prefix spot time nonce)
+        ≡ map unplaced (copies_of list prefix) }
+{}
+
+/// After a duplicate the copies of the shown elements that were named are stored, and after a paste those of the given ones;
+/// nothing was stored with their ids.
+pub fn copies_are_stored()
+    ensures duplicated { (stored shown given : List ElementValue) (ids : List (List ℕ))
+        (prefix : List ℕ) (spot : Spot) (time nonce : ℕ)
+        → are_rising (ids_of stored) ≡ true → HaveDistinctIds shown
+        → outcome stored shown (commands.Duplicate ids prefix spot) time nonce ≡ Ok given
+        → (copy : ElementValue)
+        → Contains (copies_at shown (shown_among ids shown) prefix spot time nonce) copy
+        → (element_of stored copy.id ≡ None) × (stored_after stored given copy.id ≡ Some copy) }
+    ensures pasted { (stored shown given elements : List ElementValue) (prefix : List ℕ)
+        (spot : Spot) (time nonce : ℕ)
+        → are_rising (ids_of stored) ≡ true → HaveDistinctIds elements
+        → outcome stored shown (commands.Paste elements prefix spot) time nonce ≡ Ok given
+        → (copy : ElementValue) → Contains (copies_at shown elements prefix spot time nonce) copy
+        → (element_of stored copy.id ≡ None) × (stored_after stored given copy.id ≡ Some copy) }
+{}
+
+/// Beside the copies each live element has its key of the view, and is else as it was; what has that key stays, its stamp
+/// too; and where nothing is copied, all stays.
+pub fn copies_change_nothing_else()
+    ensures duplicated { (stored shown given : List ElementValue) (ids : List (List ℕ))
+        (prefix : List ℕ) (spot : Spot) (time nonce : ℕ)
+        → are_rising (ids_of stored) ≡ true
+        → outcome stored shown (commands.Duplicate ids prefix spot) time nonce ≡ Ok given
+        → (id : List ℕ) (old : ElementValue) → element_of stored id ≡ Some old → is_live old ≡ true
+        → IsSomeAnd (stored_after stored given id)
+        (λ e. unstamped e ≡ unstamped (with_view_key (settled_for (shown_among ids shown) shown) old)) }
+    ensures pasted { (stored shown given elements : List ElementValue) (prefix : List ℕ)
+        (spot : Spot) (time nonce : ℕ)
+        → are_rising (ids_of stored) ≡ true
+        → outcome stored shown (commands.Paste elements prefix spot) time nonce ≡ Ok given
+        → (id : List ℕ) (old : ElementValue) → element_of stored id ≡ Some old → is_live old ≡ true
+        → IsSomeAnd (stored_after stored given id)
+        (λ e. unstamped e ≡ unstamped (with_view_key (settled_for elements shown) old)) }
+    ensures kept_beside_duplicated { (stored shown given : List ElementValue) (ids : List (List ℕ))
+        (prefix : List ℕ) (spot : Spot) (time nonce : ℕ)
+        → are_rising (ids_of stored) ≡ true
+        → outcome stored shown (commands.Duplicate ids prefix spot) time nonce ≡ Ok given
+        → (id : List ℕ) (old : ElementValue) → element_of stored id ≡ Some old
+        → settled_key (settled_for (shown_among ids shown) shown) old ≡ old.index
+        → Stays stored given id }
+    ensures kept_beside_pasted { (stored shown given elements : List ElementValue) (prefix : List ℕ)
+        (spot : Spot) (time nonce : ℕ)
+        → are_rising (ids_of stored) ≡ true
+        → outcome stored shown (commands.Paste elements prefix spot) time nonce ≡ Ok given
+        → (id : List ℕ) (old : ElementValue) → element_of stored id ≡ Some old
+        → settled_key (settled_for elements shown) old ≡ old.index → Stays stored given id }
+    ensures none_duplicated { (stored shown given : List ElementValue) (ids : List (List ℕ))
+        (prefix : List ℕ) (spot : Spot) (time nonce : ℕ)
+        → are_rising (ids_of stored) ≡ true → shown_among ids shown ≡ []
+        → outcome stored shown (commands.Duplicate ids prefix spot) time nonce ≡ Ok given
+        → (id : List ℕ) → Stays stored given id }
+    ensures none_pasted { (stored shown given : List ElementValue) (prefix : List ℕ) (spot : Spot)
+        (time nonce : ℕ)
+        → are_rising (ids_of stored) ≡ true
+        → outcome stored shown (commands.Paste [] prefix spot) time nonce ≡ Ok given
+        → (id : List ℕ) → Stays stored given id }
 {}
 
 /// After a label the text names the container, no other live element does, and of texts the container lists this one

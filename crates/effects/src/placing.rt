@@ -24,8 +24,8 @@ pub(crate) type Keys = BTreeMap<Text, Option<Key>>;
 /// The keys beside a spot: of the element below it and of the one above it.
 #[derive(Clone, Copy)]
 pub(crate) struct Gap<'a> {
-    low: Option<&'a Key>,
-    high: Option<&'a Key>,
+    pub(crate) low: Option<&'a Key>,
+    pub(crate) high: Option<&'a Key>,
 }
 
 /// The keys of the elements by their ids; of one id the first counts.
@@ -115,22 +115,23 @@ pub(crate) fn placed(
     settled(keys, e)
 }
 
-/// A key at a spot among the elements but the one of this id: the old one if it stands there.
+/// A key at a spot among the elements but the one of this id, if one is given: the old one if it stands there.
 pub(crate) fn key_at(
     alloc: Global,
     elements: &[Element],
     spot: &Spot,
-    id: &Text,
+    except: Option<&Text>,
     old: &Option<Key>,
 ) -> Result<Option<Key>, AllocError>
     requires { HaveRisingKeys elements.now }
-    ensures exact { IfOk result (λ key. key ≡ key_at elements.now spot.now id.now old.now) }
+    ensures exact { IfOk result
+        (λ key. key ≡ key_at elements.now spot.now (option_copied except.entry) old.now) }
     ensures inside { IfOk result
         (λ key. IfSome key
-        (λ k. lies_between (gap_of elements.now spot.now id.now).low
-        (gap_of elements.now spot.now id.now).high k ≡ true)) }
+        (λ k. lies_between (gap_of elements.now spot.now (option_copied except.entry)).low
+        (gap_of elements.now spot.now (option_copied except.entry)).high k ≡ true)) }
 {
-    let gap = gap_at(elements, spot, id);
+    let gap = gap_at(elements, spot, except);
     key_within(alloc, gap.low, gap.high, old)
 }
 
@@ -176,33 +177,33 @@ fn rise(low: Option<&Key>, high: Option<&Key>) -> bool
     }
 }
 
-/// The keys beside a spot among the elements but the one of this id.
-fn gap_at<'a>(elements: &'a [Element], spot: &Spot, id: &Text) -> Gap<'a>
+/// The keys beside a spot among the elements but the one of this id, if one is given.
+pub(crate) fn gap_at<'a>(elements: &'a [Element], spot: &Spot, except: Option<&Text>) -> Gap<'a>
     requires { HaveRisingKeys elements.now }
-    ensures low { option_copied result.low ≡ (gap_of elements.now spot.now id.now).low }
-    ensures high { option_copied result.high ≡ (gap_of elements.now spot.now id.now).high }
+    ensures low { option_copied result.low ≡ (gap_of elements.now spot.now (option_copied except.entry)).low }
+    ensures high { option_copied result.high ≡ (gap_of elements.now spot.now (option_copied except.entry)).high }
     ensures rises { ends_rise (option_copied result.low) (option_copied result.high) ≡ true }
 {
     match spot {
         Spot::Bottom => Gap {
             low: None,
-            high: first_key(elements, id),
+            high: first_key(elements, except),
         },
         Spot::Top => Gap {
-            low: last_key(elements, id),
+            low: last_key(elements, except),
             high: None,
         },
-        Spot::After(below) => gap_above(elements, below, id),
+        Spot::After(below) => gap_above(elements, below, except),
     }
 }
 
 /// The key of the first of the elements but the one of this id.
-fn first_key<'a>(elements: &'a [Element], id: &Text) -> Option<&'a Key>
-    ensures { option_copied result ≡ placing.first_key (others id.now elements.now) }
+fn first_key<'a>(elements: &'a [Element], except: Option<&Text>) -> Option<&'a Key>
+    ensures { option_copied result ≡ placing.first_key (others (option_copied except.entry) elements.now) }
 {
     let mut rest = elements;
     while let Some((e, behind)) = rest.split_first() {
-        if e.id != *id {
+        if !is_of(e, except) {
             return e.index.as_ref();
         }
         rest = behind;
@@ -211,13 +212,13 @@ fn first_key<'a>(elements: &'a [Element], id: &Text) -> Option<&'a Key>
 }
 
 /// The key of the last of the elements but the one of this id.
-fn last_key<'a>(elements: &'a [Element], id: &Text) -> Option<&'a Key>
-    ensures { option_copied result ≡ placing.last_key (others id.now elements.now) }
+fn last_key<'a>(elements: &'a [Element], except: Option<&Text>) -> Option<&'a Key>
+    ensures { option_copied result ≡ placing.last_key (others (option_copied except.entry) elements.now) }
 {
     let mut last = None;
     let mut rest = elements;
     while let Some((e, behind)) = rest.split_first() {
-        if e.id != *id {
+        if !is_of(e, except) {
             last = e.index.as_ref();
         }
         rest = behind;
@@ -226,18 +227,18 @@ fn last_key<'a>(elements: &'a [Element], id: &Text) -> Option<&'a Key>
 }
 
 /// The keys of an element and of the one above it, among the elements but the one of this id.
-fn gap_above<'a>(elements: &'a [Element], below: &Text, id: &Text) -> Gap<'a>
+fn gap_above<'a>(elements: &'a [Element], below: &Text, except: Option<&Text>) -> Gap<'a>
     requires { HaveRisingKeys elements.now }
-    ensures low { option_copied result.low ≡ (placing.gap_above below.now (others id.now elements.now)).low }
-    ensures high { option_copied result.high ≡ (placing.gap_above below.now (others id.now elements.now)).high }
+    ensures low { option_copied result.low ≡ (placing.gap_above below.now (others (option_copied except.entry) elements.now)).low }
+    ensures high { option_copied result.high ≡ (placing.gap_above below.now (others (option_copied except.entry) elements.now)).high }
     ensures rises { ends_rise (option_copied result.low) (option_copied result.high) ≡ true }
 {
     let mut rest = elements;
     while let Some((e, behind)) = rest.split_first() {
-        if is_other_of(e, below, id) {
+        if is_other_of(e, below, except) {
             return Gap {
                 low: e.index.as_ref(),
-                high: first_key(behind, id),
+                high: first_key(behind, except),
             };
         }
         rest = behind;
@@ -248,9 +249,19 @@ fn gap_above<'a>(elements: &'a [Element], below: &Text, id: &Text) -> Gap<'a>
     }
 }
 
-/// Whether an element is of one id and not of another.
-fn is_other_of(e: &Element, id: &Text, other: &Text) -> bool
-    ensures { result ≡ (not (bytes_eq other.now e.now.id) && bytes_eq id.now e.now.id) }
+/// Whether an element is of one id and not of another, if one is given.
+fn is_other_of(e: &Element, id: &Text, except: Option<&Text>) -> bool
+    ensures { result ≡ (not (placing.is_of (option_copied except.entry) e.now) && bytes_eq id.now e.now.id) }
 {
-    e.id != *other && e.id == *id
+    !is_of(e, except) && *id == e.id
+}
+
+/// Whether an element is of this id, if one is given.
+fn is_of(e: &Element, id: Option<&Text>) -> bool
+    ensures { result ≡ placing.is_of (option_copied id.entry) e.now }
+{
+    match id {
+        Some(id) => *id == e.id,
+        None => false,
+    }
 }

@@ -11,13 +11,16 @@ ghost use Rattle.elem.specs.Facts.{IsBinding};
 ghost use Rattle.links.specs.Names.{is_id, target_of};
 ghost use Rattle.index_repair.specs.Keyed.{HaveRisingKeys};
 ghost use Rattle.board_commands.specs.Limits.{IsWithinLimits, IsRest};
+ghost use Rattle.effects.specs.Copying as copying;
 ghost use Rattle.effects.specs.Linking as linking;
 ghost use Rattle.effects.specs.Naming.{apart_from};
+ghost use Rattle.effects.specs.Placing.{with_view_key};
 ghost use Rattle.effects.specs.Prepared.{made_by, HasIds, IsSoundEffect, Prepares};
 ghost use Rattle.effects.specs.Refusals.{guarded};
 ghost use Rattle.effects.specs.Settings.{is_protected};
 ghost use Rattle.board_commands.specs.declared.command.Command.TheVariants as commands;
 
+use crate::copying::{settled_for, shown_among};
 use crate::effect::Effect;
 use crate::linking::{Label, Link};
 use crate::placing::{Keys, key_at, keys_of};
@@ -60,6 +63,11 @@ pub(crate) fn prepared(
         Command::Unframe { ids } => unframe(alloc, ids),
         Command::Group { ids, group } => group_in(alloc, ids, group),
         Command::Ungroup { ids, group } => ungroup(alloc, ids, group),
+        Command::Duplicate { ids, .. } => {
+            let originals = shown_among(alloc, ids, shown)?;
+            settle_for(alloc, shown, &originals)
+        }
+        Command::Paste { elements, .. } => settle_for(alloc, shown, elements),
     }
 }
 
@@ -74,6 +82,20 @@ fn settle(
         → Prepares stored shown.now (commands.Create element.now spot.now) made) }
 {
     let keys = keys_of(alloc, shown)?;
+    Ok(Effect::Settle { keys })
+}
+
+/// The effect of copies of these elements on the others.
+fn settle_for(
+    alloc: Global,
+    shown: &[Element],
+    originals: &List<Element>,
+) -> Result<Effect, AllocError>
+    ensures exact { IfOk result (λ made. (e : ElementValue)
+        → made_by made e ≡ with_view_key (copying.settled_for originals.now shown.now) e) }
+    ensures sound { IfOk result IsSoundEffect }
+{
+    let keys = keys_of(alloc, settled_for(originals, shown))?;
     Ok(Effect::Settle { keys })
 }
 
@@ -139,7 +161,7 @@ fn ungroup(alloc: Global, ids: &List<Text>, group: &Text) -> Result<Effect, Allo
 }
 
 /// The ids as a set.
-fn set_of(alloc: Global, ids: &List<Text>) -> Result<BTreeSet<Text>, AllocError>
+pub(crate) fn set_of(alloc: Global, ids: &List<Text>) -> Result<BTreeSet<Text>, AllocError>
     ensures { IfOk result (λ set. HasIds set ids.now) }
 {
     let mut set = BTreeSet::new(alloc);
@@ -157,7 +179,7 @@ fn place(alloc: Global, shown: &[Element], id: &Text, spot: &Spot) -> Result<Eff
 {
     let keys = keys_of(alloc, shown)?;
     let old = key_in(&keys, id)?;
-    let key = key_at(alloc, shown, spot, id, &old)?;
+    let key = key_at(alloc, shown, spot, Some(id), &old)?;
     let id = id.try_clone()?;
     Ok(Effect::Place { keys, id, key })
 }

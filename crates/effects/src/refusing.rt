@@ -1,12 +1,13 @@
 //! Why a command is refused before anything of it is made.
 
-ghost use Rattle.std.specs.Prelude.{◌≡◌, Some, None, true, false, is_some, bytes_eq, ◌&&◌, [], ◌∷◌, ◌++◌, IfErr, OnOk};
+ghost use Rattle.std.specs.Prelude.{◌≡◌, Some, None, true, false, is_some, bytes_eq, ◌&&◌, [], ◌∷◌, ◌++◌, IfErr, IfOk, OnOk};
+ghost use Rattle.elem_store.specs.Updates as updates;
 ghost use Rattle.elem_store.specs.Updates.{element_of};
 ghost use Rattle.frames_groups.specs.Frames.{is_frame_kind};
 ghost use Rattle.links.specs.Arrows.{names_target};
 ghost use Rattle.links.specs.Names as names;
 ghost use Rattle.effects.specs.Changed.{OnFault};
-ghost use Rattle.effects.specs.Refusals.{refusal_of, existing, missing, misfit, guarded, first_missing, first_frame, spot_ids, unless_right, is_kind_of, is_live_id};
+ghost use Rattle.effects.specs.Refusals.{refusal_of, existing, first_stored, missing, misfit, guarded, first_missing, first_frame, spot_ids, unless_right, is_kind_of, is_live_id};
 ghost use Rattle.board_commands.specs.declared.command.Command.TheVariants as commands;
 ghost use Rattle.effects.specs.declared.refusal.Refusal.TheVariants as told;
 
@@ -15,12 +16,15 @@ use crate::refusal::Refusal;
 use crate::setting::is_protected;
 use board_base::{List, Stop};
 use board_commands::{Command, Spot};
+use copies::prefixed;
 use elem::Element;
 use elem_store::Store;
 use json_text::Text;
+use std::alloc::{AllocError, Global};
 
 /// Fails with the first cause for which the command is refused.
 pub(crate) fn check(
+    alloc: Global,
     store: &Store,
     shown: &[Element],
     command: &Command,
@@ -30,36 +34,80 @@ pub(crate) fn check(
         (λ stop. OnFault stop
         (λ refusal. refusal_of store.now.elements shown.now command.now ≡ Some refusal)) }
 {
-    check_new(store, command)?;
+    check_new(alloc, store, command)?;
     check_live(store, command)?;
     check_kinds(store, shown, command)?;
     check_member(command)
 }
 
 /// Fails where a new element's id is stored.
-fn check_new(store: &Store, command: &Command) -> Result<(), Stop<Refusal>>
+fn check_new(alloc: Global, store: &Store, command: &Command) -> Result<(), Stop<Refusal>>
     ensures ok { OnOk result (existing store.now.elements command.now ≡ None) }
     ensures refused { IfErr result
         (λ stop. OnFault stop (λ refusal. existing store.now.elements command.now ≡ Some refusal)) }
 {
     match command {
-        Command::Create { element, .. } => check_absent(store, element),
+        Command::Create { element, .. } => check_absent(store, id_of(element)?),
+        Command::Duplicate { ids, prefix, .. } => check_ids_absent(alloc, store, prefix, ids),
+        Command::Paste {
+            elements,
+            prefix,
+            ..
+        } => {
+            let ids = ids_of(alloc, elements)?;
+            check_ids_absent(alloc, store, prefix, &ids)
+        }
         _ => Ok(()),
     }
 }
 
-/// Fails where the element's id is stored.
-fn check_absent(store: &Store, e: &Element) -> Result<(), Stop<Refusal>>
-    ensures ok { OnOk result (is_some (element_of store.now.elements e.now.id) ≡ false) }
+/// Fails where the id is stored.
+fn check_absent(store: &Store, id: Text) -> Result<(), Stop<Refusal>>
+    ensures ok { OnOk result (is_some (element_of store.now.elements id) ≡ false) }
     ensures refused { IfErr result
-        (λ stop. OnFault stop (λ refusal. (is_some (element_of store.now.elements e.now.id) ≡ true)
-        × (refusal ≡ told.Exists e.now.id))) }
+        (λ stop. OnFault stop (λ refusal. (is_some (element_of store.now.elements id) ≡ true)
+        × (refusal ≡ told.Exists id))) }
 {
-    let id = e.id.try_clone()?;
     match store.get(&id) {
         Some(_) => Err(Stop::Fault(Refusal::Exists(id))),
         None => Ok(()),
     }
+}
+
+/// Fails at the first of these ids that is stored under the prefix.
+fn check_ids_absent(
+    alloc: Global,
+    store: &Store,
+    prefix: &Text,
+    ids: &List<Text>,
+) -> Result<(), Stop<Refusal>>
+    ensures ok { OnOk result (first_stored store.now.elements prefix.now ids.now ≡ None) }
+    ensures refused { IfErr result
+        (λ stop. OnFault stop
+        (λ refusal. first_stored store.now.elements prefix.now ids.now ≡ Some refusal)) }
+{
+    for id in ids.as_slice() {
+        check_absent(store, prefixed(alloc, prefix, id)?)?;
+    }
+    Ok(())
+}
+
+/// The ids of elements.
+fn ids_of(alloc: Global, elements: &List<Element>) -> Result<List<Text>, AllocError>
+    ensures { IfOk result (λ ids. ids ≡ updates.ids_of elements.now) }
+{
+    let mut ids = Vec::with_capacity(alloc, elements.as_slice().len())?;
+    for e in elements.as_slice() {
+        ids.push(id_of(e)?)?;
+    }
+    Ok(List::from_vec(ids))
+}
+
+/// The id of an element, copied.
+fn id_of(e: &Element) -> Result<Text, AllocError>
+    ensures { IfOk result (λ id. id ≡ e.now.id) }
+{
+    e.id.try_clone()
 }
 
 /// Fails where an id that the command names isn't live.
@@ -81,6 +129,8 @@ fn check_live(store: &Store, command: &Command) -> Result<(), Stop<Refusal>>
         Command::Unframe { ids } => check_ids(store, ids),
         Command::Group { ids, .. } => check_ids(store, ids),
         Command::Ungroup { ids, .. } => check_ids(store, ids),
+        Command::Duplicate { ids, spot, .. } => check_ids_at(store, ids, spot),
+        Command::Paste { spot, .. } => check_spot(store, spot),
     }
 }
 
@@ -140,6 +190,17 @@ fn check_ids_and(store: &Store, ids: &List<Text>, id: &Text) -> Result<(), Stop<
 {
     check_ids(store, ids)?;
     check_id(store, id)
+}
+
+/// Fails at the first of these ids, and of that which a spot names, that isn't live.
+fn check_ids_at(store: &Store, ids: &List<Text>, spot: &Spot) -> Result<(), Stop<Refusal>>
+    ensures ok { OnOk result (first_missing store.now.elements (ids.now ++ spot_ids spot.now) ≡ None) }
+    ensures refused { IfErr result
+        (λ stop. OnFault stop
+        (λ refusal. first_missing store.now.elements (ids.now ++ spot_ids spot.now) ≡ Some refusal)) }
+{
+    check_ids(store, ids)?;
+    check_spot(store, spot)
 }
 
 /// Fails where the id that a spot names isn't live.

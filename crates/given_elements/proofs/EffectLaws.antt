@@ -30,6 +30,7 @@ use Rattle.board_commands.specs.declared.command.Command.TheVariants as commands
 use Rattle.effects.specs.declared.refusal.Refusal.{Refusal}
 use Rattle.board_commands.specs.declared.command.Side.{Side}
 use Rattle.board_commands.specs.declared.command.Side.TheVariants.{Start, End}
+use Rattle.effects.specs.Copying.{settled_for, shown_among}
 use Rattle.effects.specs.Deleting.{kept_name, kept_entries, kept_end, without_names, deleted_from}
 use Rattle.effects.specs.Effects.{effect, with_group, without_group}
 use Rattle.board_commands.specs.Limits.{IsRest, IsWithinLimits}
@@ -199,6 +200,11 @@ with_group-text group groups text all =
       | false ↦ All-append IsUtf8 groups (group ∷ []) all (text, tt)
     ]
 
+-- ---- keys that copies settle
+settled_for-kept : (originals shown : List ElementValue) → AreKept shown → AreKept (settled_for originals shown)
+settled_for-kept [] shown all = tt
+settled_for-kept (e ∷ originals) shown all = all
+
 -- ---- each command
 unguarded : (b : Bool) (refusal : Refusal) → refusal_if b refusal ≡ None → b ≡ false
 unguarded true refusal h = cc
@@ -211,9 +217,9 @@ effect-kept stored shown (commands.Set id name value) e all rise limits written 
     (λ _. with_set_member-kept name value e (unguarded (is_protected name) _ free) limits written kept) kept
 effect-kept stored shown (commands.Delete ids) e all rise limits written free kept = deleted_from-kept (is_among ids) e kept
 effect-kept stored shown (commands.Place id spot) e all rise limits written free kept =
-    let key = key_at shown spot id (key_in shown id) in
+    let key = key_at shown spot (Some id) (key_in shown id) in
     chosen (bytes_eq id e.id) (record (with_view_key shown e) { index = key }) (with_view_key shown e)
-    (λ _. with_index (with_view_key shown e) (with_view_key-kept shown e all kept) key (key_at-is shown spot id (key_in shown id) all rise (key_in-is shown id all)))
+    (λ _. with_index (with_view_key shown e) (with_view_key-kept shown e all kept) key (key_at-is shown spot (Some id) (key_in shown id) all rise (key_in-is shown id all)))
     (with_view_key-kept shown e all kept)
 effect-kept stored shown (commands.Bind arrow side target rest) e all rise limits written free kept =
     let binding : Option Binding = Some (record { target = target; rest = rest }) in
@@ -239,3 +245,7 @@ effect-kept stored shown (commands.Group ids group) e all rise limits written fr
 effect-kept stored shown (commands.Ungroup ids group) e all rise limits written free kept =
     chosen (is_among ids e.id) (record e { groups = without_group group e.groups }) e
     (λ _. with_groups e kept (without_group group e.groups) (all_kept_by (λ other. not (bytes_eq group other)) IsUtf8 e.groups kept.written.groups)) kept
+effect-kept stored shown (commands.Duplicate ids prefix spot) e all rise limits written free kept =
+    with_view_key-kept (settled_for (shown_among ids shown) shown) e (settled_for-kept (shown_among ids shown) shown all) kept
+effect-kept stored shown (commands.Paste elements prefix spot) e all rise limits written free kept =
+    with_view_key-kept (settled_for elements shown) e (settled_for-kept elements shown all) kept

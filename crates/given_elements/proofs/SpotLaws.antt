@@ -1,9 +1,11 @@
 -- Keys of elements: those that they have in the view, and those at a spot.
 use Rattle.std.proofs.Common.{◌≡◌, ℕ, Bool, true, false, cond, not, List, [], ◌∷◌, Option, Some, None, IfSome, find, bytes_eq, if◌then◌else◌, refl, ap, ◌∙◌}
+use Rattle.std.specs.List.{list_all}
 use Rattle.std.specs.Option.{option_map_or, option_and_then}
 use Rattle.frac_keys.specs.Between.{key_between}
+use Rattle.frac_keys.specs.Keys.{is_key}
 use Rattle.frac_keys.specs.Rising.{ends_rise, is_key_or_none}
-use Rattle.frac_keys.proofs.CallerLemmas.{key_between-law}
+use Rattle.frac_keys.proofs.CallerLemmas.{AreBetween, key_between-law, keys_between-law}
 use Rattle.elem.specs.ElementValue.{ElementValue}
 use Rattle.elem.specs.Order.{has_id}
 use Rattle.elem_store.specs.Updates.{element_of}
@@ -12,7 +14,7 @@ use Rattle.std.proofs.ByRecursion.{all_kept_by}
 use Rattle.elem.proofs.CallerLemmas.{IsKept, AreKept, IsIndex}
 use Rattle.board_commands.specs.declared.command.Spot.{Spot}
 use Rattle.board_commands.specs.declared.command.Spot.TheVariants.{Bottom, Top, After}
-use Rattle.effects.specs.Placing.{settled_key, others, first_key, last_key, last_key_or, Gap, gap_above, gap_at, gap_of, lies_within, key_within, key_at, key_in}
+use Rattle.effects.specs.Placing.{settled_key, is_of, others, first_key, last_key, last_key_or, Gap, gap_above, gap_at, gap_of, lies_within, key_within, key_at, key_in, keys_at}
 use Rattle.effects.proofs.CallerLemmas.{Rises, Rises-shown, Rises-lower, ends_rise-none}
 
 find-some : (p : ElementValue → Bool) (es : List ElementValue) → AreKept es → IfSome (find p es) IsKept
@@ -44,12 +46,12 @@ record IsGap (gap : Gap) : Type 0 where
   high : is_key_or_none gap.high ≡ true
   rise : ends_rise gap.low gap.high ≡ true
 
-Rises-others : (id : List ℕ) (low : Option (List ℕ)) (es : List ElementValue) → Rises low es → Rises low (others id es)
-Rises-others id low [] h = tt
-Rises-others id low (e ∷ es) h =
-    elim (bytes_eq id e.id) as (λ (b : Bool). Rises low (cond (not b) (e ∷ others id es) (others id es))) [
-      | true ↦ Rises-others id low es (Rises-lower low h.0 es h.2 h.3)
-      | false ↦ (h.0, h.1, h.2, Rises-others id (Some h.0) es h.3)
+Rises-others : (except : Option (List ℕ)) (low : Option (List ℕ)) (es : List ElementValue) → Rises low es → Rises low (others except es)
+Rises-others except low [] h = tt
+Rises-others except low (e ∷ es) h =
+    elim (is_of except e) as (λ (b : Bool). Rises low (cond (not b) (e ∷ others except es) (others except es))) [
+      | true ↦ Rises-others except low es (Rises-lower low h.0 es h.2 h.3)
+      | false ↦ (h.0, h.1, h.2, Rises-others except (Some h.0) es h.3)
     ]
 
 first_key-key : (es : List ElementValue) → AreKept es → is_key_or_none (first_key es) ≡ true
@@ -89,8 +91,16 @@ key_within-is gap old is own =
       | false ↦ (key_between-law gap.low gap.high is.low is.high is.rise).key
     ]
 
+gap_of-is : (shown : List ElementValue) (spot : Spot) (except : Option (List ℕ)) → AreKept shown → HaveRisingKeys shown → IsGap (gap_of shown spot except)
+gap_of-is shown spot except all rise =
+    gap_at-is spot (others except shown) (Rises-others except None shown (Rises-shown shown rise)) (all_kept_by (λ (e : ElementValue). not (is_of except e)) IsKept shown all)
+
 -- the key at a spot is one
-pub key_at-is : (shown : List ElementValue) (spot : Spot) (id : List ℕ) (old : Option (List ℕ)) → AreKept shown → HaveRisingKeys shown → IsIndex old → IsIndex (key_at shown spot id old)
-key_at-is shown spot id old all rise own =
-    key_within-is (gap_of shown spot id) old
-    (gap_at-is spot (others id shown) (Rises-others id None shown (Rises-shown shown rise)) (all_kept_by (λ (e : ElementValue). not (bytes_eq id e.id)) IsKept shown all)) own
+pub key_at-is : (shown : List ElementValue) (spot : Spot) (except old : Option (List ℕ)) → AreKept shown → HaveRisingKeys shown → IsIndex old → IsIndex (key_at shown spot except old)
+key_at-is shown spot except old all rise own = key_within-is (gap_of shown spot except) old (gap_of-is shown spot except all rise) own
+
+-- and those of several are such
+pub keys_at-are : (shown : List ElementValue) (spot : Spot) (count : ℕ) → AreKept shown → HaveRisingKeys shown → list_all is_key (keys_at shown spot count) ≡ true
+keys_at-are shown spot count all rise =
+    let gap = gap_of-is shown spot None all rise in
+    (keys_between-law (gap_of shown spot None).low (gap_of shown spot None).high count gap.low gap.high gap.rise).are_keys

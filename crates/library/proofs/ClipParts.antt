@@ -3,8 +3,8 @@ use Rattle.std.proofs.Common.{◌≡◌, ℕ, suc, ◌+◌, ◌<◌, true, false
 use Rattle.std.proofs.lemmas.List.{map-append, take_more}
 use Rattle.std.proofs.lemmas.List.Elements.{filter-append}
 use Rattle.elem.specs.ElementValue.{ElementValue}
-use Rattle.board_paste.specs.Placed.{elements_in, places_in}
-use Rattle.board_paste.specs.declared.placed.Placed.{Placed}
+use Rattle.clips.specs.Placed.{elements_in, places_in}
+use Rattle.clips.specs.declared.placed.Placed.{Placed}
 use Rattle.library.specs.Inserting.{live_of, placed_from}
 
 placed-append : (place : ℕ) (elements : List ElementValue) (e : ElementValue) → placed_from place (elements ++ e ∷ []) ≡ placed_from place elements ++ (record { place = place + length elements; element = e } ∷ [])

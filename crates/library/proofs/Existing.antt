@@ -9,28 +9,19 @@ use Rattle.scene_json.specs.Named.{value_at}
 use Rattle.elem.specs.Forms.{IsId, IsObject, IsTextOrNull}
 use Rattle.elem_read.proofs.CallerLemmas.{Decided, fits-in, read-or-faulty}
 use Rattle.elem.specs.ElementValue.{ElementValue}
-use Rattle.elem_read.specs.Elements.{AreRead}
-use Rattle.board_paste.specs.Placed.{elements_in, first_repeat, AreReadFrom}
-use Rattle.board_paste.specs.declared.placed.Placed.{Placed}
+use Rattle.clips.specs.Placed.{elements_in, first_repeat, AreReadFrom}
+use Rattle.clips.specs.declared.placed.Placed.{Placed}
+use Rattle.clips.proofs.CallerLemmas.{is-text, placed-of}
 use Rattle.library.specs.Reading.{AreElementsOf, AreItemsIn, IsArray, IsElementsFault, IsFirst, IsFirstFaultyItem, IsItemFault, IsItemIn, IsItemOf, IsLibFault, IsLibraryOf, IsStatus, IsTime}
 use Rattle.library.specs.declared.fault.ItemFault.{ItemFault}
 use Rattle.library.specs.declared.fault.ItemFault.TheVariants as item
 use Rattle.library.specs.declared.fault.LibFault.{LibFault}
 use Rattle.library.specs.declared.fault.LibFault.TheVariants as library
 use Rattle.library.specs.declared.item.Item.{Item}
-use Rattle.library.proofs.ItemForms.{array_of-or-not, id-or-not, is-word, status-or-not, text_or_null-or-not, time-or-not}
+use Rattle.library.proofs.ItemForms.{array_of-or-not, id-or-not, status-or-not, text_or_null-or-not, time-or-not}
 use Rattle.library.proofs.ItemOnce.{first-among, first-created, first-elements, first-id, first-name, first-status, members-fault}
 
 -- ---- elements
--- elements that are read have places
-placed-of : (place : ℕ) (values : List (List ℕ)) (elements : List ElementValue) → AreRead values elements → (placed : List Placed) × AreReadFrom place values placed
-placed-of place [] elements read = ([], refl)
-placed-of place (value ∷ values) elements (inl (dropped, read)) =
-    let more = placed-of (suc place) values elements read in (more.0, inl (dropped, more.1))
-placed-of place (value ∷ values) elements (inr (e, others, all, is, read)) =
-    let more = placed-of (suc place) values others read in
-    (record { place = place; element = e } ∷ more.0, inr (record { place = place; element = e }, more.0, refl, refl, is, more.1))
-
 abbrev ElementsTold : List (List ℕ) → Type 0
 ElementsTold values = ((elements : List ElementValue) × AreElementsOf values elements) ⊎ ((fault : ItemFault) × IsElementsFault values fault)
 
@@ -108,7 +99,7 @@ pub library-or-fault : (text : List ℕ) → IsCompact 128 text → ((items : Li
 library-or-fault text is = elim (object-or-not text is) [
   | inr none ↦ inr (library.NotObject, λ ms object. none ms object.spelled)
   | inl (ms, are, e) ↦ let object : IsObject text ms = record { are_members = are; spelled = e } in
-      elim (is-word (value_at (codes "type") ms) (codes "excalidrawlib") (fits-in 127 ms (lit≤ tt) are (codes "type"))) [
+      elim (is-text (value_at (codes "type") ms) (codes "excalidrawlib") (fits-in 127 ms (lit≤ tt) are (codes "type"))) [
         | inr none ↦ inr (library.NotLibrary, (ms, object, none))
         | inl kind ↦ elim (array_of-or-not (value_at (codes "libraryItems") ms) (fits-in 127 ms (lit≤ tt) are (codes "libraryItems"))) [
           | inr none ↦ inr (library.Items, (ms, object, kind, none))

@@ -13,10 +13,10 @@ use Rattle.elem.specs.Order.{HaveDistinctIds}
 use Rattle.elem.specs.Texts.{element_text}
 use Rattle.elem.proofs.CallerLemmas.{literal}
 use Rattle.scene_file.specs.Reading.{HasItems}
-use Rattle.board_paste.specs.Clips.{live_in, IsClipOf}
-use Rattle.board_paste.specs.Placed.{elements_in}
-use Rattle.board_paste.specs.declared.placed.Placed.{Placed}
-use Rattle.board_paste.proofs.CallerLemmas.{repeat-none}
+use Rattle.clips.specs.Clips.{live_in, IsClipOf}
+use Rattle.clips.specs.Placed.{elements_in}
+use Rattle.clips.specs.declared.placed.Placed.{Placed}
+use Rattle.clips.proofs.CallerLemmas.{repeat-none}
 use Rattle.library.specs.Inserting.{clip_of, clip_text, placed_from}
 use Rattle.library.specs.Items.{item_text}
 use Rattle.library.specs.Reading.{IsWholeItem}

@@ -1,5 +1,5 @@
 -- What an item's members say is one thing, and it is decided whether they say it.
-use Rattle.std.proofs.Common.{◌≡◌, ◌⊎◌, inl, inr, ℕ, List, [], ◌∷◌, Bool, true, false, Option, Some, None, bytes_eq, codes, decimal, refl, sym, ap, subst, ◌∙◌, arith, lit<}
+use Rattle.std.proofs.Common.{◌≡◌, ◌⊎◌, inl, inr, ℕ, List, [], ◌∷◌, Bool, true, false, Option, Some, None, bytes_eq, codes, decimal, refl, sym, ap, ◌∙◌, arith, lit<}
 use Rattle.std.proofs.lemmas.Bool.{both_ways, cases_Bool}
 use Rattle.std.proofs.lemmas.Option.{same_Some}
 use Rattle.json_text.specs.Characters.{quote}
@@ -10,6 +10,7 @@ use Rattle.scene_json.proofs.CallerLemmas.{digit_of_decimal}
 use Rattle.elem.specs.Forms.{IsId, IsNull, IsText, IsTextOrNull, IsWholeNumber}
 use Rattle.elem.proofs.CallerLemmas.{array-once, literal, null-no-text, text-once, whole-once}
 use Rattle.elem_read.proofs.CallerLemmas.{Decided, Fits, text-or-not, whole-or-not}
+use Rattle.clips.proofs.CallerLemmas.{is-text}
 use Rattle.library.specs.Items.{status_word}
 use Rattle.library.specs.Reading.{IsArray, IsStatus, IsTime}
 
@@ -75,16 +76,6 @@ null-or-not (Some v) = elim (cases_Bool (bytes_eq v null_word)) [
     by e (inl none) = cc
     by e (inr null) = both_ways (bytes_eq v null_word) e (ap (λ x. bytes_eq x null_word) (same_Some v null_word null) ∙ bytes_eq-same null_word)
 
-pub is-word : (found : Option (List ℕ)) (wanted : List ℕ) → Fits found → IsText found wanted ⊎ (IsText found wanted → ⊥)
-is-word found wanted fits = by (text-or-not found fits)
-  where
-    by : Decided (IsText found) → IsText found wanted ⊎ (IsText found wanted → ⊥)
-    by (inr none) = inr (λ is. none wanted is)
-    by (inl (text, is)) = elim (cases_Bool (bytes_eq text wanted)) [
-      | inl e ↦ inl (subst (IsText found) (bytes_eq-true text wanted e) is)
-      | inr e ↦ inr (λ also. both_ways (bytes_eq text wanted) e (ap (λ t. bytes_eq t wanted) (text-once found text wanted is also) ∙ bytes_eq-same wanted))
-    ]
-
 -- nothing else says whether an item is published
 pub no-status : (found : Option (List ℕ)) → (found ≡ Some (quote (status_word true)) → ⊥) → (IsNull found → ⊥) → (found ≡ Some (quote (status_word false)) → ⊥) → (b : Bool) → IsStatus found b → ⊥
 no-status found first none second true is = first is
@@ -92,7 +83,7 @@ no-status found first none second false (inl null) = none null
 no-status found first none second false (inr is) = second is
 
 pub status-or-not : (found : Option (List ℕ)) → Fits found → Decided (IsStatus found)
-status-or-not found fits = by (is-word found (status_word true) fits) (null-or-not found) (is-word found (status_word false) fits)
+status-or-not found fits = by (is-text found (status_word true) fits) (null-or-not found) (is-text found (status_word false) fits)
   where
     by : IsText found (status_word true) ⊎ (IsText found (status_word true) → ⊥) → IsNull found ⊎ (IsNull found → ⊥)
         → IsText found (status_word false) ⊎ (IsText found (status_word false) → ⊥) → Decided (IsStatus found)

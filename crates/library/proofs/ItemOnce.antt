@@ -10,8 +10,8 @@ use Rattle.elem.proofs.CallerLemmas.{members-once, text-once}
 use Rattle.elem_read.specs.Elements.{IsFirstFaulty}
 use Rattle.elem_read.specs.declared.fault.ElemFault.{ElemFault}
 use Rattle.elem_read.proofs.CallerLemmas.{faulty-once}
-use Rattle.board_paste.specs.Placed.{elements_in, first_repeat, AreReadFrom}
-use Rattle.board_paste.proofs.CallerLemmas.{placed-faultless, placed-once}
+use Rattle.clips.specs.Placed.{elements_in, first_repeat, AreReadFrom}
+use Rattle.clips.proofs.CallerLemmas.{placed-faultless, placed-once}
 use Rattle.library.specs.Reading.{place_of, AreElementsOf, Fails, IsArray, IsElementsFault, IsFirst, IsItemFault, IsItemIn, IsItemOf, IsStatus, IsTime}
 use Rattle.library.specs.declared.fault.ItemFault.{ItemFault}
 use Rattle.library.specs.declared.fault.ItemFault.TheVariants.{NotObject, Id, Status, Created, Name, Elements, Element, Repeated}

@@ -4,7 +4,7 @@ use Rattle.json_text.specs.Compact.{Member as Pair}
 use Rattle.scene_json.specs.Named.{value_at}
 use Rattle.elem.specs.Forms.{IsObject}
 use Rattle.elem.proofs.CallerLemmas.{members-once}
-use Rattle.board_paste.proofs.CallerLemmas.{Asked, asked-none, asked-once, no, yes}
+use Rattle.clips.proofs.CallerLemmas.{Asked, asked-none, asked-once, no, yes}
 use Rattle.library.specs.Reading.{AreItemsIn, IsArray, IsFirstFaultyItem, IsLibFault, IsLibrary, IsLibraryOf}
 use Rattle.library.specs.declared.fault.ItemFault.{ItemFault}
 use Rattle.library.specs.declared.fault.LibFault.{LibFault}

@@ -17,8 +17,8 @@ use Rattle.elem.specs.Order.{HaveDistinctIds}
 use Rattle.elem.specs.Texts.{element_text}
 use Rattle.elem.proofs.CallerLemmas.{AreMembers-deeper, literal}
 use Rattle.elem_read.specs.Reading.{IsWholeElement}
-use Rattle.board_paste.specs.Placed.{elements_in, first_repeat, AreReadFrom}
-use Rattle.board_paste.proofs.CallerLemmas.{placed-whole, repeat-none}
+use Rattle.clips.specs.Placed.{elements_in, first_repeat, AreReadFrom}
+use Rattle.clips.proofs.CallerLemmas.{placed-whole, repeat-none}
 use Rattle.library.specs.Inserting.{placed_from}
 use Rattle.library.specs.Items.{item_members, item_text, library_members, library_text, status_word}
 use Rattle.library.specs.Reading.{AreItemsIn, IsArray, IsItemIn, IsItemOf, IsLibraryOf, IsStatus, IsTime, IsWholeItem}

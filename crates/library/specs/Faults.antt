@@ -1,7 +1,7 @@
 -- What is told of a library's fault, and of an insertion that is refused. This project's own.
 use Rattle.std.specs.Prelude.{ℕ, List, ◌++◌, codes, decimal}
 use Rattle.elem_read.specs.Faults.{fault_word}
-use Rattle.board_paste.specs.Faults.{words_of_element}
+use Rattle.clips.specs.Faults.{words_of_element}
 use Rattle.library.specs.declared.fault.InsertFault.{InsertFault}
 use Rattle.library.specs.declared.fault.InsertFault.TheVariants as insertion
 use Rattle.library.specs.declared.fault.ItemFault.{ItemFault}

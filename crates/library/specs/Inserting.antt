@@ -4,12 +4,12 @@ use Rattle.json_text.specs.Characters.{quote}
 use Rattle.json_text.specs.Compact.{array_text, object_text}
 use Rattle.elem.specs.ElementValue.{ElementValue}
 use Rattle.elem.specs.Texts.{element_text}
-use Rattle.board_paste.specs.Clips.{live_in}
-use Rattle.board_paste.specs.Copies.{copies_of}
+use Rattle.clips.specs.Clips.{live_in}
+use Rattle.copies.specs.Copies.{copies_of}
 use Rattle.board_paste.specs.Pasting.{first_stored, pasted}
-use Rattle.board_paste.specs.Placed.{elements_in, places_in}
-use Rattle.board_paste.specs.declared.clip.Clip.{Clip}
-use Rattle.board_paste.specs.declared.placed.Placed.{Placed}
+use Rattle.clips.specs.Placed.{elements_in, places_in}
+use Rattle.clips.specs.declared.clip.Clip.{Clip}
+use Rattle.clips.specs.declared.placed.Placed.{Placed}
 use Rattle.library.specs.declared.item.Item.{Item}
 
 -- elements with their places, of which the first is given

@@ -11,8 +11,8 @@ use Rattle.elem.specs.ElementValue.{ElementValue}
 use Rattle.elem.specs.Forms.{IsId, IsNull, IsObject, IsText, IsTextOrNull, IsWholeNumber}
 use Rattle.elem_read.specs.Elements.{IsFirstFaulty}
 use Rattle.elem_read.specs.Faults.{Lacks}
-use Rattle.board_paste.specs.Placed.{elements_in, first_repeat, AreReadFrom}
-use Rattle.board_paste.specs.declared.placed.Placed.{Placed}
+use Rattle.clips.specs.Placed.{elements_in, first_repeat, AreReadFrom}
+use Rattle.clips.specs.declared.placed.Placed.{Placed}
 use Rattle.library.specs.Items.{item_text, status_word}
 use Rattle.library.specs.declared.fault.ItemFault.{ItemFault}
 use Rattle.library.specs.declared.fault.ItemFault.TheVariants.{NotObject, Id, Status, Created, Name, Elements, Element, Repeated}

@@ -2,7 +2,7 @@
 
 ghost use Rattle.std.specs.Prelude.{◌≡◌};
 ghost use Rattle.board_base.specs.Pieces.{line_text};
-ghost use Rattle.board_paste.specs.Faults.{words_of_element};
+ghost use Rattle.clips.specs.Faults.{words_of_element};
 ghost use Rattle.library.specs.Faults.{insert_fault_words, item_fault_words, lib_fault_words};
 
 use board_base::Piece;

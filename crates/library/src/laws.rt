@@ -3,7 +3,7 @@
 ghost use Rattle.std.specs.Prelude.{◌≡◌, ◌⊎◌, ℕ, List, [], ◌∷◌, ◌++◌, All, Contains, None, Some, true, false};
 ghost use Rattle.json_text.specs.Value.{IsCompact};
 ghost use Rattle.frac_keys.specs.Rising.{are_rising};
-ghost use Rattle.board_paste.specs.Clips.{IsClipOf};
+ghost use Rattle.clips.specs.Clips.{IsClipOf};
 ghost use Rattle.library.specs.Best.{ids_of, is_better, item_of, AreBest, HasPut, HaveSameItems, IsBest};
 ghost use Rattle.library.specs.Inserting.{clip_of, clip_text};
 ghost use Rattle.library.specs.Items.{item_text, library_text};

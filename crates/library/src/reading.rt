@@ -3,7 +3,7 @@
 ghost use Rattle.std.specs.Prelude.{◌≡◌, ℕ, All, Ok, Err, IfOk};
 ghost use Rattle.json_text.specs.Members.{pairs};
 ghost use Rattle.elem_read.specs.declared.fault.FaultyElement.{FaultyElement};
-ghost use Rattle.board_paste.specs.Placed.{elements_in};
+ghost use Rattle.clips.specs.Placed.{elements_in};
 ghost use Rattle.library.specs.Reading.{AreElementsOf, AreItemsIn, IsElementsFault, IsFirst, IsFirstFaultyItem, IsItemFault, IsItemIn, IsItemOf, IsLibFault, IsLibraryOf, IsWholeItem};
 ghost use Rattle.library.specs.declared.fault.ItemFault.{ItemFault};
 ghost use Rattle.library.specs.declared.fault.LibFault.{LibFault};
@@ -12,7 +12,7 @@ use crate::fault::{ItemFault, LibFault};
 use crate::forms::{array_named, id_named, status_named, text_or_null_named, time_named};
 use crate::item::Item;
 use board_base::{List, Stop};
-use board_paste::{Placed, first_repeat, read_placed};
+use clips::{Placed, first_repeat, read_placed};
 use elem::Element;
 use elem_read::FaultyElement;
 use json_text::{Member, Raw};

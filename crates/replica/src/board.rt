@@ -74,6 +74,7 @@ impl Board {
         requires time { time ≤ greatest_whole }
         requires nonce { nonce ≤ greatest_whole }
         requires limits { IsWithinLimits command.now }
+        requires board { IsBoard self.now }
         ensures exact { IfOk result
             (λ given. outcome self.now.store.elements
             (shown self.now.view) command.now time nonce ≡ Ok given) }

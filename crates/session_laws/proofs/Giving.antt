@@ -1,20 +1,19 @@
 -- What a replica makes of itself by a change, an undo or a redo: it gives elements of rising ids with the nonce, each of a higher
 -- version than the stored one of its id.
 use Rattle.std.proofs.Common.{◌≡◌, ℕ, ◌+◌, ◌<◌, true, List, [], ◌∷◌, ◌++◌, Option, Some, None, Result, Ok, Err, Contains, inl, inr, refl, sym, ap, ◌∙◌, subst, arith}
-use Rattle.std.proofs.lemmas.Option.{none-some, same_Some}
+use Rattle.std.proofs.lemmas.Option.{same_Some}
 use Rattle.frac_keys.specs.Rising.{are_rising}
 use Rattle.elem.specs.ElementValue.{ElementValue}
 use Rattle.elem_store.specs.Updates.{element_of, ids_of, stored_of, AreStored}
 use Rattle.delta.specs.Pairs.{Pair}
 use Rattle.reconcile.specs.Ids.{free_elements}
 use Rattle.view.specs.Shown.{live_elements, shown}
-use Rattle.effects.specs.Changed.{created, created_at, outcome}
+use Rattle.effects.specs.Changed.{outcome}
 use Rattle.board_commands.specs.declared.command.Capture.{Capture}
 use Rattle.board_commands.specs.declared.command.Capture.TheVariants.{Now, Later, Never}
 use Rattle.board_commands.specs.declared.command.Command.{Command}
-use Rattle.board_commands.specs.declared.command.Command.TheVariants as commands
 use Rattle.effects.specs.declared.refusal.Refusal.{Refusal}
-use Rattle.effects.proofs.CallerLemmas.{given-rise, given-kind, given-cases}
+use Rattle.effects.proofs.CallerLemmas.{created-nonce, given-rise, given-kind, given-cases}
 use Rattle.undoing.specs.Carrying.{taken_all}
 use Rattle.undoing.specs.Differing.{pending}
 use Rattle.undoing.specs.Steps.{Turn}
@@ -39,16 +38,12 @@ none-fresh stored nonce = record {
 
 -- ---- a command
 module _ (stored shown : List ElementValue) (command : Command) (time nonce : ℕ) where
-  created-nonce : (command : Command) (e : ElementValue) → created shown command time nonce ≡ Some e → e.nonce ≡ nonce
-  created-nonce (commands.Create element spot) e is = ap (λ (d : ElementValue). d.nonce) (sym (same_Some (created_at shown element spot time nonce) e is))
-  created-nonce command e is = absurd (none-some e is)
-
   outcome-fresh : (given : List ElementValue) → are_rising (ids_of stored) ≡ true → outcome stored shown command time nonce ≡ Ok given → IsFresh stored nonce given
   outcome-fresh given rise told = record {
     rise = given-rise stored shown command time nonce given told rise;
     nonces = λ e c. elim (given-cases stored shown command time nonce given told rise e c) [
       | inl change ↦ ap (λ (d : ElementValue). d.nonce) change.is
-      | inr new ↦ created-nonce command e new.is
+      | inr new ↦ created-nonce stored shown time nonce command e new.is
     ];
     newer = λ e old c found.
         let next = (given-kind stored shown command time nonce given told rise e old c found).1 in

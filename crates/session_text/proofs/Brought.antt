@@ -1,5 +1,5 @@
 -- What sessions that are read bring is of elements.
-use Rattle.std.proofs.Common.{◌≡◌, ℕ, ◌+◌, List, [], ◌∷◌, Bool, false, Option, Some, None, IfSome, Ok, codes, bytes_eq, is_some, map, sym, ◌∙◌, subst, IsUtf8}
+use Rattle.std.proofs.Common.{◌≡◌, ℕ, ◌+◌, All, List, [], ◌∷◌, Bool, false, Option, Some, None, IfSome, Ok, codes, bytes_eq, is_some, map, sym, ◌∙◌, subst, IsUtf8}
 use Rattle.std.specs.List.{AllByRecursion, list_any, list_all}
 use Rattle.std.proofs.lemmas.Bool.{or_parts, cond_both}
 use Rattle.std.proofs.lemmas.List.Elements.{All-weaker}
@@ -23,6 +23,7 @@ use Rattle.index_repair.proofs.CallerLemmas.{keyed-elements}
 use Rattle.board_commands.specs.declared.command.Command.{Command}
 use Rattle.board_commands.specs.declared.command.Side.{Side}
 use Rattle.scene_file.specs.Reading.{value_unless_null, loaded}
+use Rattle.clips.proofs.CallerLemmas.{clip-whole}
 use Rattle.scene_file.specs.declared.scene.Scene.{Scene as Board}
 use Rattle.session_text.specs.Commands.{EndOf, IdsAnd, CommandNamed}
 use Rattle.session_text.specs.Events.{SceneOf, CommandIn, EventNamed, HeaderText, EventText}
@@ -41,10 +42,13 @@ use Rattle.session_text.proofs.Readings.{then-ok, gives-ok}
 use Rattle.board_commands.specs.Written.{IsWrittenCommand}
 
 -- ---- elements
-read-elements : (values : List (List ℕ)) (elements : List ElementValue) → AreRead values elements → AreElements elements
-read-elements values elements read =
+whole-elements : (elements : List ElementValue) → All IsWholeElement elements → AreElements elements
+whole-elements elements all =
     All-weaker IsWholeElement (λ e. IsElement e × HasValidTexts e)
-    (λ e whole. let sound = IsSound-read (element_text e) e whole in (sound.is_element, sound.written)) elements (All-whole values elements read)
+    (λ e whole. let sound = IsSound-read (element_text e) e whole in (sound.is_element, sound.written)) elements all
+
+read-elements : (values : List (List ℕ)) (elements : List ElementValue) → AreRead values elements → AreElements elements
+read-elements values elements read = whole-elements elements (All-whole values elements read)
 
 loaded-elements : (elements : List ElementValue) → AreElements elements → AreElements (loaded elements)
 loaded-elements elements are =
@@ -130,6 +134,16 @@ named-written members asked.Group command says =
 named-written members asked.Ungroup command says =
     let (grouped, is, last) = then-ok _ _ command says in
     subst IsWrittenCommand (sym (gives-ok _ command last)) tt
+named-written members asked.Duplicate command says =
+    let (copied, is, more) = then-ok _ _ command says in
+    let (spot, also, last) = then-ok _ _ command more in
+    subst IsWrittenCommand (sym (gives-ok _ command last)) (ids-written named.Prefix members copied is)
+named-written members asked.Paste command says =
+    let (clip, is, more) = then-ok _ _ command says in
+    let (prefix, also, next) = then-ok _ _ command more in
+    let (spot, too, last) = then-ok _ _ command next in
+    let (value, there, says_clip) = then-ok _ _ clip is in
+    subst IsWrittenCommand (sym (gives-ok _ command last)) (whole-elements clip.elements (clip-whole value clip says_clip), also.0)
 
 command-written : (members : List Pair) (command : Command) → CommandIn members (Ok command) → IsWrittenCommand command
 command-written members command says =

@@ -1,18 +1,16 @@
 -- What is found under a name has a form or has it not, and stands for one thing alone.
-use Rattle.std.proofs.Common.{◌≡◌, ◌≢◌, ◌⊎◌, inl, inr, ℕ, ◌<◌, ◌≤◌, ◌^◌, List, [], ◌∷◌, Option, Some, None, length, get_or, codes, decimal, bytes_eq, refl, sym, ap, ap₂, subst, ◌∙◌, arith, lit≤}
+use Rattle.std.proofs.Common.{◌≡◌, ◌≢◌, ◌⊎◌, inl, inr, ℕ, List, [], ◌∷◌, Option, Some, None, codes, decimal, bytes_eq, refl, sym, ap, ap₂, subst, ◌∙◌, arith, lit≤}
 use Rattle.std.specs.List.{AllByRecursion}
 use Rattle.std.proofs.lemmas.Bool.{cases_Bool, cases_lt, both_ways}
 use Rattle.json_text.specs.Characters.{quote}
-use Rattle.json_text.specs.Compact.{Member as Pair, array_text, object_text}
-use Rattle.json_text.specs.Parts.{AreMembers}
+use Rattle.json_text.specs.Compact.{Member as Pair}
 use Rattle.json_text.specs.Value.{IsCompact}
 use Rattle.json_text.specs.declared.text.Member.{Member}
 use Rattle.scene_json.specs.Named.{value_at}
-use Rattle.json_text.proofs.CallerLemmas.{bytes_eq-true, bytes_eq-same, Value-deeper, StartsWith, quote-starts, array-starts, object-starts, array-or-not, object-or-not, nests-or-not, heads-differ}
+use Rattle.json_text.proofs.CallerLemmas.{bytes_eq-true, bytes_eq-same, Value-deeper, quote-starts, array-starts, object-starts, array-or-not, object-or-not, nests-or-not, heads-differ}
 use Rattle.scene_json.proofs.CallerLemmas.{digit_of_decimal}
 use Rattle.json_text.specs.FirstOccurrences.{first_texts}
-use Rattle.elem.specs.Facts.{greatest_whole}
-use Rattle.elem.specs.Forms.{find_in, IsText, IsWholeNumber, IsObject, AreTexts, AreOthers}
+use Rattle.elem.specs.Forms.{find_in, IsText, IsWholeNumber, IsObject, AreOthers}
 use Rattle.elem.proofs.CallerLemmas.{text-once, whole-once, texts-once, members-once, others-once, array-once}
 use Rattle.elem_read.proofs.CallerLemmas.{Decided, Fits, fits-in, text-or-not, texts-or-not, whole-or-not, others-exist}
 use Rattle.board_commands.specs.declared.command.Spot.{Spot}

@@ -1,5 +1,5 @@
 -- What holds of every session that is read.
-use Rattle.std.proofs.Common.{◌≡◌, ℕ, ◌+◌, ◌≤◌, ◌<◌, List, [], ◌∷◌, Bool, true, false, Option, Some, None, IfSome, Ok, codes, bytes_eq, length, drop, refl, sym, ap, subst, ◌∙◌, arith, lit≤}
+use Rattle.std.proofs.Common.{◌≡◌, ℕ, ◌+◌, ◌≤◌, ◌<◌, List, [], ◌∷◌, Bool, false, Option, Some, None, IfSome, Ok, codes, bytes_eq, drop, refl, sym, subst, ◌∙◌, arith, lit≤}
 use Rattle.std.specs.List.{AllByRecursion, list_any}
 use Rattle.std.proofs.lemmas.Bool.{or_parts}
 use Rattle.json_text.specs.Compact.{Member as Pair}
@@ -8,27 +8,26 @@ use Rattle.json_text.specs.Value.{IsCompact}
 use Rattle.json_text.specs.declared.text.Member.{Member}
 use Rattle.scene_json.specs.Named.{value_at}
 use Rattle.scene_json.proofs.CallerLemmas.{rising_distinct}
-use Rattle.elem.specs.Facts.{greatest_whole, names, AllNest}
-use Rattle.elem.specs.Forms.{find_in, IsObject, AreOthers}
+use Rattle.elem.specs.Facts.{greatest_whole, names}
+use Rattle.elem.specs.Forms.{find_in}
 use Rattle.elem.proofs.CallerLemmas.{names-rise}
 use Rattle.elem_read.proofs.CallerLemmas.{found-has, found-self, object-nests}
 use Rattle.board_commands.specs.Limits.{IsWithinLimits}
 use Rattle.board_commands.specs.Limits as limits
 use Rattle.board_commands.specs.declared.command.Command.{Command}
-use Rattle.board_commands.specs.declared.command.Command.TheVariants as commands
 use Rattle.scene_file.specs.Reading.{value_unless_null}
 use Rattle.scene_file.specs.Whole.{HaveKeys}
 use Rattle.scene_file.specs.declared.scene.Scene.{Scene as Board}
 use Rattle.scene_file.proofs.CallerLemmas.{loaded-keys}
-use Rattle.session_text.specs.Commands.{CommandNamed, CommandOf}
-use Rattle.session_text.specs.Events.{HeaderOf, SceneOf, TimeOf, HeldOf, CommandIn, EventNamed, HeaderText, EventText, header}
+use Rattle.clips.proofs.CallerLemmas.{clip-distinct}
+use Rattle.session_text.specs.Commands.{CommandNamed}
+use Rattle.session_text.specs.Events.{SceneOf, TimeOf, HeldOf, CommandIn, EventNamed, HeaderText, EventText, header}
 use Rattle.session_text.specs.Facts.{IsAmong, IsEventWithinLimits, IsOfMade, PicksMade, PickMade, IsSession}
-use Rattle.session_text.specs.Forms.{IsRest, IsPick, ArePicks, HasPicks}
-use Rattle.session_text.specs.Sessions.{most_events, messages_of, EventsLead, IsSessionOf}
+use Rattle.session_text.specs.Forms.{IsRest, IsPick, ArePicks}
+use Rattle.session_text.specs.Sessions.{messages_of, EventsLead, IsSessionOf}
 use Rattle.session_text.specs.declared.command.Asked.{Asked}
 use Rattle.session_text.specs.declared.command.Asked.TheVariants as asked
 use Rattle.session_text.specs.declared.event.Event.{Event}
-use Rattle.session_text.specs.declared.event.Event.TheVariants as events
 use Rattle.session_text.specs.declared.event.Pick.{Pick}
 use Rattle.session_text.specs.declared.event.Pick.TheVariants as chosen
 use Rattle.session_text.specs.declared.happening.Happening.{Happening}
@@ -106,6 +105,16 @@ named-limits members asked.Group command says =
 named-limits members asked.Ungroup command says =
     let (grouped, is, last) = then-ok _ _ command says in
     subst IsWithinLimits (sym (gives-ok _ command last)) tt
+named-limits members asked.Duplicate command says =
+    let (copied, is, more) = then-ok _ _ command says in
+    let (spot, also, last) = then-ok _ _ command more in
+    subst IsWithinLimits (sym (gives-ok _ command last)) tt
+named-limits members asked.Paste command says =
+    let (clip, is, more) = then-ok _ _ command says in
+    let (prefix, also, next) = then-ok _ _ command more in
+    let (spot, too, last) = then-ok _ _ command next in
+    let (value, there, says_clip) = then-ok _ _ clip is in
+    subst IsWithinLimits (sym (gives-ok _ command last)) (clip-distinct value clip says_clip)
 
 command-limits : (members : List Pair) (command : Command) → CommandIn members (Ok command) → IsWithinLimits command
 command-limits members command says =

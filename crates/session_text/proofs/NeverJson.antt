@@ -6,7 +6,8 @@ use Rattle.elem.specs.Forms.{IsText, IsObject, IsWholeNumber}
 use Rattle.elem_read.specs.declared.fault.ElemFault.{ElemFault}
 use Rattle.scene_file.specs.Reading.{value_unless_null}
 use Rattle.scene_file.specs.declared.fault.SceneFault.{SceneFault}
-use Rattle.session_text.specs.Commands.{IsAsked, IsDrawnAs, TextOf, ElementOf, IdsOf, IdsAnd, EndOf, CommandNamed}
+use Rattle.clips.specs.declared.fault.ClipFault.{ClipFault}
+use Rattle.session_text.specs.Commands.{IsAsked, IsClipIn, IsDrawnAs, TextOf, ElementOf, ClipOf, IdsOf, IdsAnd, EndOf, CommandNamed}
 use Rattle.session_text.specs.Events.{SceneOf, HeaderOf, IsHappening, AreDrawnAs, TimeOf, HeldOf, CommandIn, EventNamed, EventOf, HeaderText, EventText}
 use Rattle.session_text.specs.Forms.{IsFrom, IsThere, IsArray, HasObject, IsShallow, AreIds, IsCapture, IsSide, IsSpot, IsRest, HasPicks}
 use Rattle.session_text.specs.Reads.{Or, MemberOf, Gives, Then}
@@ -55,6 +56,15 @@ drawn-form value = record { never = λ found is. other found is.0 is.1 }
 element-form : (members : List Pair) → HasForm (ElementOf members)
 element-form members = then-form _ _ (member-form IsThere members names.Element) drawn-form
 
+clip-form : (value : List ℕ) → HasForm (IsClipIn value)
+clip-form value = record { never = λ found is. other found is.0 is.1 }
+  where
+    other : (found : JsonFault) (why : ClipFault) → Json found ≡ faults.Clip why → ⊥
+    other found why e = cc
+
+clip_of-form : (members : List Pair) → HasForm (ClipOf members)
+clip_of-form members = then-form _ _ (member-form IsThere members names.Clip) clip-form
+
 ids-form : (members : List Pair) → HasForm (IdsOf members)
 ids-form members = member-form AreIds members names.Ids
 
@@ -87,6 +97,10 @@ named-form members asked.Frame = then-form _ _ (ids_and-form members names.Frame
 named-form members asked.Unframe = then-form _ _ (ids-form members) (λ ids. gives-form _)
 named-form members asked.Group = then-form _ _ (ids_and-form members names.Group) (λ grouped. gives-form _)
 named-form members asked.Ungroup = then-form _ _ (ids_and-form members names.Group) (λ grouped. gives-form _)
+named-form members asked.Duplicate =
+    then-form _ _ (ids_and-form members names.Prefix) (λ copied. then-form _ _ (member-form IsSpot members names.Spot) (λ spot. gives-form _))
+named-form members asked.Paste =
+    then-form _ _ (clip_of-form members) (λ clip. then-form _ _ (text-form members names.Prefix) (λ prefix. then-form _ _ (member-form IsSpot members names.Spot) (λ spot. gives-form _)))
 
 command-form : (members : List Pair) → HasForm (CommandIn members)
 command-form members = then-form _ _ (member-form HasObject members names.Command) (λ inner. then-form _ _ (member-form IsAsked inner names.Name) (named-form inner))

@@ -1,5 +1,5 @@
 -- What is read, or the first fault, of one reading after the other.
-use Rattle.std.proofs.Common.{◌≡◌, ◌⊎◌, inl, inr, Result, Ok, Err, refl, sym, ap, subst, ◌∙◌}
+use Rattle.std.proofs.Common.{◌≡◌, inl, inr, Result, Ok, Err, refl, sym, ap, subst, ◌∙◌}
 use Rattle.board_base.specs.declared.stop.Stop.{Stop}
 use Rattle.board_base.specs.declared.stop.Stop.TheVariants.{Fault, Memory}
 use Rattle.elem_read.proofs.CallerLemmas.{Decided}

@@ -1,21 +1,21 @@
 -- Each text of a session is read as one thing, or has one first fault.
-use Rattle.std.proofs.Common.{◌≡◌, ℕ, List, Option, Some, Result, Ok, codes, refl, sym, subst, ◌∙◌, lit≤}
+use Rattle.std.proofs.Common.{ℕ, List, codes, subst, lit≤}
 use Rattle.json_text.specs.Compact.{Member as Pair}
 use Rattle.json_text.specs.Parts.{AreMembers}
 use Rattle.json_text.specs.Value.{IsCompact}
 use Rattle.scene_json.specs.Named.{value_at}
-use Rattle.elem.specs.Forms.{IsText, IsWholeNumber, IsObject}
+use Rattle.elem.specs.Forms.{IsWholeNumber, IsObject}
 use Rattle.elem.proofs.CallerLemmas.{text-once, whole-once, members-once}
-use Rattle.elem_read.proofs.CallerLemmas.{Decided, Fits, fits-in, text-or-not, whole-or-not}
+use Rattle.elem_read.proofs.CallerLemmas.{Fits, fits-in, text-or-not, whole-or-not}
 use Rattle.scene_file.specs.Reading as scene_reading
-use Rattle.session_text.specs.Commands.{asked_text, IsAsked, TextOf, ElementOf, IdsOf, IdsAnd, EndOf, CommandNamed, CommandOf}
+use Rattle.clips.proofs.CallerLemmas.{fits-given}
+use Rattle.session_text.specs.Commands.{asked_text, IsAsked, TextOf, ElementOf, ClipOf, IdsOf, IdsAnd, EndOf, CommandNamed, CommandOf}
 use Rattle.session_text.specs.Events.{HeaderOf, happening_text, IsHappening, TimeOf, HeldOf, CommandIn, ElementsIn, EventNamed, EventOf, HeaderText, EventText}
-use Rattle.session_text.specs.Forms.{IsFrom, IsThere, IsArray, HasObject, IsShallow, AreIds, IsCapture, IsSide, IsSpot, IsRest, HasPicks, side_text}
+use Rattle.session_text.specs.Forms.{IsFrom, IsShallow, IsCapture, IsSide, IsSpot, IsRest, HasPicks, side_text}
 use Rattle.session_text.specs.Names.{word_of}
-use Rattle.session_text.specs.Reads.{Or, MemberOf, ObjectOf}
+use Rattle.session_text.specs.Reads.{Or, MemberOf}
 use Rattle.session_text.specs.declared.command.Asked.{Asked}
 use Rattle.session_text.specs.declared.command.Asked.TheVariants as asked
-use Rattle.session_text.specs.declared.fault.TextFault.{TextFault}
 use Rattle.session_text.specs.declared.fault.TextFault.TheVariants as faults
 use Rattle.session_text.specs.declared.happening.Happening.{Happening}
 use Rattle.session_text.specs.declared.happening.Happening.TheVariants as happenings
@@ -23,7 +23,7 @@ use Rattle.session_text.specs.declared.name.MemberName.{MemberName}
 use Rattle.session_text.specs.declared.name.MemberName.TheVariants as names
 use Rattle.session_text.proofs.FormsOne.{from-once, from-or-not, there-or-not, there-once, array-decided, array-alike, object-decided, has-decided, has-once, shallow-decided, shallow-once, ids-decided, ids-once, told-decided, told-once, capture-decided, capture-once, side-decided, spot-once, spot-decided, rest-decided, rest-once, has_picks-decided, has_picks-once}
 use Rattle.session_text.proofs.Readings.{IsOne, gives-one, or-one, then-one}
-use Rattle.session_text.proofs.Values.{scene-one, fits-value_unless_null, drawn-one, drawings-one}
+use Rattle.session_text.proofs.Values.{scene-one, clip-one, drawn-one, drawings-one}
 use Rattle.session_text.proofs.Words.{all_sides, sides-told, all_asked, asked-told, all_happenings, happenings-told}
 
 fits : (members : List Pair) → AreMembers 127 members → (name : MemberName) → Fits (value_at (word_of name) members)
@@ -80,6 +80,11 @@ element-one members are =
     then-one _ _ (or-one _ _ (there-or-not (value_at (codes "element") members)) (there-once (value_at (codes "element") members)))
     (λ value is. drawn-one value (subst Fits is (fits members are names.Element)))
 
+clip_of-one : (members : List Pair) → AreMembers 127 members → IsOne (ClipOf members)
+clip_of-one members are =
+    then-one _ _ (or-one _ _ (there-or-not (value_at (codes "clip") members)) (there-once (value_at (codes "clip") members)))
+    (λ value is. clip-one value (subst Fits is (fits members are names.Clip)))
+
 ids_and-one : (members : List Pair) → AreMembers 127 members → (name : MemberName) → IsOne (IdsAnd name members)
 ids_and-one members are name = then-one _ _ (ids-one members are) (λ ids is. then-one _ _ (text-one members are name) (λ text also. gives-one (ids, text)))
 
@@ -112,6 +117,10 @@ named-one members are asked.Frame = then-one _ _ (ids_and-one members are names.
 named-one members are asked.Unframe = then-one _ _ (ids-one members are) (λ ids is. gives-one _)
 named-one members are asked.Group = then-one _ _ (ids_and-one members are names.Group) (λ grouped is. gives-one _)
 named-one members are asked.Ungroup = then-one _ _ (ids_and-one members are names.Group) (λ grouped is. gives-one _)
+named-one members are asked.Duplicate = then-one _ _ (ids_and-one members are names.Prefix) (λ copied is. then-one _ _ (spot-one members are) (λ spot also. gives-one _))
+named-one members are asked.Paste =
+    then-one _ _ (clip_of-one members are) (λ clip is. then-one _ _ (text-one members are names.Prefix)
+    (λ prefix also. then-one _ _ (spot-one members are) (λ spot too. gives-one _)))
 
 command-one : (members : List Pair) → AreMembers 127 members → IsOne (CommandOf members)
 command-one members are = then-one _ _ (asked-one members) (λ name is. named-one members are name)
@@ -122,7 +131,7 @@ header-one members are =
     then-one _ _ (from-one 1 2 members names.Session) (λ version is.
     then-one _ _ (from-one 1 65 members names.Replicas) (λ replicas also.
     then-one _ _ (whole-one members names.Seed) (λ seed too.
-    then-one _ _ (scene-one (scene_reading.value_unless_null (codes "scene") members) (fits-value_unless_null (codes "scene") members are)) (λ scene last. gives-one _))))
+    then-one _ _ (scene-one (scene_reading.value_unless_null (codes "scene") members) (fits-given (codes "scene") members are)) (λ scene last. gives-one _))))
 
 command_in-one : (members : List Pair) → AreMembers 127 members → IsOne (CommandIn members)
 command_in-one members are =

@@ -1,10 +1,8 @@
 -- Bytes are one session, or have one first fault, and not both.
-use Rattle.std.proofs.Common.{◌≡◌, ◌≢◌, ◌⊎◌, inl, inr, ℕ, zero, suc, ◌+◌, ◌≤◌, ◌<◌, List, [], ◌∷◌, ◌++◌, Bool, true, false, Result, Ok, Err, length, drop, refl, sym, ap, ap₂, subst, ◌∙◌, arith, length-drop, length-append}
+use Rattle.std.proofs.Common.{◌≡◌, ◌⊎◌, inl, inr, ℕ, zero, suc, ◌+◌, ◌≤◌, ◌<◌, List, [], ◌∷◌, ◌++◌, true, false, Result, Ok, Err, length, drop, refl, sym, ap, ap₂, subst, ◌∙◌, arith, length-drop, length-append}
 use Rattle.std.proofs.lemmas.Bool.{cases_Bool, cases_lt, both_ways}
 use Rattle.json_text.specs.Characters.{is_blank}
 use Rattle.json_text.specs.Value.{IsCompact, Stands}
-use Rattle.json_reader.specs.Faults.{IsFirstFault}
-use Rattle.json_reader.specs.declared.fault.JsonFault.{JsonFault}
 use Rattle.json_text.proofs.CallerLemmas.{Value-compact, Stands-once}
 use Rattle.json_reader.proofs.CallerLemmas.{value-or-fault}
 use Rattle.json_reader.proofs.CallerLemmas as json

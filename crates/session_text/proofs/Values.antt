@@ -1,28 +1,27 @@
 -- Scenes and elements that stand in a session's text: each is read or has a first fault, and one of both alone.
-use Rattle.std.proofs.Common.{◌≡◌, ◌⊎◌, inl, inr, ℕ, List, [], Option, Some, None, Result, Ok, Err, append-nil, bytes_eq, cond, codes, Bool, true, false, if◌then◌else◌, refl, sym, ap, ap₂, subst, ◌∙◌, arith, lit≤}
+use Rattle.std.proofs.Common.{◌≡◌, ◌⊎◌, inl, inr, ℕ, List, [], Option, Some, None, Result, Ok, Err, append-nil, refl, sym, ap, ap₂, subst, ◌∙◌, arith}
 use Rattle.std.specs.List.{AllByRecursion}
-use Rattle.json_text.specs.Compact.{Member as Pair}
-use Rattle.json_text.specs.Parts.{AreMembers}
-use Rattle.json_text.specs.Tree.{null_word}
 use Rattle.json_text.specs.Value.{IsCompact, Stands}
-use Rattle.scene_json.specs.Named.{value_at}
 use Rattle.json_text.proofs.CallerLemmas.{Stands-once}
 use Rattle.elem.specs.ElementValue.{ElementValue}
-use Rattle.elem_read.specs.Elements.{AreRead, IsFirstFaulty}
 use Rattle.elem_read.specs.Reading.{IsSelection, IsElementIn, IsFaultIn}
 use Rattle.elem_read.specs.declared.fault.ElemFault.{ElemFault}
 use Rattle.elem_read.specs.declared.fault.ElemFault.TheVariants.{Kind}
-use Rattle.elem_read.proofs.CallerLemmas.{Fits, fits-in, read-exists, read-once, faulty-once, faultless, read-or-faulty, element-once, element-faultless, element-kept, fault-dropped}
+use Rattle.elem_read.proofs.CallerLemmas.{Fits, read-exists, read-once, faulty-once, faultless, read-or-faulty, element-once, element-faultless, element-kept, fault-dropped}
 use Rattle.elem_read.proofs.CallerLemmas as elements
-use Rattle.scene_file.specs.Reading.{value_unless_null, IsSceneOf, IsSceneFault, IsSceneAt, IsSceneFaultAt}
+use Rattle.scene_file.specs.Reading.{IsSceneOf, IsSceneFault, IsSceneAt, IsSceneFaultAt}
 use Rattle.scene_file.specs.declared.fault.SceneFault.{SceneFault}
 use Rattle.scene_file.specs.declared.fault.SceneFault.TheVariants as scenes
 use Rattle.scene_file.specs.declared.scene.Scene.{Scene as Board}
 use Rattle.scene_file.proofs.CallerLemmas.{scene-or-fault, scene-once, fault-once, fault-none, behind}
-use Rattle.session_text.specs.Commands.{IsDrawnAs}
+use Rattle.clips.specs.declared.clip.Clip.{Clip}
+use Rattle.clips.proofs.CallerLemmas.{clip-faultless, clip-once, clip-or-fault}
+use Rattle.clips.proofs.CallerLemmas as clips
+use Rattle.session_text.specs.Commands.{IsClipIn, IsDrawnAs}
 use Rattle.session_text.specs.Events.{SceneOf, AreDrawnAs}
 use Rattle.session_text.specs.declared.fault.TextFault.{TextFault}
 use Rattle.session_text.specs.declared.fault.TextFault.TheVariants.{Scene, Element}
+use Rattle.session_text.specs.declared.fault.TextFault.TheVariants as faults
 use Rattle.session_text.proofs.Readings.{IsOne}
 
 -- ---- a scene
@@ -72,13 +71,6 @@ pub scene-one : (found : Option (List ℕ)) → Fits found → IsOne (SceneOf fo
 scene-one None fits = record { some = (Ok None, refl); once = λ a b e f. e ∙ sym f }
 scene-one (Some value) fits = record { some = scene-told value fits; once = scene-alike value fits }
 
-pub fits-value_unless_null : (name : List ℕ) (members : List Pair) → AreMembers 127 members → Fits (value_unless_null name members)
-fits-value_unless_null name members are =
-    elim (value_at name members) as (λ (found : Option (List ℕ)). Fits found → Fits (elim found [ None ↦ None | Some value ↦ if bytes_eq value null_word then None else Some value ])) [
-      | None ↦ λ fits. tt
-      | Some value ↦ λ fits. elim (bytes_eq value null_word) as (λ (b : Bool). Fits (if b then None else Some value)) [ true ↦ tt | false ↦ fits ]
-    ] (fits-in 127 members (lit≤ tt) are name)
-
 -- ---- an element
 drawn-told : (value : List ℕ) → IsCompact 128 value → (answer : Result ElementValue TextFault) × IsDrawnAs value answer
 drawn-told value compact = elim (read-exists value compact) [
@@ -106,6 +98,23 @@ drawn-alike value (Err f) (Err g) (why, same, is) (other, same', also) =
 
 pub drawn-one : (value : List ℕ) → IsCompact 128 value → IsOne (IsDrawnAs value)
 drawn-one value compact = record { some = drawn-told value compact; once = drawn-alike value }
+
+-- ---- a clip
+clip-told : (value : List ℕ) → IsCompact 128 value → (answer : Result Clip TextFault) × IsClipIn value answer
+clip-told value compact = elim (clip-or-fault value compact) [
+  | inl (clip, is) ↦ (Ok clip, is)
+  | inr (why, is) ↦ (Err (faults.Clip why), (why, refl, is))
+]
+
+clip-alike : (value : List ℕ) (a b : Result Clip TextFault) → IsClipIn value a → IsClipIn value b → a ≡ b
+clip-alike value (Ok c) (Ok d) is also = ap (λ x. Ok x) (clip-once value c d is also)
+clip-alike value (Ok c) (Err f) is (why, same, also) = absurd (clip-faultless value c is why also)
+clip-alike value (Err f) (Ok d) (why, same, is) also = absurd (clip-faultless value d also why is)
+clip-alike value (Err f) (Err g) (why, same, is) (other, same', also) =
+    ap (λ h. Err h) (same ∙ (ap (λ w. faults.Clip w) (clips.fault-once value why other is also) ∙ sym same'))
+
+pub clip-one : (value : List ℕ) → IsCompact 128 value → IsOne (IsClipIn value)
+clip-one value compact = record { some = clip-told value compact; once = clip-alike value }
 
 -- ---- elements
 drawings-told : (values : List (List ℕ)) → AllByRecursion (IsCompact 127) values → (answer : Result (List ElementValue) TextFault) × AreDrawnAs values answer

@@ -1,5 +1,5 @@
 -- Things that are told by words.
-use Rattle.std.proofs.Common.{◌≡◌, ◌⊎◌, inl, inr, ℕ, List, [], ◌∷◌, Option, Some, None, bytes_eq, if◌then◌else◌, true, false, refl, sym, ap, ◌∙◌}
+use Rattle.std.proofs.Common.{◌≡◌, ◌⊎◌, inl, inr, ℕ, List, [], ◌∷◌, Option, Some, None, bytes_eq, if◌then◌else◌, refl, sym, ap, ◌∙◌}
 use Rattle.std.proofs.lemmas.Bool.{cases_Bool}
 use Rattle.json_text.proofs.CallerLemmas.{bytes_eq-true}
 use Rattle.json_text.specs.Characters.{quote}
@@ -63,7 +63,7 @@ sides-told sides.End = refl
 pub all_asked : List Asked
 all_asked =
     asked.Create ∷ asked.Set ∷ asked.Delete ∷ asked.Place ∷ asked.Bind ∷ asked.Unbind ∷ asked.Label ∷ asked.Unlabel ∷ asked.Frame
-    ∷ asked.Unframe ∷ asked.Group ∷ asked.Ungroup ∷ []
+    ∷ asked.Unframe ∷ asked.Group ∷ asked.Ungroup ∷ asked.Duplicate ∷ asked.Paste ∷ []
 
 pub asked-told : AreTold asked_text all_asked
 unfolding all_asked quote
@@ -79,6 +79,8 @@ asked-told asked.Frame = refl
 asked-told asked.Unframe = refl
 asked-told asked.Group = refl
 asked-told asked.Ungroup = refl
+asked-told asked.Duplicate = refl
+asked-told asked.Paste = refl
 
 pub all_happenings : List Happening
 all_happenings =

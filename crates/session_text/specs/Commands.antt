@@ -1,5 +1,5 @@
 -- The commands of a session: by its name a command has these members, in this order. This project's own.
-use Rattle.std.specs.Prelude.{◌≡◌, ◌⊎◌, ℕ, List, Option, Some, Result, Ok, Err, codes}
+use Rattle.std.specs.Prelude.{◌≡◌, ◌⊎◌, ℕ, List, Option, Some, Ok, Err, codes}
 use Rattle.json_text.specs.Characters.{quote}
 use Rattle.json_text.specs.Compact.{Member as Pair}
 use Rattle.elem.specs.ElementValue.{ElementValue}
@@ -7,6 +7,9 @@ use Rattle.elem.specs.Forms.{IsText}
 use Rattle.elem_read.specs.Reading.{IsElementIn, IsSelection, IsFaultIn}
 use Rattle.elem_read.specs.declared.fault.ElemFault.{ElemFault}
 use Rattle.elem_read.specs.declared.fault.ElemFault.TheVariants.{Kind}
+use Rattle.clips.specs.Clips.{IsClipOf, IsClipFault}
+use Rattle.clips.specs.declared.clip.Clip.{Clip}
+use Rattle.clips.specs.declared.fault.ClipFault.{ClipFault}
 use Rattle.board_commands.specs.declared.command.Command.{Command}
 use Rattle.board_commands.specs.declared.command.Command.TheVariants as commands
 use Rattle.board_commands.specs.declared.command.Side.{Side}
@@ -14,8 +17,8 @@ use Rattle.session_text.specs.Forms.{IsThere, IsShallow, AreIds, IsSide, IsSpot,
 use Rattle.session_text.specs.Reads.{Reading, MemberOf, Gives, Then}
 use Rattle.session_text.specs.declared.command.Asked.{Asked}
 use Rattle.session_text.specs.declared.command.Asked.TheVariants as asked
-use Rattle.session_text.specs.declared.fault.TextFault.{TextFault}
 use Rattle.session_text.specs.declared.fault.TextFault.TheVariants.{Element}
+use Rattle.session_text.specs.declared.fault.TextFault.TheVariants as faults
 use Rattle.session_text.specs.declared.name.MemberName.{MemberName}
 use Rattle.session_text.specs.declared.name.MemberName.TheVariants as names
 
@@ -33,6 +36,8 @@ asked_text asked.Frame = quote (codes "frame")
 asked_text asked.Unframe = quote (codes "unframe")
 asked_text asked.Group = quote (codes "group")
 asked_text asked.Ungroup = quote (codes "ungroup")
+asked_text asked.Duplicate = quote (codes "duplicate")
+asked_text asked.Paste = quote (codes "paste")
 
 abbrev pub IsAsked : Option (List ℕ) → Asked → Type 0
 IsAsked found name = found ≡ Some (asked_text name)
@@ -44,12 +49,20 @@ IsDrawnAs value (Err fault) =
     (why : ElemFault) × (fault ≡ Element 0 why)
     × (IsFaultIn value why ⊎ (IsSelection value × (why ≡ Kind)))
 
--- ---- members that several commands have
+-- The value is this clip.
+abbrev pub IsClipIn : List ℕ → Reading Clip
+IsClipIn value (Ok clip) = IsClipOf value clip
+IsClipIn value (Err fault) = (why : ClipFault) × (fault ≡ faults.Clip why) × IsClipFault value why
+
+-- ---- members of commands
 abbrev pub TextOf : MemberName → List Pair → Reading (List ℕ)
 TextOf name members answer = MemberOf name IsText members answer
 
 abbrev pub ElementOf : List Pair → Reading ElementValue
 ElementOf members answer = Then (MemberOf names.Element IsThere members) IsDrawnAs answer
+
+abbrev pub ClipOf : List Pair → Reading Clip
+ClipOf members answer = Then (MemberOf names.Clip IsThere members) IsClipIn answer
 
 abbrev pub IdsOf : List Pair → Reading (List (List ℕ))
 IdsOf members answer = MemberOf names.Ids AreIds members answer
@@ -92,6 +105,11 @@ CommandNamed members asked.Group answer =
     Then (IdsAnd names.Group members) (λ grouped. Gives (commands.Group grouped.0 grouped.1)) answer
 CommandNamed members asked.Ungroup answer =
     Then (IdsAnd names.Group members) (λ grouped. Gives (commands.Ungroup grouped.0 grouped.1)) answer
+CommandNamed members asked.Duplicate answer =
+    Then (IdsAnd names.Prefix members) (λ copied. Then (MemberOf names.Spot IsSpot members) (λ spot. Gives (commands.Duplicate copied.0 copied.1 spot))) answer
+CommandNamed members asked.Paste answer =
+    Then (ClipOf members) (λ clip. Then (TextOf names.Prefix members) (λ prefix.
+    Then (MemberOf names.Spot IsSpot members) (λ spot. Gives (commands.Paste clip.elements prefix spot)))) answer
 
 -- The members of a command say this command.
 abbrev pub CommandOf : List Pair → Reading Command

@@ -1,5 +1,5 @@
 -- The header and the events of a session: which members they have, in this order. This project's own.
-use Rattle.std.specs.Prelude.{◌≡◌, ℕ, List, Option, Some, None, Result, Ok, Err, codes}
+use Rattle.std.specs.Prelude.{◌≡◌, ℕ, List, Option, Some, None, Ok, Err, codes}
 use Rattle.json_text.specs.Characters.{quote}
 use Rattle.json_text.specs.Compact.{Member as Pair}
 use Rattle.elem.specs.ElementValue.{ElementValue}
@@ -15,7 +15,6 @@ use Rattle.session_text.specs.Forms.{IsFrom, IsArray, HasObject, IsCapture, HasP
 use Rattle.session_text.specs.Reads.{Reading, MemberOf, Gives, Then, ObjectOf}
 use Rattle.session_text.specs.declared.event.Event.{Event}
 use Rattle.session_text.specs.declared.event.Event.TheVariants as events
-use Rattle.session_text.specs.declared.fault.TextFault.{TextFault}
 use Rattle.session_text.specs.declared.fault.TextFault.TheVariants.{Scene, Element}
 use Rattle.session_text.specs.declared.happening.Happening.{Happening}
 use Rattle.session_text.specs.declared.happening.Happening.TheVariants as happenings

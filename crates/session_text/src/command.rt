@@ -1,7 +1,7 @@
 //! The commands of a session.
 
 ghost use Rattle.json_text.specs.Members.{pairs};
-ghost use Rattle.session_text.specs.Commands.{IsAsked, IsDrawnAs, ElementOf, IdsAnd, EndOf, CommandNamed, CommandOf};
+ghost use Rattle.session_text.specs.Commands.{IsAsked, IsClipIn, IsDrawnAs, ClipOf, ElementOf, IdsAnd, EndOf, CommandNamed, CommandOf};
 ghost use Rattle.session_text.specs.Reads.{MemberOf, IsReadResult};
 ghost use Rattle.session_text.specs.declared.command.Asked.TheVariants as asks;
 ghost use Rattle.session_text.specs.declared.name.MemberName.TheVariants as names;
@@ -11,6 +11,7 @@ use crate::fields::{ids, rest, shallow, side, spot, text, value};
 use crate::name::MemberName;
 use board_base::{List, Stop};
 use board_commands::{Command, Side};
+use clips::{Clip, read_clip};
 use elem::Element;
 use elem_read::{ElemFault, read_element};
 use json_text::{Member, Raw, Text};
@@ -32,6 +33,8 @@ pub(crate) enum Asked {
     Unframe,
     Group,
     Ungroup,
+    Duplicate,
+    Paste,
 }
 
 /// The command that these members are.
@@ -71,6 +74,10 @@ fn which(members: &List<Member>) -> Result<Asked, Stop<TextFault>>
         Ok(Asked::Group)
     } else if has_value(members, "name", "\"ungroup\"") {
         Ok(Asked::Ungroup)
+    } else if has_value(members, "name", "\"duplicate\"") {
+        Ok(Asked::Duplicate)
+    } else if has_value(members, "name", "\"paste\"") {
+        Ok(Asked::Paste)
     } else {
         Err(Stop::Fault(TextFault::Member(MemberName::Name)))
     }
@@ -118,6 +125,8 @@ fn command_named(
             let (ids, group) = ids_and(alloc, members, MemberName::Group)?;
             Ok(Command::Ungroup { ids, group })
         }
+        Asked::Duplicate => duplicate(alloc, members),
+        Asked::Paste => paste(alloc, members),
     }
 }
 
@@ -173,6 +182,29 @@ fn label(alloc: Global, members: &List<Member>) -> Result<Command, Stop<TextFaul
     Ok(Command::Label { container, text })
 }
 
+/// Elements of the board are copied.
+fn duplicate(alloc: Global, members: &List<Member>) -> Result<Command, Stop<TextFault>>
+    ensures { IsReadResult (CommandNamed (pairs members.now) asks.Duplicate) result }
+{
+    let (ids, prefix) = ids_and(alloc, members, MemberName::Prefix)?;
+    let spot = spot(alloc, members)?;
+    Ok(Command::Duplicate { ids, prefix, spot })
+}
+
+/// The elements of a clip are copied; its files are not used.
+fn paste(alloc: Global, members: &List<Member>) -> Result<Command, Stop<TextFault>>
+    ensures { IsReadResult (CommandNamed (pairs members.now) asks.Paste) result }
+{
+    let clip = clip(alloc, members)?;
+    let prefix = text(alloc, members, MemberName::Prefix)?;
+    let spot = spot(alloc, members)?;
+    Ok(Command::Paste {
+        elements: clip.elements,
+        prefix,
+        spot,
+    })
+}
+
 /// An arrow, and an end of it.
 fn end_of(alloc: Global, members: &List<Member>) -> Result<(Text, Side), Stop<TextFault>>
     ensures { IsReadResult (EndOf (pairs members.now)) result }
@@ -211,6 +243,25 @@ fn drawn(alloc: Global, value: &Raw) -> Result<Element, Stop<TextFault>>
         Ok(Some(element)) => Ok(element),
         Ok(None) => Err(Stop::Fault(TextFault::Element(0, ElemFault::Kind))),
         Err(Stop::Fault(fault)) => Err(Stop::Fault(TextFault::Element(0, fault))),
+        Err(Stop::Memory) => Err(Stop::Memory),
+    }
+}
+
+/// The clip whose elements are copied.
+fn clip(alloc: Global, members: &List<Member>) -> Result<Clip, Stop<TextFault>>
+    ensures { IsReadResult (ClipOf (pairs members.now)) result }
+{
+    let value = value(members, MemberName::Clip)?;
+    clip_in(alloc, &value)
+}
+
+/// The clip that the value is.
+fn clip_in(alloc: Global, value: &Raw) -> Result<Clip, Stop<TextFault>>
+    ensures { IsReadResult (IsClipIn value.now) result }
+{
+    match read_clip(alloc, value) {
+        Ok(clip) => Ok(clip),
+        Err(Stop::Fault(fault)) => Err(Stop::Fault(TextFault::Clip(fault))),
         Err(Stop::Memory) => Err(Stop::Memory),
     }
 }

@@ -1,6 +1,7 @@
 //! Why texts are no session.
 
 use crate::name::MemberName;
+use clips::ClipFault;
 use elem_read::ElemFault;
 use json_reader::JsonFault;
 use scene_file::SceneFault;
@@ -18,6 +19,8 @@ pub enum TextFault {
     Scene(SceneFault),
     /// The element at this place, counted from 0, is the first with a fault, and has this one.
     Element(u64, ElemFault),
+    /// The clip has this fault.
+    Clip(ClipFault),
 }
 
 /// Why texts are no session.

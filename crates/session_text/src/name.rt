@@ -29,6 +29,8 @@ pub enum MemberName {
     Text,
     Frame,
     Group,
+    Prefix,
+    Clip,
 }
 
 impl MemberName {
@@ -66,6 +68,8 @@ impl MemberName {
             MemberName::Text => "text",
             MemberName::Frame => "frame",
             MemberName::Group => "group",
+            MemberName::Prefix => "prefix",
+            MemberName::Clip => "clip",
         }
     }
 }

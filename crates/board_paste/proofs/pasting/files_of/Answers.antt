@@ -4,7 +4,7 @@ use Rattle.json_text.specs.Value.{IsCompact}
 use Rattle.json_text.specs.declared.text.Member.{Member}
 use Rattle.file_table.specs.Table.{AreLeastEntries}
 use Rattle.file_table.proofs.CallerLemmas.{AreLeastEntries-none}
-use Rattle.board_paste.proofs.ClipFiles.{nests-at, table-more}
+use Rattle.board_paste.proofs.FileTable.{nests-at, table-more}
 use Rattle.board_paste.proofs.pasting.files_of.Goals as goal
 
 pub loop-file-init : goal.loop-file-init

@@ -3,7 +3,7 @@ use Rattle.frac_keys.specs.Between.{keys_between}
 use Rattle.index_repair.specs.Keyed.{keyed}
 use Rattle.elem_store.specs.Updates.{AreStored}
 use Rattle.view.specs.Shown.{live_elements, shown}
-use Rattle.board_paste.specs.Copies.{copies_of}
+use Rattle.copies.specs.Copies.{copies_of}
 use Rattle.board_paste.specs.Pasting.{last_key, pasted}
 use Rattle.board_paste.proofs.pasting.paste.Goals as goal
 

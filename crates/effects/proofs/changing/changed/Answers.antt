@@ -1,11 +1,18 @@
-use Rattle.std.proofs.Common.{◌≡◌, Some, Err, ◌∙◌, find, rules}
-use Rattle.std.specs.Option.{option_map}
+use Rattle.std.proofs.Common.{◌≡◌, Some, Err, ap, ◌∙◌, find, rules}
+use Rattle.std.specs.Option.{option_map, option_or}
+use Rattle.elem.specs.ElementValue.{ElementValue}
+use Rattle.effects.specs.declared.effect.Effect.{Effect}
 use Rattle.effects.specs.Changed.{OnFault, outcome, is_full, refusal_at}
 use Rattle.effects.specs.Prepared.{made_by}
 use Rattle.effects.specs.Refusals.{refusal_of, existing, missing, misfit, guarded}
-use Rattle.effects.proofs.ChangedLaws.{outcome-refused, outcome-full, outcome-ok, guarded-none}
+use Rattle.effects.proofs.ChangedLaws.{changes-rise, created-distinct, new-apart, outcome-refused, outcome-full, outcome-ok, guarded-none}
 use Rattle.effects.proofs.FirstLaws.{OnFault-weaker}
+use Rattle.effects.proofs.KeepingLaws.{Self, made_by-keeps}
+use Rattle.effects.proofs.OutcomeLaws.{or-none}
 use Rattle.effects.proofs.changing.changed.Goals as goal
+
+made_by-id : (effect : Effect) (e : ElementValue) → (made_by effect e).id ≡ e.id
+made_by-id effect e = ap (λ (s : Self). s.id) (made_by-keeps effect e)
 
 pub returns-in_err-check-clause-refused : goal.returns-in_err-check-clause-refused
 returns-in_err-check-clause-refused c =
@@ -38,8 +45,27 @@ returns-in_err-changed-clause-refused c =
     (λ refusal. outcome-full stored view command c.args.time c.args.nonce effect refusal c.in_ok-check.ensures.ok c.in_ok-effect.ensures) c.in_err-changed.ensures.full in
     search (rules, told)
 
+pub with_created-requires-clause-rise : goal.with_created-requires-clause-rise
+with_created-requires-clause-rise c =
+    let makes = made_by c.in_ok-effect.effect in
+    rw c.in_ok-changed.ensures.changed
+    (changes-rise c.args.store.now.elements c.args.shown.now c.args.command.now c.args.time c.args.nonce makes (made_by-id c.in_ok-effect.effect) c.requires.stored)
+
+pub with_created-requires-clause-distinct : goal.with_created-requires-clause-distinct
+with_created-requires-clause-distinct c = rw c.in_ok-new.ensures
+    (created-distinct c.args.shown.now c.args.command.now c.args.time c.args.nonce c.requires.limits c.requires.shown)
+
+pub with_created-requires-clause-apart : goal.with_created-requires-clause-apart
+with_created-requires-clause-apart c =
+    let stored = c.args.store.now.elements in
+    let view = c.args.shown.now in
+    let command = c.args.command.now in
+    let free = (or-none (existing stored command) (option_or (missing stored command) (option_or (misfit stored view command) (guarded command))) c.in_ok-check.ensures.ok).0 in
+    rw (c.in_ok-new.ensures, c.in_ok-changed.ensures.changed)
+    (new-apart stored view command c.args.time c.args.nonce (made_by c.in_ok-effect.effect) (made_by-id c.in_ok-effect.effect) free)
+
 pub returns-clause-exact : goal.returns-clause-exact
 returns-clause-exact c =
     outcome-ok c.args.store.now.elements c.args.shown.now c.args.command.now c.args.time c.args.nonce c.in_ok-effect.effect c.in_ok-new.new c.in_ok-changed.changed.items c.from_vec.result
     c.in_ok-check.ensures.ok c.in_ok-effect.ensures c.in_ok-changed.ensures.none_full c.in_ok-changed.ensures.changed c.in_ok-new.ensures
-    (c.from_vec.ensures ∙ c.in_ok-add_created.ensures)
+    (c.from_vec.ensures ∙ c.in_ok-all.ensures)

@@ -1,6 +1,6 @@
 -- Each command has its own effect.
 use Rattle.board_commands.specs.declared.command.Command.TheVariants as commands
-use Rattle.effects.proofs.PreparingLaws.{for-stored, for-view, for-all}
+use Rattle.effects.proofs.PreparingLaws.{for-stored, for-view, for-all, from-parts}
 use Rattle.effects.proofs.preparing.prepared.Goals as goal
 
 pub returns-in-Create : goal.returns-in-Create
@@ -50,3 +50,13 @@ returns-in-Group c =
 pub returns-in-Ungroup : goal.returns-in-Ungroup
 returns-in-Ungroup c =
     for-all c.ungroup.result c.args.store.now.elements c.args.shown.now (commands.Ungroup c.in-Ungroup.ids c.in-Ungroup.group) c.args.command.now c.in-Ungroup.is c.ungroup.ensures
+
+pub returns-in_ok-originals-in-Duplicate : goal.returns-in_ok-originals-in-Duplicate
+returns-in_ok-originals-in-Duplicate c =
+    from-parts c.settle_for.result c.args.store.now.elements c.args.shown.now _ c.args.command.now c.in-Duplicate.is
+    (rw c.in_ok-originals-in-Duplicate.ensures at c.settle_for.ensures.exact) c.settle_for.ensures.sound
+
+pub returns-in-Paste : goal.returns-in-Paste
+returns-in-Paste c =
+    from-parts c.settle_for-in-Paste.result c.args.store.now.elements c.args.shown.now _ c.args.command.now c.in-Paste.is
+    c.settle_for-in-Paste.ensures.exact c.settle_for-in-Paste.ensures.sound

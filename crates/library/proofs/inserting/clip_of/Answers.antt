@@ -1,5 +1,5 @@
 use Rattle.std.proofs.Common.{◌≡◌, ◌++◌, [], ◌∷◌, true, false, not, take, take_all, sym, ap, ◌∙◌}
-use Rattle.board_paste.specs.Placed.{elements_in, places_in}
+use Rattle.clips.specs.Placed.{elements_in, places_in}
 use Rattle.library.specs.Inserting.{live_of}
 use Rattle.library.proofs.ClipParts.{live-dropped, live-kept}
 use Rattle.library.proofs.inserting.clip_of.Goals as goal

@@ -1,6 +1,6 @@
 -- those of the elements so far that aren't deleted, and their places
 use Rattle.std.proofs.Common.{◌≡◌, take}
-use Rattle.board_paste.specs.Placed.{elements_in, places_in}
+use Rattle.clips.specs.Placed.{elements_in, places_in}
 use Rattle.library.specs.Inserting.{live_of}
 use Rattle.library.proofs.inserting.clip_of.Given as goal
 

@@ -1,7 +1,7 @@
 use Rattle.std.proofs.Common.{◌++◌, ap, subst, ◌∙◌}
 use Rattle.elem_store.specs.Updates.{AreStored}
 use Rattle.board_paste.specs.Pasting.{pasted}
-use Rattle.board_paste.specs.declared.clip.Clip.{Clip}
+use Rattle.clips.specs.declared.clip.Clip.{Clip}
 use Rattle.library.specs.Inserting.{clip_with}
 use Rattle.library.proofs.inserting.insert_item.Goals as goal
 

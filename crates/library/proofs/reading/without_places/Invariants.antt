@@ -1,6 +1,6 @@
 -- those so far are without their places
 use Rattle.std.proofs.Common.{◌≡◌, ◌++◌}
-use Rattle.board_paste.specs.Placed.{elements_in}
+use Rattle.clips.specs.Placed.{elements_in}
 use Rattle.library.proofs.reading.without_places.Given as goal
 
 abbrev pub invariant-loop-p : goal.invariant-loop-p

@@ -6,9 +6,9 @@ use Rattle.scene_json.specs.Named.{value_at}
 use Rattle.session_text.proofs.Lacking.{no-asked}
 use Rattle.session_text.proofs.command.which.Goals as goal
 
-pub returns-else-has_value-12 : goal.returns-else-has_value-12
+pub returns-else-has_value-14 : goal.returns-else-has_value-14
 unfolding quote
-returns-else-has_value-12 c = record {
+returns-else-has_value-14 c = record {
   read = (
     no-asked (value_at (codes "name") (pairs c.args.members.now))
         (λ is. both_ways _ c.if-has_value.false (c.has_value.ensures.1 is))
@@ -22,7 +22,9 @@ returns-else-has_value-12 c = record {
         (λ is. both_ways _ c.if-has_value-9.false (c.has_value-else-has_value-8.ensures.1 is))
         (λ is. both_ways _ c.if-has_value-10.false (c.has_value-else-has_value-9.ensures.1 is))
         (λ is. both_ways _ c.if-has_value-11.false (c.has_value-else-has_value-10.ensures.1 is))
-        (λ is. both_ways _ c.if-has_value-12.false (c.has_value-else-has_value-11.ensures.1 is)),
+        (λ is. both_ways _ c.if-has_value-12.false (c.has_value-else-has_value-11.ensures.1 is))
+        (λ is. both_ways _ c.if-has_value-13.false (c.has_value-else-has_value-12.ensures.1 is))
+        (λ is. both_ways _ c.if-has_value-14.false (c.has_value-else-has_value-13.ensures.1 is)),
     refl,
   );
 }

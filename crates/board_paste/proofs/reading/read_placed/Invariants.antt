@@ -1,6 +1,0 @@
-use Rattle.std.proofs.Common.{take}
-use Rattle.board_paste.specs.Placed.{AreReadFrom}
-use Rattle.board_paste.proofs.reading.read_placed.Given as goal
-
-abbrev pub invariant-loop-place : goal.invariant-loop-place
-invariant-loop-place l = AreReadFrom 0 (take l.place l.values) l.placed.items

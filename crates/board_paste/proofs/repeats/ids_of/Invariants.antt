@@ -1,8 +1,0 @@
-use Rattle.std.proofs.Common.{◌≡◌, ℕ, List, take, nat_cmp}
-use Rattle.std.specs.BTreeSet.{contains}
-use Rattle.std.specs.Cmp.Lexicographic.{slice_cmp}
-use Rattle.board_paste.specs.Copies.{is_among}
-use Rattle.board_paste.proofs.repeats.ids_of.Given as goal
-
-abbrev pub invariant-loop-e : goal.invariant-loop-e
-invariant-loop-e l = (id : List ℕ) → contains (slice_cmp nat_cmp) l.ids id ≡ is_among (take l.e-index l.list) id

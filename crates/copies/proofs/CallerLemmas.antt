@@ -1,0 +1,4 @@
+-- The lemmas that crates above cite; nothing else of this folder is cited there.
+pub use Rattle.copies.proofs.CopyKept.{all-copied, copies-elements, copies-length, element-copied, texts-copied}
+pub use Rattle.copies.proofs.CopyNames.{copies-distinct, copied, copy-id, copy-named, original}
+pub use Rattle.copies.proofs.Lists.{Contains-map, map-Contains}

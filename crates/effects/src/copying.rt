@@ -1,0 +1,107 @@
+//! The copies that a command makes.
+
+ghost use Rattle.std.specs.Prelude.{◌≡◌, ◌≤◌, map, IfOk};
+ghost use Rattle.std.specs.BTreeSet.{contains};
+ghost use Rattle.std.specs.Cmp.Lexicographic.{slice_cmp};
+ghost use Rattle.std.specs.Ordering.{nat_cmp};
+ghost use Rattle.elem.specs.Facts.{greatest_whole};
+ghost use Rattle.index_repair.specs.Keyed.{HaveRisingKeys};
+ghost use Rattle.effects.specs.Copying as copying;
+
+use crate::placing::gap_at;
+use crate::preparing::set_of;
+use board_base::List;
+use board_commands::Spot;
+use copies::{copies, keyed_between};
+use elem::Element;
+use json_text::Text;
+use std::alloc::{AllocError, Global};
+use std::collections::BTreeSet;
+
+/// The shown elements of these ids, in the order of the scene.
+pub(crate) fn shown_among(
+    alloc: Global,
+    ids: &List<Text>,
+    shown: &[Element],
+) -> Result<List<Element>, AllocError>
+    ensures { IfOk result (λ list. list ≡ copying.shown_among ids.now shown.now) }
+{
+    let ids = set_of(alloc, ids)?;
+    let mut list = Vec::new(alloc);
+    for e in shown {
+        if has_id_among(&ids, e) {
+            list.push(e.try_clone()?)?;
+        }
+    }
+    Ok(List::from_vec(list))
+}
+
+/// Whether the id of an element is one of these.
+fn has_id_among(ids: &BTreeSet<Text>, e: &Element) -> bool
+    ensures { result ≡ contains (slice_cmp nat_cmp) ids.now e.now.id }
+{
+    ids.contains(&e.id)
+}
+
+/// The elements whose keys are settled where these are copied.
+pub(crate) fn settled_for<'a>(originals: &List<Element>, shown: &'a [Element]) -> &'a [Element]
+    ensures { result.now ≡ copying.settled_for originals.now shown.now }
+{
+    if originals.as_slice().is_empty() {
+        return &[];
+    }
+    shown
+}
+
+/// The copies of elements under a prefix, one above the other at a spot, as new ones.
+pub(crate) fn copies_at(
+    alloc: Global,
+    shown: &[Element],
+    originals: &List<Element>,
+    prefix: &Text,
+    spot: &Spot,
+    time: u64,
+    nonce: u64,
+) -> Result<List<Element>, AllocError>
+    requires time { time ≤ greatest_whole }
+    requires nonce { nonce ≤ greatest_whole }
+    requires keys { HaveRisingKeys shown.now }
+    ensures { IfOk result
+        (λ new. new ≡ copying.copies_at shown.now originals.now prefix.now spot.now time nonce) }
+{
+    let gap = gap_at(shown, spot, None);
+    let copies = copies(alloc, originals.as_slice(), prefix)?;
+    let copies = keyed_between(alloc, copies, gap.low, gap.high)?;
+    all_as_new(alloc, copies, time, nonce)
+}
+
+/// The elements as new ones.
+fn all_as_new(
+    alloc: Global,
+    elements: List<Element>,
+    time: u64,
+    nonce: u64,
+) -> Result<List<Element>, AllocError>
+    requires time { time ≤ greatest_whole }
+    requires nonce { nonce ≤ greatest_whole }
+    ensures { IfOk result (λ new. new ≡ map (copying.as_new time nonce) elements) }
+{
+    let mut new = Vec::with_capacity(alloc, elements.as_slice().len())?;
+    for e in elements.into_vec() {
+        new.push(as_new(e, time, nonce))?;
+    }
+    Ok(List::from_vec(new))
+}
+
+/// The element as a new one: live and at the first version, with the stamp of a change.
+pub(crate) fn as_new(mut e: Element, time: u64, nonce: u64) -> Element
+    requires time { time ≤ greatest_whole }
+    requires nonce { nonce ≤ greatest_whole }
+    ensures { result ≡ copying.as_new time nonce e }
+{
+    e.version = 1;
+    e.nonce = nonce;
+    e.updated = time;
+    e.deleted = false;
+    e
+}
