@@ -10,7 +10,8 @@ pub fn change_each<A, B: Drop, F: Fn(&mut A, B)>(items: &mut Vec<A>, values: Vec
 
     // Whatever `change` makes of an item by a value.
     ensures { (made : A → B → A)
-        → ((before : _) (value : B) (after : _) → F.post change before value tt after → after.now ≡ made before.now value)
+        → ((before : _) (value : B) (after : _) → F.post change before value tt after
+        → after.now ≡ made before.now value)
         → items.new.items ≡ map (λ p. made p.0 p.1) (zip items.old.items values.items) }
 {
     let mut values = values.into_iter();

@@ -7,18 +7,18 @@ pub record SourceEnd : Type 0 where
   pub left : Option (List ℕ)
   pub faults : ℕ
 
--- What is seen of a sink: the bytes that it took, where told; so many first ones of them that no stop takes away, told by
--- journals alone; and how many of its calls failed. A stop leaves a first part of the bytes, with all that are safe. This
--- project's own.
+-- What is seen of a sink: the bytes that it took, where told; so many first ones of them that no stop takes away, told
+-- by journals alone; and how many of its calls failed. A stop leaves a first part of the bytes, with all that are safe.
+-- This project's own.
 pub record SinkEnd : Type 0 where
   pub held : Option (List ℕ)
   pub safe : Option ℕ
   pub faults : ℕ
 
--- What is seen of links: the port of the last call of `listen` that answered Ok, and none before that; how many calls of `listen`
--- there were; the events that `next` gave, and the pairs of link and text that were sent, where told; for each send whose link
--- was gone the number of texts sent before it, and the link, where told; how many calls of `listen` and `next` failed; and how
--- many sends found their link gone. This project's own.
+-- What is seen of links: the port of the last call of `listen` that answered Ok, and none before that; how many calls
+-- of `listen` there were; the events that `next` gave, and the pairs of link and text that were sent, where told; for
+-- each send whose link was gone the number of texts sent before it, and the link, where told; how many calls of
+-- `listen` and `next` failed; and how many sends found their link gone. This project's own.
 pub record LinksEnd : Type 0 where
   pub port : Option ℕ
   pub listens : ℕ

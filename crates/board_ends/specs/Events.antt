@@ -30,6 +30,7 @@ OpensFrom count (event ∷ events) = OpensAt count event × OpensFrom (count + o
 abbrev pub with_last : {X : Type 0} → Option (List X) → X → Option (List X)
 with_last items item = option_map (λ told. told ++ item ∷ []) items
 
--- A send that found its link gone: the number of texts sent before, and the link, at the end of the lost ones, where both are told.
+-- A send that found its link gone: the number of texts sent before, and the link, at the end of the lost ones, where
+-- both are told.
 abbrev pub with_lost : Option (List (ℕ × List ℕ)) → Option (List (ℕ × ℕ)) → ℕ → Option (List (ℕ × ℕ))
 with_lost sent lost link = option_and_then (λ texts. with_last lost (length texts, link)) sent

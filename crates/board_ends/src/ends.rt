@@ -26,8 +26,8 @@ pub trait Source {
 
 /// A sink of bytes.
 pub trait Sink {
-    // The bytes that it took, where told, how many of them no stop takes away, where told, and how many calls failed. Neither
-    // number ever falls.
+    // The bytes that it took, where told, how many of them no stop takes away, where told, and how many calls failed.
+    // Neither number ever falls.
     ghost seen: { Self → SinkEnd };
 
     /// Takes a first part of the piece, and says how many bytes it has: at least one where the piece has one.
@@ -45,8 +45,8 @@ pub trait Sink {
 
 /// A sink whose bytes can be made safe: a stop takes none of them away.
 pub trait Journal: Sink {
-    /// Makes all bytes safe that were taken. `Failed` comes only where the count of faults rose; what was safe stays safe then,
-    /// and what is held is as before in any case.
+    /// Makes all bytes safe that were taken. `Failed` comes only where the count of faults rose; what was safe stays
+    /// safe then, and what is held is as before in any case.
     fn sync(&mut self) -> Result<(), Failed>
         ensures ok { OnOk result (IsSynced (Self.seen self.new)) }
         ensures failed { OnErr result (Rose (Self.seen self.old).faults (Self.seen self.new).faults) }

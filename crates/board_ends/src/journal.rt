@@ -33,8 +33,8 @@ impl Model for MemJournal {
 }
 
 impl MemJournal {
-    /// A journal over this sink, of whose bytes none is safe yet. The syncs with these numbers, from 0, fail. It takes no
-    /// memory.
+    /// A journal over this sink, of whose bytes none is safe yet. The syncs with these numbers, from 0, fail. It takes
+    /// no memory.
     pub fn new(sink: MemSink, fails: List<u64>) -> MemJournal
         ensures { result ≡ record { sink = sink; safe = 0; syncs = from_first fails } }
     {

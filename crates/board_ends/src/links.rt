@@ -63,8 +63,8 @@ pub trait Links {
     ghost use Rattle.board_ends.specs.Events.{OpensAt, opened_count, with_last, with_lost};
     ghost use Rattle.board_ends.specs.declared.links.LinkEvent.{LinkEvent};
 
-    // The port that is listened on, what the links gave, sent and lost, where told, and counts of calls, faults and links
-    // gone, which never fall.
+    // The port that is listened on, what the links gave, sent and lost, where told, and counts of calls, faults and
+    // links gone, which never fall.
     ghost seen: { Self → LinksEnd };
 
     /// Listens on this port of the loopback. `Failed` comes only where the count of faults rose.
@@ -83,7 +83,8 @@ pub trait Links {
     fn next(&mut self) -> Result<LinkEvent, LinkError>
         requires { IsSome (seen self.old).port }
         ensures ok { IfOk result (λ event. (seen self.new).given ≡ with_last (seen self.old).given event) }
-        ensures numbered { IfOk result (λ event. IfSome (seen self.old).given (λ events. OpensAt (opened_count events) event)) }
+        ensures numbered { IfOk result (λ event. IfSome (seen self.old).given
+            (λ events. OpensAt (opened_count events) event)) }
         ensures err { OnErr result ((seen self.new).given ≡ (seen self.old).given) }
         ensures failed { result ≡ Err LinkError.Failed → Rose (seen self.old).faults (seen self.new).faults }
         ensures port { (seen self.new).port ≡ (seen self.old).port }

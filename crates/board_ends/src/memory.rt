@@ -34,8 +34,8 @@ impl Model for MemSource {
 }
 
 impl MemSource {
-    /// A source of these bytes, which gives at most `chunk` of them at once. The reads with these numbers, from 0, fail.
-    /// It takes no memory.
+    /// A source of these bytes, which gives at most `chunk` of them at once. The reads with these numbers, from 0,
+    /// fail. It takes no memory.
     pub fn new(bytes: Bytes, chunk: usize, fails: List<u64>) -> MemSource
         requires { 1 ≤ chunk }
         ensures { result ≡ record { left = bytes; chunk = chunk; reads = from_first fails; faults = 0 } }
@@ -111,7 +111,13 @@ impl Model for MemSink {
 
     ghost Value = { MemSinkState };
 
-    ghost view = { λ s. record { held = s.held.items; chunk = s.chunk; room = s.room; writes = s.writes; faults = s.faults } };
+    ghost view = { λ s. record {
+      held = s.held.items;
+      chunk = s.chunk;
+      room = s.room;
+      writes = s.writes;
+      faults = s.faults;
+    } };
 
     ghost invariant = { λ s. (vec_len s.held ≤ s.room) × (s.room ≤ vec_capacity s.held) × (1 ≤ s.chunk) };
 }
@@ -126,7 +132,8 @@ impl MemSink {
         fails: List<u64>,
     ) -> Result<MemSink, AllocError>
         requires { 1 ≤ chunk }
-        ensures { IfOk result (λ sink. sink ≡ record { held = []; chunk = chunk; room = room; writes = from_first fails; faults = 0 }) }
+        ensures { IfOk result (λ sink. sink
+            ≡ record { held = []; chunk = chunk; room = room; writes = from_first fails; faults = 0 }) }
     {
         Ok(MemSink {
             held: Vec::with_capacity(alloc, room)?,

@@ -10,12 +10,13 @@ use crate::whole::write_all;
 use board_base::Piece;
 use itoa::Buffer;
 
-/// Writes the pieces one after the other. `Failed` comes only where the sink's count of faults rose; a first part of the line
-/// is out then. It takes no memory.
+/// Writes the pieces one after the other. `Failed` comes only where the sink's count of faults rose; a first part of
+/// the line is out then. It takes no memory.
 pub fn write_pieces<K: Sink>(sink: &mut K, pieces: &[Piece]) -> Result<(), Failed>
     ensures ok { OnOk result (Took (K.seen sink.old) (K.seen sink.new) (line_text pieces.now)) }
     ensures failed { OnErr result (Rose (K.seen sink.old).faults (K.seen sink.new).faults) }
-    ensures part { OnErr result ((n : ℕ) × (n ≤ length (line_text pieces.now)) × Took (K.seen sink.old) (K.seen sink.new) (take n (line_text pieces.now))) }
+    ensures part { OnErr result ((n : ℕ) × (n ≤ length (line_text pieces.now))
+        × Took (K.seen sink.old) (K.seen sink.new) (take n (line_text pieces.now))) }
     ensures safe { KeepsSafe (K.seen sink.old) (K.seen sink.new) }
     ensures safe_held { IsSafeHeld (K.seen sink.old) → IsSafeHeld (K.seen sink.new) }
     ensures counted { (K.seen sink.old).faults ≤ (K.seen sink.new).faults }
@@ -30,7 +31,8 @@ pub fn write_pieces<K: Sink>(sink: &mut K, pieces: &[Piece]) -> Result<(), Faile
 fn write_piece<K: Sink>(sink: &mut K, piece: Piece) -> Result<(), Failed>
     ensures ok { OnOk result (Took (K.seen sink.old) (K.seen sink.new) (piece_text piece)) }
     ensures failed { OnErr result (Rose (K.seen sink.old).faults (K.seen sink.new).faults) }
-    ensures part { OnErr result ((n : ℕ) × (n ≤ length (piece_text piece)) × Took (K.seen sink.old) (K.seen sink.new) (take n (piece_text piece))) }
+    ensures part { OnErr result ((n : ℕ) × (n ≤ length (piece_text piece))
+        × Took (K.seen sink.old) (K.seen sink.new) (take n (piece_text piece))) }
     ensures safe { KeepsSafe (K.seen sink.old) (K.seen sink.new) }
     ensures safe_held { IsSafeHeld (K.seen sink.old) → IsSafeHeld (K.seen sink.new) }
     ensures counted { (K.seen sink.old).faults ≤ (K.seen sink.new).faults }

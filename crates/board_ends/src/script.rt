@@ -28,9 +28,14 @@ impl Model for Script {
 
     ghost Value = { ScriptState };
 
-    ghost view = { λ s. record { coming = drop s.given s.events; given = take s.given s.events ++ replicate s.idles Idle } };
+    ghost view = { λ s. record {
+      coming = drop s.given s.events;
+      given = take s.given s.events
+          ++ replicate s.idles Idle;
+    } };
 
-    ghost invariant = { λ s. (s.given ≤ length s.events) × (s.given < length s.events → s.idles ≡ 0) × OpensFrom 0 s.events };
+    ghost invariant = { λ s. (s.given ≤ length s.events) × (s.given < length s.events → s.idles ≡ 0)
+        × OpensFrom 0 s.events };
 }
 
 impl Script {
@@ -211,7 +216,8 @@ impl Links for ScriptLinks {
         ensures after_memory { result ≡ Err LinkError.Memory → self.new ≡ self.old }
 
         ensures ok { IfOk result (λ event. Some self.new.script.given ≡ with_last (Some self.old.script.given) event) }
-        ensures numbered { IfOk result (λ event. IfSome (Some self.old.script.given) (λ events. OpensAt (opened_count events) event)) }
+        ensures numbered { IfOk result (λ event. IfSome (Some self.old.script.given)
+            (λ events. OpensAt (opened_count events) event)) }
         ensures err { OnErr result (Some self.new.script.given ≡ Some self.old.script.given) }
         ensures failed { result ≡ Err LinkError.Failed → Rose self.old.faults self.new.faults }
         ensures port { self.new.port ≡ self.old.port }
@@ -252,7 +258,8 @@ impl Links for ScriptLinks {
         ensures ok { OnOk result (Some self.new.sent ≡ with_last (Some self.old.sent) (link, text.now)) }
         ensures err { OnErr result (Some self.new.sent ≡ Some self.old.sent) }
         ensures gone { result ≡ Err SendError.Gone → Rose self.old.gone self.new.gone }
-        ensures lost { result ≡ Err SendError.Gone → Some self.new.lost ≡ with_lost (Some self.old.sent) (Some self.old.lost) link }
+        ensures lost { result ≡ Err SendError.Gone → Some self.new.lost
+            ≡ with_lost (Some self.old.sent) (Some self.old.lost) link }
         ensures kept { OnOk result (Some self.new.lost ≡ Some self.old.lost) }
         ensures memory { result ≡ Err SendError.Memory → Some self.new.lost ≡ Some self.old.lost }
         ensures port { self.new.port ≡ self.old.port }

@@ -71,8 +71,8 @@ fn read_retrying<R: Read>(inner: &mut R, buf: &mut [u8]) -> Result<usize, Failed
     Err(Failed)
 }
 
-/// A sink over a writer, and a journal through the writer's flush. It tells no content. A call that is interrupted is tried
-/// again at most 1,000 times, and a write that takes no byte of a piece that has one is a failure.
+/// A sink over a writer, and a journal through the writer's flush. It tells no content. A call that is interrupted is
+/// tried again at most 1,000 times, and a write that takes no byte of a piece that has one is a failure.
 #[derive(Drop)]
 pub struct StdSink<W> {
     inner: W,
@@ -95,7 +95,8 @@ impl<W: Write> StdSink<W> {
         StdSink { inner, faults: 0 }
     }
 
-    /// Flushes the writer. A flush that is interrupted is tried again at most 1,000 times, and no other failed one ever is.
+    /// Flushes the writer. A flush that is interrupted is tried again at most 1,000 times, and no other failed one ever
+    /// is.
     pub fn flush(&mut self) -> Result<(), Failed>
         ensures same { OnOk result (self.new ≡ self.old) }
         ensures one_more { OnErr result (self.new ≡ one_more self.old) }

@@ -34,12 +34,14 @@ pub fn read_all<S: Source>(
     ensures given { IfOk result (λ all. Gave (S.seen source.old) (S.seen source.new) all) }
     ensures within { IfOk result (λ all. length all ≤ limit) }
     ensures end { OnOk result (IsAtEnd (S.seen source.new)) }
-    ensures failed { result ≡ Err (Stop.Fault ReadError.Failed) → Rose (S.seen source.old).faults (S.seen source.new).faults }
+    ensures failed { result ≡ Err (Stop.Fault ReadError.Failed)
+        → Rose (S.seen source.old).faults (S.seen source.new).faults }
     ensures failed_within { result ≡ Err (Stop.Fault ReadError.Failed)
         → (some : List ℕ) × (length some ≤ limit) × Gave (S.seen source.old) (S.seen source.new) some }
     ensures too_long { result ≡ Err (Stop.Fault ReadError.TooLong)
         → (some : List ℕ) × (length some ≡ limit + 1) × Gave (S.seen source.old) (S.seen source.new) some }
-    ensures stopped { OnErr result ((some : List ℕ) × (length some ≤ limit + 1) × Gave (S.seen source.old) (S.seen source.new) some) }
+    ensures stopped { OnErr result ((some : List ℕ) × (length some ≤ limit + 1)
+        × Gave (S.seen source.old) (S.seen source.new) some) }
     ensures counted { (S.seen source.old).faults ≤ (S.seen source.new).faults }
 {
     let mut all = Vec::new(alloc);
@@ -63,10 +65,12 @@ fn append_next<S: Source>(
     ensures appended { IfOk result (λ n. all.new.items ≡ all.old.items ++ take n piece.new) }
     ensures given { IfOk result (λ n. Gave (S.seen source.old) (S.seen source.new) (take n piece.new)) }
     ensures end { IfOk result (λ n. n ≡ 0 → 0 < length piece.old → IsAtEnd (S.seen source.new)) }
-    ensures failed { result ≡ Err (Stop.Fault ReadError.Failed) → Rose (S.seen source.old).faults (S.seen source.new).faults }
+    ensures failed { result ≡ Err (Stop.Fault ReadError.Failed)
+        → Rose (S.seen source.old).faults (S.seen source.new).faults }
     ensures unmoved { result ≡ Err (Stop.Fault ReadError.Failed) → (S.seen source.new).left ≡ (S.seen source.old).left }
     ensures other { result ≢ Err (Stop.Fault ReadError.TooLong) }
-    ensures stopped { OnErr result ((n : ℕ) × (n ≤ length piece.old) × Gave (S.seen source.old) (S.seen source.new) (take n piece.new)) }
+    ensures stopped { OnErr result ((n : ℕ) × (n ≤ length piece.old)
+        × Gave (S.seen source.old) (S.seen source.new) (take n piece.new)) }
     ensures counted { (S.seen source.old).faults ≤ (S.seen source.new).faults }
 {
     match source.read(piece) {
@@ -90,7 +94,8 @@ fn empty_piece(alloc: Global) -> Result<Vec<u8>, AllocError>
 pub fn write_all<K: Sink>(sink: &mut K, bytes: &[u8]) -> Result<(), Failed>
     ensures ok { OnOk result (Took (K.seen sink.old) (K.seen sink.new) bytes.now) }
     ensures failed { OnErr result (Rose (K.seen sink.old).faults (K.seen sink.new).faults) }
-    ensures part { OnErr result ((n : ℕ) × (n ≤ length bytes.now) × Took (K.seen sink.old) (K.seen sink.new) (take n bytes.now)) }
+    ensures part { OnErr result ((n : ℕ) × (n ≤ length bytes.now)
+        × Took (K.seen sink.old) (K.seen sink.new) (take n bytes.now)) }
     ensures safe { KeepsSafe (K.seen sink.old) (K.seen sink.new) }
     ensures safe_held { IsSafeHeld (K.seen sink.old) → IsSafeHeld (K.seen sink.new) }
     ensures counted { (K.seen sink.old).faults ≤ (K.seen sink.new).faults }

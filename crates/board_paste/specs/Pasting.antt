@@ -1,5 +1,5 @@
--- A clip that is pasted: its copies stand above all that is shown. That copies are above, and that a stored id refuses a
--- clip, is this project's own.
+-- A clip that is pasted: its copies stand above all that is shown. That copies are above, and that a stored id refuses
+-- a clip, is this project's own.
 use Rattle.std.specs.Prelude.{◌≡◌, ℕ, ◌-◌, List, [], ◌∷◌, ◌++◌, Bool, Option, Some, None, is_some, length, slice_get, option_and_then, if◌then◌else◌}
 use Rattle.frac_keys.specs.Between.{keys_between}
 use Rattle.json_text.specs.Compact.{Member as Pair}
@@ -23,12 +23,14 @@ is_stored stored e = is_some (element_of stored e.id)
 abbrev pub first_stored : List ElementValue → List ElementValue → List ℕ → Option ℕ
 first_stored stored [] places = None
 first_stored stored (e ∷ elements) [] = None
-first_stored stored (e ∷ elements) (place ∷ places) = if is_stored stored e then Some place else first_stored stored elements places
+first_stored stored (e ∷ elements) (place ∷ places) =
+    if is_stored stored e then Some place else first_stored stored elements places
 
 -- the copies of elements with the keys that they get where they are pasted: above the last key of what is shown
 unfoldable pub pasted : List ElementValue → List ElementValue → List ℕ → List ElementValue
 pasted stored elements prefix =
-    keyed (copies_of elements prefix) (keys_between (last_key (shown (live_elements stored))) None (length (copies_of elements prefix)))
+    keyed (copies_of elements prefix) (keys_between (last_key (shown (live_elements stored))) None
+    (length (copies_of elements prefix)))
 
 -- The head of a clip has its files, and nothing else.
 pub record IsClipHead (entries : List Pair) (head : Heading) : Type 0 where

@@ -17,11 +17,13 @@ pub fn ids_of_copies_are_new()
 /// After a paste each element that was stored is stored the same, and beside them each copy is.
 pub fn pasted_elements_are_added()
     ensures kept { (updates stored elements news : List ElementValue) (prefix : List ℕ)
-        → AreStored updates stored → AreStored (updates ++ pasted stored elements prefix) news → HaveDistinctIds elements
+        → AreStored updates stored → AreStored (updates ++ pasted stored elements prefix) news
+        → HaveDistinctIds elements
         → ((e : ElementValue) → Contains elements e → element_of stored (prefix ++ e.id) ≡ None)
         → (e : ElementValue) → Contains stored e → Contains news e }
     ensures added { (updates stored elements news : List ElementValue) (prefix : List ℕ)
-        → AreStored updates stored → AreStored (updates ++ pasted stored elements prefix) news → HaveDistinctIds elements
+        → AreStored updates stored → AreStored (updates ++ pasted stored elements prefix) news
+        → HaveDistinctIds elements
         → ((e : ElementValue) → Contains elements e → element_of stored (prefix ++ e.id) ≡ None)
         → (e : ElementValue) → Contains (pasted stored elements prefix) e → Contains news e }
 {}

@@ -30,8 +30,8 @@ pub struct Exists {
     pub place: u64,
 }
 
-/// Stores copies of a clip's elements, whose keys stand above those of all that is shown, and joins its files to a head.
-/// Where it is refused, and for want of memory, the head and the stored elements are as before.
+/// Stores copies of a clip's elements, whose keys stand above those of all that is shown, and joins its files to a
+/// head. Where it is refused, and for want of memory, the head and the stored elements are as before.
 pub fn paste(
     alloc: Global,
     head: &mut Head,
@@ -47,7 +47,8 @@ pub fn paste(
         → AreStored (updates ++ pasted store.old.elements clip.now.elements prefix.now) store.new.elements) }
 
     ensures head { OnOk result (HasJoinedFiles head.old (pairs clip.now.files) head.new) }
-    ensures new { OnOk result (first_stored store.old.elements (copies_of clip.now.elements prefix.now) clip.now.places ≡ None) }
+    ensures new { OnOk result (first_stored store.old.elements
+        (copies_of clip.now.elements prefix.now) clip.now.places ≡ None) }
     ensures exists { (fault : Exists) → result ≡ Err (Stop.Fault fault)
         → first_stored store.old.elements (copies_of clip.now.elements prefix.now) clip.now.places ≡ Some fault.place }
     ensures stored_kept { OnErr result (store.new.elements ≡ store.old.elements) }
@@ -90,7 +91,8 @@ fn keyed_above(
     store: &Store,
     elements: List<Element>,
 ) -> Result<List<Element>, AllocError>
-    ensures { IfOk result (λ new. new ≡ keyed elements (keys_between (last_key (shown (live_elements store.now.elements))) None (length elements))) }
+    ensures { IfOk result (λ new. new ≡ keyed elements
+        (keys_between (last_key (shown (live_elements store.now.elements))) None (length elements))) }
 {
     let shown = shown_elements(alloc, store)?;
     keyed_between(alloc, elements, last_key(&shown), None)

@@ -90,8 +90,8 @@ fn draw_elements(
     Ok(Some(List::from_vec(elements)))
 }
 
-/// Draws an element, whose kind its number tells: one in six is deleted, and one in eight comes late. Of a few keys one is
-/// its index, or none; what it names may be there or not, and be of any kind.
+/// Draws an element, whose kind its number tells: one in six is deleted, and one in eight comes late. Of a few keys one
+/// is its index, or none; what it names may be there or not, and be of any kind.
 fn draw_element(
     alloc: Global,
     generator: &mut Pcg32,

@@ -1,5 +1,5 @@
--- Which of noted elements clash. An update that ties with an earlier one and isn't the same shows that two programs made
--- the same version and nonce. This project's own.
+-- Which of noted elements clash. An update that ties with an earlier one and isn't the same shows that two programs
+-- made the same version and nonce. This project's own.
 use Rattle.std.specs.Prelude.{◌≡◌, ◌≢◌, List, [], ◌∷◌, ◌++◌, Option, Some, not, is_some, find, filter, if◌then◌else◌}
 use Rattle.elem.specs.ElementValue.{ElementValue}
 use Rattle.elem_store.specs.Updates.{are_tied}

@@ -41,10 +41,11 @@ impl Clash {
         }
     }
 
-    /// Notes the element, and tells whether the first noted one of its id, version and nonce isn't the same. For want of
-    /// memory nothing is noted.
+    /// Notes the element, and tells whether the first noted one of its id, version and nonce isn't the same. For want
+    /// of memory nothing is noted.
     pub fn note(&mut self, e: &Element) -> Result<bool, AllocError>
-        ensures clash { IfOk result (λ clashes. MatchBool clashes (HasClash self.old e.now) (IsLikeFirst self.old e.now)) }
+        ensures clash { IfOk result (λ clashes. MatchBool clashes (HasClash self.old e.now)
+            (IsLikeFirst self.old e.now)) }
         ensures noted { OnOk result (self.new ≡ firsts_with self.old e.now) }
         ensures err { OnErr result (self.new ≡ self.old) }
     {

@@ -1,5 +1,5 @@
--- What a clip's text says, and its first fault. After Excalidraw's clipboard; which forms are accepted, and the order of the
--- faults, is this project's own.
+-- What a clip's text says, and its first fault. After Excalidraw's clipboard; which forms are accepted, and the order
+-- of the faults, is this project's own.
 use Rattle.std.specs.Prelude.{◌≡◌, ℕ, List, Some, None, not, filter, codes}
 use Rattle.json_text.specs.Compact.{Member as Pair}
 use Rattle.json_text.specs.Members.{pairs}

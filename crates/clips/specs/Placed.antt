@@ -24,7 +24,8 @@ AreReadFrom place (value ∷ values) placed =
 -- The place of the first of these elements that has the id of one before it, or of one that was seen before them.
 abbrev pub repeat_after : List ElementValue → List Placed → Option ℕ
 repeat_after seen [] = None
-repeat_after seen (p ∷ placed) = if is_among seen p.element.id then Some p.place else repeat_after (seen ++ p.element ∷ []) placed
+repeat_after seen (p ∷ placed) = if is_among seen p.element.id then Some p.place else repeat_after
+    (seen ++ p.element ∷ []) placed
 
 -- the place of the first element that has the id of an earlier one
 abbrev pub first_repeat : List Placed → Option ℕ

@@ -16,7 +16,8 @@ ghost use Rattle.clips.specs.declared.fault.ClipFault.{ClipFault};
 /// A text is that of one clip at most, or has one first fault.
 pub fn clip_is_unique()
     ensures once { (text : List ℕ) (clip other : Clip) → IsClipOf text clip → IsClipOf text other → clip ≡ other }
-    ensures fault { (text : List ℕ) (fault other : ClipFault) → IsClipFault text fault → IsClipFault text other → fault ≡ other }
+    ensures fault { (text : List ℕ) (fault other : ClipFault) → IsClipFault text fault
+        → IsClipFault text other → fault ≡ other }
     ensures none { (text : List ℕ) (clip : Clip) (fault : ClipFault) → IsClipOf text clip → IsClipFault text fault → ⊥ }
 {}
 

@@ -56,8 +56,8 @@ pub fn read_clip(alloc: Global, value: &Raw) -> Result<Clip, Stop<ClipFault>>
     })
 }
 
-/// The elements that the values are, each with its place, without what is dropped and without deleted ones; or the first
-/// fault among them.
+/// The elements that the values are, each with its place, without what is dropped and without deleted ones; or the
+/// first fault among them.
 fn live_elements(alloc: Global, values: &List<Raw>) -> Result<List<Placed>, Stop<ClipFault>>
     ensures read { IfOk result (AreLiveOf values.now) }
     ensures fault { (fault : ClipFault) → result ≡ Err (Stop.Fault fault) → IsElementsFault values.now fault }
@@ -76,7 +76,8 @@ fn faults_told(
 ) -> Result<List<Placed>, Stop<ClipFault>>
     ensures read { IfOk result (λ placed. read ≡ Ok placed) }
     ensures fault { (fault : ClipFault) → result ≡ Err (Stop.Fault fault)
-        → (faulty : FaultyElement) × (read ≡ Err (Stop.Fault faulty)) × (fault ≡ ClipFault.Element faulty.place faulty.fault) }
+        → (faulty : FaultyElement) × (read ≡ Err (Stop.Fault faulty))
+        × (fault ≡ ClipFault.Element faulty.place faulty.fault) }
 {
     match read {
         Ok(placed) => Ok(placed),
@@ -87,7 +88,8 @@ fn faults_told(
     }
 }
 
-/// The elements that the values are, in their order, each with its place, without what is dropped; or the first faulty one.
+/// The elements that the values are, in their order, each with its place, without what is dropped; or the first faulty
+/// one.
 pub fn read_placed(alloc: Global, values: &List<Raw>) -> Result<List<Placed>, Stop<FaultyElement>>
     ensures read { IfOk result (AreReadFrom 0 values.now) }
     ensures fault { (faulty : FaultyElement) → result ≡ Err (Stop.Fault faulty)

@@ -6,7 +6,8 @@ use Rattle.commands.specs.Answers.{IsAnswer}
 use Rattle.commands.specs.declared.words.Command.{Command}
 use Rattle.commands.specs.declared.words.Command.TheVariants.{Restore, Merge, State, Pictures, Replay, Recover, Paste, Library, Insert}
 
--- What was restored, in whatever layout, is restored to the texts that the input is restored to: nothing is restored twice.
+-- What was restored, in whatever layout, is restored to the texts that the input is restored to: nothing is restored
+-- twice.
 abbrev pub RestoresOnce : Type 0
 RestoresOnce =
     (first layout : Layout) (bytes text other : List ℕ) → IsAnswer (Restore first) bytes (Ok text)

@@ -1,5 +1,5 @@
--- What an input is answered with, command by command. This project's own; what is stored is Excalidraw's reconcile, and the
--- texts are after its JSON schema.
+-- What an input is answered with, command by command. This project's own; what is stored is Excalidraw's reconcile, and
+-- the texts are after its JSON schema.
 use Rattle.std.specs.Prelude.{◌≡◌, ◌⊎◌, ℕ, List, [], ◌∷◌, ◌++◌, Result, Ok, Err}
 use Rattle.elem.specs.ElementValue.{ElementValue}
 use Rattle.elem_store.specs.Updates.{HaveSameUpdates}

@@ -27,8 +27,8 @@ pub record LeadsToClose (service : Service) (scenes : List Scene)
   pub board : IsBoardOf scenes begun.head begun.stored
   pub leads : LeadToClose service.limits (at_start (room_of begun.stored)) links.before links.after
 
--- A room that is served over an input that has scenes, where no end fails and the links lead it to a close, ends with all
--- done, or memory is wanted.
+-- A room that is served over an input that has scenes, where no end fails and the links lead it to a close, ends with
+-- all done, or memory is wanted.
 abbrev pub IsServedToClose : Service → Ends → Status → Type 0
 IsServedToClose service ends result =
     (bytes : List ℕ) (scenes : List Scene) → HasLeft limit ends.input.before bytes

@@ -103,8 +103,8 @@ WasRefused command (fault.Refused found) input =
     (bytes : List ℕ) × WasRead (limit_of command) input bytes × IsRefusalOf command bytes found
 WasRefused command other input = ⊥
 
--- How a run ends whose input has this answer: Done, and the text was written, or WriteFault, where the output's count of
--- faults rose; or Refused, and the notes tell the fault.
+-- How a run ends whose input has this answer: Done, and the text was written, or WriteFault, where the output's count
+-- of faults rose; or Refused, and the notes tell the fault.
 abbrev pub EndsWith : Result (List ℕ) Refusal → Status → Span SinkEnd → Span SinkEnd → Type 0
 EndsWith (Ok text) status output notes =
     ((status ≡ Done) × Took output.before output.after text)

@@ -42,8 +42,8 @@ IsFrontRefusal bytes found =
     ((fault : SceneFault) × (found ≡ refusal.Text 1 fault) × IsSceneFaultAt bytes 0 fault)
     ⊎ ((fault : JsonFault) × (found ≡ refusal.Text 2 (Json fault)) × HasNoTextBehind bytes fault)
 
--- The first fault of an input that is to be a scene and a text that is read so, which else has a fault: the input doesn't
--- begin with a scene and a value; or the value has a fault; or behind it and white space a further byte stands.
+-- The first fault of an input that is to be a scene and a text that is read so, which else has a fault: the input
+-- doesn't begin with a scene and a value; or the value has a fault; or behind it and white space a further byte stands.
 abbrev pub IsSecondRefusal : (List ℕ → Type 0) → (List ℕ → Refusal → Type 0) → List ℕ → Refusal → Type 0
 IsSecondRefusal IsRead IsFaulty bytes found =
     IsFrontRefusal bytes found

@@ -28,9 +28,9 @@ abbrev pub HasSceneAndClip : List ℕ → Scene → Clip → Type 0
 HasSceneAndClip bytes scene clip =
     (text : List ℕ) × HasFront bytes scene text None × IsClipOf text clip
 
--- The text of the scene that is shown of the scene's board and the copies of a clip's elements, and a newline. No copy's id
--- is stored by the board. The copies come behind the updates of the scene, with keys above the last one of what is shown of
--- its board; and the clip's files are joined as those of a further head that has nothing else.
+-- The text of the scene that is shown of the scene's board and the copies of a clip's elements, and a newline. No
+-- copy's id is stored by the board. The copies come behind the updates of the scene, with keys above the last one of
+-- what is shown of its board; and the clip's files are joined as those of a further head that has nothing else.
 pub record IsPastedAs (prefix : List ℕ) (scene : Scene) (clip : Clip)
     (text : List ℕ) : Type 0 where
   pub old : Heading

@@ -1,5 +1,5 @@
--- What holds of the replicas of every session: the headline of the program, part by part. This project's own; what is stored is
--- Excalidraw's reconcile.
+-- What holds of the replicas of every session: the headline of the program, part by part. This project's own; what is
+-- stored is Excalidraw's reconcile.
 use Rattle.std.specs.Prelude.{◌≡◌, ◌≤◌, ◌<◌, ◌+◌, ℕ, List, ◌++◌, Some, Ok, Contains, drop, length, take}
 use Rattle.std.specs.List.{AllByRecursion}
 use Rattle.board_ends.specs.Ends.{SinkEnd, SourceEnd, Took}

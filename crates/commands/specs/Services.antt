@@ -14,7 +14,8 @@ most_room_events = 1000000000
 -- whether a word is a number in plain decimal, at least the one number and at most the other
 abbrev pub is_number_within : ℕ → ℕ → List ℕ → Bool
 is_number_within least most word =
-    bytes_eq word (decimal (digits_value 10 word)) && (nat_le least (digits_value 10 word) && nat_le (digits_value 10 word) most)
+    bytes_eq word (decimal (digits_value 10 word)) &&
+    (nat_le least (digits_value 10 word) && nat_le (digits_value 10 word) most)
 
 -- that number, if the word is one
 abbrev pub number_within : ℕ → ℕ → List ℕ → Option ℕ
@@ -24,7 +25,11 @@ number_within least most word =
 -- the service with these numbers in this layout, where all are there
 abbrev pub service_of : Option ℕ → Option ℕ → Option ℕ → Option Layout → Option Service
 service_of (Some port) (Some links) (Some idle) (Some layout) =
-    Some (record { port = port; limits = record { links = links; idle = idle; events = most_room_events }; layout = layout })
+    Some (record {
+      port = port;
+      limits = record { links = links; idle = idle; events = most_room_events };
+      layout = layout;
+    })
 service_of port links idle layout = None
 
 -- Each of its limits is at least 1.
@@ -36,7 +41,11 @@ pub record IsService (service : Service) : Type 0 where
 -- the durable room with these numbers that begins with this, where all are there
 abbrev pub keeping_of : Option ℕ → Option ℕ → Option ℕ → Option Begins → Option Keeping
 keeping_of (Some port) (Some links) (Some idle) (Some begins) =
-    Some (record { port = port; limits = record { links = links; idle = idle; events = most_room_events }; begins = begins })
+    Some (record {
+      port = port;
+      limits = record { links = links; idle = idle; events = most_room_events };
+      begins = begins;
+    })
 keeping_of port links idle begins = None
 
 -- Each of its limits is at least 1.

@@ -37,8 +37,8 @@ pub record IsShelved (bytes text : List ℕ) : Type 0 where
   pub library : IsLibraryOfAll texts written
   pub ended : text ≡ written ++ newline
 
--- Libraries lead up to this offset, so many of them, and behind them a further text is to stand: there are none, or more than
--- white space is left.
+-- Libraries lead up to this offset, so many of them, and behind them a further text is to stand: there are none, or
+-- more than white space is left.
 pub record HasLibrariesTo (bytes : List ℕ) (start count : ℕ) : Type 0 where
   pub texts : List (List ℕ)
   pub items : List Item
@@ -111,8 +111,8 @@ HasSceneAndLibrary bytes scene items =
 abbrev pub IsBestOfId : List Item → List ℕ → Item → Type 0
 IsBestOfId items id item = IsBest items item × (item.id ≡ id)
 
--- The input is a scene and a library, and this is the text of the scene with copies of the elements of the library's best
--- item of this id, as they are pasted.
+-- The input is a scene and a library, and this is the text of the scene with copies of the elements of the library's
+-- best item of this id, as they are pasted.
 pub record IsInserted (insertion : Insertion) (bytes text : List ℕ) : Type 0 where
   pub scene : Scene
   pub items : List Item
@@ -128,8 +128,8 @@ pub record HasNoItem (id bytes : List ℕ) : Type 0 where
   pub holds : HasSceneAndLibrary bytes scene items
   pub none : (item : Item) → Contains items item → item.id ≡ id → ⊥
 
--- The input is a scene and a library, and the id is stored that the copy of the element at this place of its best item of this
--- id would have.
+-- The input is a scene and a library, and the id is stored that the copy of the element at this place of its best item
+-- of this id would have.
 pub record HasExistingOfItem (insertion : Insertion) (bytes : List ℕ) (place : ℕ) : Type 0 where
   pub scene : Scene
   pub items : List Item
@@ -138,8 +138,8 @@ pub record HasExistingOfItem (insertion : Insertion) (bytes : List ℕ) (place :
   pub best : IsBestOfId items insertion.item item
   pub is : IsExisting insertion.prefix scene (clip_of item) place
 
--- Why nothing is inserted: the first fault of the input; where it has none, that the library has no such item; else the first
--- copy whose id is stored.
+-- Why nothing is inserted: the first fault of the input; where it has none, that the library has no such item; else the
+-- first copy whose id is stored.
 abbrev pub IsInsertRefusal : Insertion → List ℕ → Refusal → Type 0
 IsInsertRefusal insertion bytes found =
     IsSecondRefusal IsLibrary IsNoLibrary bytes found

@@ -74,7 +74,8 @@ fn begun<S: Source>(alloc: Global, begins: Begins, input: &mut S) -> Result<(Hea
     }
 }
 
-/// Notes the end of a durable room, where it is a fault, and gives its status. A fault of the notes changes nothing else.
+/// Notes the end of a durable room, where it is a fault, and gives its status. A fault of the notes changes nothing
+/// else.
 pub(crate) fn noted_keep_end<N: Sink>(end: KeepEnd, notes: &mut N) -> Status
     ensures status { result ≡ kept_status end }
     ensures done { (end ≡ KeepEnd.AllClosed) ⊎ (end ≡ KeepEnd.Idle) → notes.new ≡ notes.old }

@@ -77,8 +77,8 @@ pub enum Refusal {
     Library(usize, LibFault),
     /// The library has no item of the id that is to be inserted.
     NoItem,
-    /// The id is stored that the copy of the element at this place of the second text's array would have, or of the item's
-    /// elements in it.
+    /// The id is stored that the copy of the element at this place of the second text's array would have, or of the
+    /// item's elements in it.
     Exists(u64),
 }
 

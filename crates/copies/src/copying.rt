@@ -14,8 +14,8 @@ use json_text::{Member, Text};
 use std::alloc::{AllocError, Global};
 use std::collections::BTreeSet;
 
-/// A copy of each element, in their order: its id and its groups stand under the prefix, and so do the names of elements
-/// of the list; other names go. Each copy is as new, and has no key. Fails only for want of memory.
+/// A copy of each element, in their order: its id and its groups stand under the prefix, and so do the names of
+/// elements of the list; other names go. Each copy is as new, and has no key. Fails only for want of memory.
 pub fn copies(alloc: Global, list: &[Element], prefix: &Text) -> Result<List<Element>, AllocError>
     ensures exact { IfOk result (λ copies. copies ≡ copies_of list.now prefix.now) }
 {

@@ -26,7 +26,8 @@ pub(crate) fn ids_of(alloc: Global, list: &[Element]) -> Result<BTreeSet<Text>, 
 pub fn see(ids: &mut BTreeSet<Text>, e: &Element) -> Result<bool, AllocError>
     ensures first { IfOk result (λ first. first ≡ not (contains (slice_cmp nat_cmp) ids.old e.now.id)) }
     ensures seen { OnOk result ((other : Items ℕ)
-        → contains (slice_cmp nat_cmp) ids.new other ≡ (bytes_eq other e.now.id || contains (slice_cmp nat_cmp) ids.old other)) }
+        → contains (slice_cmp nat_cmp) ids.new other
+        ≡ (bytes_eq other e.now.id || contains (slice_cmp nat_cmp) ids.old other)) }
     ensures err { OnErr result (IsUnchanged ids.old ids.new) }
 {
     let id = e.id.try_clone()?;

@@ -33,7 +33,8 @@ pub fn groups_of_copies_are_copied()
 
 /// The ids of copies are distinct where those of the originals are.
 pub fn ids_of_copies_are_distinct()
-    ensures { (list : List ElementValue) (prefix : List ℕ) → HaveDistinctIds list → HaveDistinctIds (copies_of list prefix) }
+    ensures { (list : List ElementValue) (prefix : List ℕ) → HaveDistinctIds list
+        → HaveDistinctIds (copies_of list prefix) }
 {}
 
 /// What holds of every element holds of copies.

@@ -27,15 +27,18 @@ name_of (Scalar name before after) = name
 name_of (Groups before after) = codes "groupIds"
 name_of (Bound before after) = codes "boundElements"
 
--- A header member has a value of a form that is accepted: a truth; null or a key; null or a text; null or a binding, its
--- members in the order of their names.
+-- A header member has a value of a form that is accepted: a truth; null or a key; null or a text; null or a binding,
+-- its members in the order of their names.
 abbrev pub IsAccepted : Header → List ℕ → Type 0
 IsAccepted headers.Deleted value = (truth : Bool) × (value ≡ truth_text truth)
-IsAccepted headers.Index value = (key : Option (List ℕ)) × IfSome key (λ k. IsTrue (is_key k)) × (value ≡ text_or_null key)
+IsAccepted headers.Index value = (key : Option (List ℕ)) × IfSome key (λ k. IsTrue (is_key k))
+    × (value ≡ text_or_null key)
 IsAccepted headers.Frame value = (id : Option (List ℕ)) × (value ≡ text_or_null id)
 IsAccepted headers.Container value = (id : Option (List ℕ)) × (value ≡ text_or_null id)
-IsAccepted headers.StartBinding value = (binding : Option Binding) × IfSome binding IsBinding × (value ≡ binding_text binding)
-IsAccepted headers.EndBinding value = (binding : Option Binding) × IfSome binding IsBinding × (value ≡ binding_text binding)
+IsAccepted headers.StartBinding value = (binding : Option Binding) × IfSome binding IsBinding
+    × (value ≡ binding_text binding)
+IsAccepted headers.EndBinding value = (binding : Option Binding) × IfSome binding IsBinding
+    × (value ≡ binding_text binding)
 IsAccepted headers.File value = (id : Option (List ℕ)) × (value ≡ text_or_null id)
 
 -- A scalar may have this value, or none: a header member has one of a form that is accepted; each nests at most 119.

@@ -49,7 +49,8 @@ pub record IsSamePair (pair other : Pair) : Type 0 where
 -- Each pair of the one list is unchanged or, but for stamps, in the other one.
 abbrev pub HasSamePairs : List Pair → List Pair → Type 0
 HasSamePairs pairs others =
-    (pair : Pair) → Contains pairs pair → IsUnchanged pair ⊎ ((other : Pair) × Contains others other × IsSamePair pair other)
+    (pair : Pair) → Contains pairs pair → IsUnchanged pair
+    ⊎ ((other : Pair) × Contains others other × IsSamePair pair other)
 
 -- before and after exchanged
 abbrev pub exchanged : Pair → Pair

@@ -1,4 +1,5 @@
--- The part of two elements: the members outside the stamp in which they differ. This project's own, after Excalidraw's deltas.
+-- The part of two elements: the members outside the stamp in which they differ. This project's own, after Excalidraw's
+-- deltas.
 use Rattle.std.specs.Prelude.{◌≡◌, ℕ, List, Bool, true, false, ◌||◌, Option, Some, None, find, map, codes, bytes_eq, if◌then◌else◌}
 use Rattle.frac_keys.specs.Rising.{are_rising}
 use Rattle.elem.specs.declared.parts.BoundRef.{BoundRef}
@@ -36,8 +37,8 @@ bound_change before after = if are_same same_listing_entry before after then Non
 abbrev pub is_list : List ℕ → Bool
 is_list name = bytes_eq name (codes "groupIds") || bytes_eq name (codes "boundElements")
 
--- The part stands for a pair of elements: it has the change of each member in which they differ, and no other one, in the
--- order of the members' names.
+-- The part stands for a pair of elements: it has the change of each member in which they differ, and no other one, in
+-- the order of the members' names.
 pub record PartStandsFor (part : Delta) (before after : ElementValue) : Type 0 where
   pub id : part.id ≡ after.id
   pub kind : part.kind ≡ after.kind

@@ -1,4 +1,5 @@
--- What undoing a change makes of an element that others may have changed since. This project's own, after Excalidraw's history.
+-- What undoing a change makes of an element that others may have changed since. This project's own, after Excalidraw's
+-- history.
 use Rattle.std.specs.Prelude.{◌≡◌, ◌≢◌, ℕ, List, Bool, Option, bytes_eq, if◌then◌else◌}
 use Rattle.elem.specs.ElementValue.{ElementValue}
 use Rattle.delta.specs.Applied.{KeepsStamp}
@@ -18,7 +19,8 @@ undone_list same before after now = if are_same same before after then now else 
 -- Each member outside the stamp in which before and after differ is undone, and the others stay.
 pub record Undoes (before after now result : ElementValue) : Type 0 where
   pub stamp : KeepsStamp now result
-  pub scalars : (name : List ℕ) → scalar_of result name ≡ undone_scalar (scalar_of before name) (scalar_of after name) (scalar_of now name)
+  pub scalars : (name : List ℕ) → scalar_of result name
+      ≡ undone_scalar (scalar_of before name) (scalar_of after name) (scalar_of now name)
   pub groups : result.groups ≡ undone_list bytes_eq before.groups after.groups now.groups
   pub bound : result.bound ≡ undone_list same_listing_entry before.bound after.bound now.bound
 

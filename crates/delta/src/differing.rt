@@ -279,7 +279,8 @@ fn is_before(change: &Change, other: &Change) -> bool
 
 /// Whether the change at the place is of the same member.
 fn is_same_at(changes: &Vec<Change>, place: usize, change: &Change) -> bool
-    ensures { result ≡ option_map_or (λ other. bytes_eq (name_of change.now) (name_of other)) (slice_get changes.now.items place) false }
+    ensures { result ≡ option_map_or (λ other. bytes_eq (name_of change.now) (name_of other))
+        (slice_get changes.now.items place) false }
 {
     match changes.get(place) {
         Some(other) => member_name(change) == member_name(other),

@@ -122,7 +122,9 @@ fn keep<T: Item>(
     after: &List<T>,
     item: &T,
 ) -> Result<(), AllocError>
-    ensures { OnOk result (items.new.items ≡ (if stays T.same before.now after.now item.now then items.old.items ++ item.now ∷ [] else items.old.items)) }
+    ensures { OnOk result (items.new.items
+        ≡ (if stays T.same before.now after.now item.now then items.old.items ++ item.now
+        ∷ [] else items.old.items)) }
 {
     if stays(before.as_slice(), after.as_slice(), item) {
         items.push(item.try_clone()?)?;
@@ -137,7 +139,8 @@ fn gained<T: Item>(
     now: &List<T>,
     after: &List<T>,
 ) -> Result<Vec<T>, AllocError>
-    ensures { IfOk result (λ items. items.items ≡ first_occurrences T.same (filter (is_gained T.same before.now now.now) after.now)) }
+    ensures { IfOk result (λ items. items.items ≡ first_occurrences T.same
+        (filter (is_gained T.same before.now now.now) after.now)) }
 {
     let mut items = Vec::new(alloc);
     for item in after.as_slice() {
@@ -153,7 +156,9 @@ fn gain<T: Item>(
     now: &List<T>,
     item: &T,
 ) -> Result<(), AllocError>
-    ensures { OnOk result (items.new.items ≡ (if is_gained T.same before.now now.now item.now && not (is_in T.same items.old.items item.now) then items.old.items ++ item.now ∷ [] else items.old.items)) }
+    ensures { OnOk result (items.new.items
+        ≡ (if is_gained T.same before.now now.now item.now && not
+        (is_in T.same items.old.items item.now) then items.old.items ++ item.now ∷ [] else items.old.items)) }
 {
     if is_gained(before.as_slice(), now.as_slice(), item) && !is_in(items, item) {
         items.push(item.try_clone()?)?;

@@ -22,8 +22,8 @@ pub fn applied_is_unique()
         → IsApplied part now result → IsApplied part now other → unstamped result ≡ unstamped other }
 {}
 
-/// The difference of two elements makes the new one of the old one, but for the stamp, and its inverse makes the old one of
-/// the new one.
+/// The difference of two elements makes the new one of the old one, but for the stamp, and its inverse makes the old
+/// one of the new one.
 pub fn difference_leads_on_and_back()
     ensures on { (part : Delta) (old new result : ElementValue)
         → IsElement old → IsElement new → IsElement result → old.id ≡ new.id → old.kind ≡ new.kind
@@ -33,8 +33,8 @@ pub fn difference_leads_on_and_back()
         → PartStandsFor part old new → IsApplied (inverse part) new result → unstamped result ≡ unstamped old }
 {}
 
-/// The inverse of a part makes the undone element of any element: what others changed meanwhile stays, but for the members
-/// in which the part's elements differ.
+/// The inverse of a part makes the undone element of any element: what others changed meanwhile stays, but for the
+/// members in which the part's elements differ.
 pub fn inverse_undoes()
     ensures { (part : Delta) (before after now result : ElementValue)
         → IsElement before → IsElement after → IsElement now → IsElement result
@@ -56,7 +56,8 @@ pub fn entry_is_unique()
 /// Stamps play no part in what an entry stands for.
 pub fn entry_leaves_stamps_out()
     ensures { (parts : List Delta) (pairs others : List Pair)
-        → EntryStandsFor parts pairs → HasSamePairs pairs others → HasSamePairs others pairs → EntryStandsFor parts others }
+        → EntryStandsFor parts pairs → HasSamePairs pairs others → HasSamePairs others pairs
+        → EntryStandsFor parts others }
 {}
 
 /// The inverse of an entry stands for the pairs with before and after exchanged.

@@ -49,7 +49,8 @@ pub(crate) fn put_value(
 
 /// Takes the member at the place away, if it has this name.
 fn drop_named(members: &mut Vec<Member>, place: usize, name: &Text)
-    ensures { members.new.items ≡ take place members.old.items ++ without_first name.now (drop place members.old.items) }
+    ensures { members.new.items ≡ take place members.old.items
+        ++ without_first name.now (drop place members.old.items) }
 {
     if is_named_at(members, place, name) {
         members.remove(place);
@@ -58,7 +59,8 @@ fn drop_named(members: &mut Vec<Member>, place: usize, name: &Text)
 
 /// Whether a member of this name is at the place.
 fn is_named_at(members: &Vec<Member>, place: usize, name: &Text) -> bool
-    ensures { result ≡ option_map_or (λ member. bytes_eq name.now member.name) (slice_get members.now.items place) false }
+    ensures { result ≡ option_map_or (λ member. bytes_eq name.now member.name)
+        (slice_get members.now.items place) false }
 {
     match members.get(place) {
         Some(member) => *name == member.name,

@@ -58,7 +58,8 @@ created shown _ time nonce = []
 -- elements in the order of their ids, and a new one at its place; one whose id is there is left out
 abbrev pub with_new : ElementValue → List ElementValue → List ElementValue
 with_new e elements =
-    if is_some (element_of elements e.id) then elements else with_element (λ other new. bytes_less other.id new.id) e elements
+    if is_some (element_of elements e.id) then elements else with_element
+    (λ other new. bytes_less other.id new.id) e elements
 
 -- the same of several
 abbrev pub with_created : List ElementValue → List ElementValue → List ElementValue
@@ -71,8 +72,8 @@ abbrev pub outcome_from : Option ElementValue → List ElementValue → List Ele
 outcome_from (Some full) new changes = Err (refusal_at full)
 outcome_from None new changes = Ok (with_created new changes)
 
--- The changed elements of a command in the order of their ids, or its refusal: of the stored elements in the order of their
--- ids, of the shown ones in theirs, and for this time and nonce.
+-- The changed elements of a command in the order of their ids, or its refusal: of the stored elements in the order of
+-- their ids, of the shown ones in theirs, and for this time and nonce.
 abbrev pub outcome_unless : Option Refusal → List ElementValue → List ElementValue → Command → ℕ
     → ℕ → Result (List ElementValue) Refusal
 outcome_unless (Some refusal) stored shown command time nonce = Err refusal

@@ -1,5 +1,5 @@
--- What commands copy, and where the copies stand. After Excalidraw's duplicating; that they stand one above the other at a spot
--- is this project's own.
+-- What commands copy, and where the copies stand. After Excalidraw's duplicating; that they stand one above the other
+-- at a spot is this project's own.
 use Rattle.std.specs.Prelude.{ℕ, List, [], ◌∷◌, false, None, filter, map, length}
 use Rattle.elem.specs.ElementValue.{ElementValue}
 use Rattle.elem.specs.Order.{unstamped}
@@ -25,7 +25,8 @@ as_new time nonce e = record e { version = 1; nonce = nonce; updated = time; del
 -- the copies of elements under a prefix, one above the other at a spot
 abbrev pub copies_at : List ElementValue → List ElementValue → List ℕ → Spot → ℕ → ℕ → List ElementValue
 copies_at shown originals prefix spot time nonce =
-    map (as_new time nonce) (keyed (copies_of originals prefix) (keys_at shown spot (length (copies_of originals prefix))))
+    map (as_new time nonce) (keyed (copies_of originals prefix)
+    (keys_at shown spot (length (copies_of originals prefix))))
 
 -- the element without its stamp and its key
 abbrev pub unplaced : ElementValue → ElementValue

@@ -36,5 +36,6 @@ deleted_from is_gone e =
 -- whether an element names something that is gone
 abbrev pub has_gone_names : (List ℕ → Bool) → ElementValue → Bool
 has_gone_names is_gone e =
-    is_some_that is_gone e.frame || (is_some_that is_gone e.container || (is_some_that is_gone (target_of e.start_binding)
+    is_some_that is_gone e.frame || (is_some_that is_gone e.container ||
+    (is_some_that is_gone (target_of e.start_binding)
     || (is_some_that is_gone (target_of e.end_binding) || list_any (λ (entry : BoundRef). is_gone entry.id) e.bound)))

@@ -30,8 +30,8 @@ abbrev pub ungrouped : List (List ℕ) → List ℕ → ElementValue → Element
 ungrouped ids group e =
     if is_among ids e.id then record e { groups = without_group group e.groups } else e
 
--- What the command makes of a live element, as stored: itself where it isn't concerned. What the element of an id names is
--- looked up among the stored elements, and keys among the shown ones.
+-- What the command makes of a live element, as stored: itself where it isn't concerned. What the element of an id names
+-- is looked up among the stored elements, and keys among the shown ones.
 abbrev pub effect : List ElementValue → List ElementValue → Command → ElementValue → ElementValue
 effect stored shown (commands.Create element spot) e = with_view_key shown e
 effect stored shown (commands.Set id member value) e =

@@ -91,7 +91,8 @@ with_text_of text container e =
 -- The text gets a container, which has no other text; the old container doesn't list the text.
 abbrev pub labelled : List ℕ → List ℕ → Option (List ℕ) → ElementValue → ElementValue
 labelled text container old e =
-    unlisted (apart_from (Some container) old) (text_entry text) (with_text_of text container (with_container_of text container e))
+    unlisted (apart_from (Some container) old) (text_entry text)
+    (with_text_of text container (with_container_of text container e))
 
 -- the element, which names no container if it is the text
 abbrev pub without_container_of : List ℕ → ElementValue → ElementValue

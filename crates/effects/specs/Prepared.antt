@@ -37,12 +37,14 @@ settled_in keys e = record e { index = unwrap_or (get (slice_cmp nat_cmp) keys e
 -- the element after an end of an arrow was bound
 abbrev pub linked : Link → ElementValue → ElementValue
 linked link e =
-    unlisted link.old link.entry (listed (target_of link.binding) link.entry (with_end_of link.arrow link.side link.binding e))
+    unlisted link.old link.entry (listed (target_of link.binding) link.entry
+    (with_end_of link.arrow link.side link.binding e))
 
 -- the element after a text got a container, and after it lost its own
 abbrev pub put_in : Label → ElementValue → ElementValue
 put_in label e =
-    unlisted label.old label.entry (with_text_of label.text label.container (with_container_of label.text label.container e))
+    unlisted label.old label.entry (with_text_of label.text label.container
+    (with_container_of label.text label.container e))
 
 abbrev pub taken_out : List ℕ → Option (List ℕ) → BoundRef → ElementValue → ElementValue
 taken_out text old entry e = unlisted old entry (without_container_of text e)

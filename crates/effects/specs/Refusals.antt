@@ -89,11 +89,13 @@ first_frame stored ids = option_map WrongKind (find (is_kind_of stored is_frame_
 -- The first named id whose element isn't of a kind that the command is for.
 abbrev pub misfit : List ElementValue → List ElementValue → Command → Option Refusal
 misfit stored shown (commands.Bind arrow side target rest) =
-    option_or (unless_right (is_kind_of stored is_arrow arrow) arrow) (unless_right (names_target shown (Some target)) target)
+    option_or (unless_right (is_kind_of stored is_arrow arrow) arrow)
+    (unless_right (names_target shown (Some target)) target)
 misfit stored shown (commands.Unbind arrow side) =
     unless_right (is_kind_of stored is_arrow arrow) arrow
 misfit stored shown (commands.Label container text) =
-    option_or (unless_right (is_kind_of stored can_hold_text container) container) (unless_right (is_kind_of stored is_text text) text)
+    option_or (unless_right (is_kind_of stored can_hold_text container) container)
+    (unless_right (is_kind_of stored is_text text) text)
 misfit stored shown (commands.Unlabel text) = unless_right (is_kind_of stored is_text text) text
 misfit stored shown (commands.Frame ids frame) =
     option_or (first_frame stored ids) (unless_right (is_kind_of stored is_frame_kind frame) frame)
@@ -107,4 +109,5 @@ guarded _ = None
 -- The first cause, in their order.
 abbrev pub refusal_of : List ElementValue → List ElementValue → Command → Option Refusal
 refusal_of stored shown command =
-    option_or (existing stored command) (option_or (missing stored command) (option_or (misfit stored shown command) (guarded command)))
+    option_or (existing stored command) (option_or (missing stored command)
+    (option_or (misfit stored shown command) (guarded command)))

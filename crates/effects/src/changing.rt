@@ -26,9 +26,9 @@ use elem_store::Store;
 use std::alloc::{AllocError, Global};
 use std::cmp::Ordering;
 
-/// The elements that a command changes on a board, as they become, in the order of their ids; or why it is refused. `shown`
-/// is what the board shows. Each that changes is stamped with the time and the nonce. The board itself stays: whoever calls
-/// stores the elements.
+/// The elements that a command changes on a board, as they become, in the order of their ids; or why it is refused.
+/// `shown` is what the board shows. Each that changes is stamped with the time and the nonce. The board itself stays:
+/// whoever calls stores the elements.
 pub fn changed(
     alloc: Global,
     store: &Store,

@@ -141,7 +141,10 @@ fn without_container(ids: &BTreeSet<Text>, mut e: Element) -> Element
 
 /// The arrow, the binding of its start gone if its target is one of these ids.
 fn without_start(ids: &BTreeSet<Text>, mut e: Element) -> Element
-    ensures { result ≡ record e { start_binding = deleting.kept_end (contains (slice_cmp nat_cmp) ids.now) e.start_binding } }
+    ensures { result ≡ record e {
+      start_binding = deleting.kept_end
+          (contains (slice_cmp nat_cmp) ids.now) e.start_binding;
+    } }
 {
     if is_gone_end(ids, &e.start_binding) {
         e.start_binding = None;
@@ -151,7 +154,10 @@ fn without_start(ids: &BTreeSet<Text>, mut e: Element) -> Element
 
 /// The arrow, the binding of its end gone if its target is one of these ids.
 fn without_end(ids: &BTreeSet<Text>, mut e: Element) -> Element
-    ensures { result ≡ record e { end_binding = deleting.kept_end (contains (slice_cmp nat_cmp) ids.now) e.end_binding } }
+    ensures { result ≡ record e {
+      end_binding = deleting.kept_end
+          (contains (slice_cmp nat_cmp) ids.now) e.end_binding;
+    } }
 {
     if is_gone_end(ids, &e.end_binding) {
         e.end_binding = None;

@@ -145,7 +145,8 @@ fn set(
     requires free { settings.is_protected member.now ≡ false }
     requires nests { IsCompact 100 value.now }
     ensures { IfOk result
-        (λ new. unwrap_or new e.now ≡ (if bytes_eq id.now e.now.id then settings.with_set_member member.now value.now e.now else e.now)) }
+        (λ new. unwrap_or new e.now
+        ≡ (if bytes_eq id.now e.now.id then settings.with_set_member member.now value.now e.now else e.now)) }
 {
     if *id == e.id {
         return Ok(Some(with_member(alloc, e, member, value)?));
@@ -160,7 +161,9 @@ fn framed(
     e: &Element,
 ) -> Result<Option<Element>, AllocError>
     ensures { IfOk result
-        (λ new. unwrap_or new e.now ≡ (if contains (slice_cmp nat_cmp) ids.now e.now.id then record e.now { frame = frame.now } else e.now)) }
+        (λ new. unwrap_or new e.now
+        ≡ (if contains (slice_cmp nat_cmp) ids.now e.now.id then
+        record e.now { frame = frame.now } else e.now)) }
 {
     if ids.contains(&e.id) {
         return Ok(Some(with_frame(e, frame)?));
@@ -171,7 +174,9 @@ fn framed(
 /// The element, in a group if it is of these ids.
 fn grouped(ids: &BTreeSet<Text>, group: &Text, e: &Element) -> Result<Option<Element>, AllocError>
     ensures { IfOk result
-        (λ new. unwrap_or new e.now ≡ (if contains (slice_cmp nat_cmp) ids.now e.now.id then record e.now { groups = effects.with_group group.now e.now.groups } else e.now)) }
+        (λ new. unwrap_or new e.now
+        ≡ (if contains (slice_cmp nat_cmp) ids.now e.now.id then
+        record e.now { groups = effects.with_group group.now e.now.groups } else e.now)) }
 {
     if ids.contains(&e.id) {
         return Ok(Some(with_group(e, group)?));
@@ -182,7 +187,9 @@ fn grouped(ids: &BTreeSet<Text>, group: &Text, e: &Element) -> Result<Option<Ele
 /// The element, not in a group if it is of these ids.
 fn ungrouped(ids: &BTreeSet<Text>, group: &Text, e: &Element) -> Result<Option<Element>, AllocError>
     ensures { IfOk result
-        (λ new. unwrap_or new e.now ≡ (if contains (slice_cmp nat_cmp) ids.now e.now.id then record e.now { groups = effects.without_group group.now e.now.groups } else e.now)) }
+        (λ new. unwrap_or new e.now
+        ≡ (if contains (slice_cmp nat_cmp) ids.now e.now.id then
+        record e.now { groups = effects.without_group group.now e.now.groups } else e.now)) }
 {
     if ids.contains(&e.id) {
         return Ok(Some(without_group(e, group)?));

@@ -26,8 +26,8 @@ ghost use Rattle.board_commands.specs.declared.command.Command.TheVariants as co
 ghost use Rattle.board_commands.specs.declared.command.Side.{Side};
 ghost use Rattle.board_commands.specs.declared.command.Spot.{Spot};
 
-/// What a command gives, in the order of the ids: a store of the board's elements takes each; each is of the kind of the
-/// stored element of its id, and one version on; and each differs from that outside the stamp, or is new.
+/// What a command gives, in the order of the ids: a store of the board's elements takes each; each is of the kind of
+/// the stored element of its id, and one version on; and each differs from that outside the stamp, or is new.
 pub fn given_elements_are_taken()
     ensures rise { (stored shown given : List ElementValue) (command : Command) (time nonce : ℕ)
         → are_rising (ids_of stored) ≡ true → outcome stored shown command time nonce ≡ Ok given
@@ -44,8 +44,8 @@ pub fn given_elements_are_taken()
         → (e : ElementValue) → Contains given e → ChangesStored stored e ⊎ IsNew stored e }
 {}
 
-/// What is stored once the given elements are: of each live element what the command makes of it, but for the stamp; and
-/// a deleted one stays.
+/// What is stored once the given elements are: of each live element what the command makes of it, but for the stamp;
+/// and a deleted one stays.
 pub fn effect_is_stored()
     ensures live { (stored shown given : List ElementValue) (command : Command) (time nonce : ℕ)
         → are_rising (ids_of stored) ≡ true → outcome stored shown command time nonce ≡ Ok given
@@ -58,8 +58,8 @@ pub fn effect_is_stored()
         → stored_after stored given id ≡ Some old }
 {}
 
-/// A bound arrow's end names the target, and the target lists the arrow; what the end alone named before, if it is another
-/// element, doesn't list it. All else stays.
+/// A bound arrow's end names the target, and the target lists the arrow; what the end alone named before, if it is
+/// another element, doesn't list it. All else stays.
 pub fn bind_links_both_ways()
     ensures names { (stored shown given : List ElementValue) (arrow : List ℕ) (side : Side)
         (target : List ℕ) (rest : List Member) (time nonce : ℕ)
@@ -123,8 +123,8 @@ pub fn unbind_frees_the_end()
         → Stays stored given id }
 {}
 
-/// Each element that is to be deleted is given as a deleted one, and no live element that is stored then names one of them.
-/// A live one loses those names alone, and all else stays.
+/// Each element that is to be deleted is given as a deleted one, and no live element that is stored then names one of
+/// them. A live one loses those names alone, and all else stays.
 pub fn delete_leaves_no_names()
     ensures given { (stored shown given : List ElementValue) (ids : List (List ℕ)) (time nonce : ℕ)
         → are_rising (ids_of stored) ≡ true
@@ -178,8 +178,8 @@ pub fn key_lies_at_its_spot()
         (λ e. lies_within (gap_of shown spot (Some id)) e.index ≡ true) }
 {}
 
-/// Beside its place a create makes what was asked for, and a place changes nothing; each other live element has its key of
-/// the view, and is else as it was.
+/// Beside its place a create makes what was asked for, and a place changes nothing; each other live element has its key
+/// of the view, and is else as it was.
 pub fn new_keys_change_nothing_else()
     ensures created { (stored shown given : List ElementValue) (element : ElementValue)
         (spot : Spot) (time nonce : ℕ)
@@ -210,8 +210,8 @@ pub fn new_keys_change_nothing_else()
         (λ e. unstamped e ≡ unstamped (with_view_key shown old)) }
 {}
 
-/// Copies stand between the keys beside the spot, one above the other in the order of their originals, and are else the copies
-/// of these under the prefix.
+/// Copies stand between the keys beside the spot, one above the other in the order of their originals, and are else the
+/// copies of these under the prefix.
 pub fn copies_stand_at_their_spot()
     ensures rise { (shown : List ElementValue) (spot : Spot) (count : ℕ)
         → HaveRisingKeys shown → HaveKeysOrNone shown
@@ -227,8 +227,8 @@ pub fn copies_stand_at_their_spot()
         ≡ map unplaced (copies_of list prefix) }
 {}
 
-/// After a duplicate the copies of the shown elements that were named are stored, and after a paste those of the given ones;
-/// nothing was stored with their ids.
+/// After a duplicate the copies of the shown elements that were named are stored, and after a paste those of the given
+/// ones; nothing was stored with their ids.
 pub fn copies_are_stored()
     ensures duplicated { (stored shown given : List ElementValue) (ids : List (List ℕ))
         (prefix : List ℕ) (spot : Spot) (time nonce : ℕ)
@@ -245,8 +245,8 @@ pub fn copies_are_stored()
         → (element_of stored copy.id ≡ None) × (stored_after stored given copy.id ≡ Some copy) }
 {}
 
-/// Beside the copies each live element has its key of the view, and is else as it was; what has that key stays, its stamp
-/// too; and where nothing is copied, all stays.
+/// Beside the copies each live element has its key of the view, and is else as it was; what has that key stays, its
+/// stamp too; and where nothing is copied, all stays.
 pub fn copies_change_nothing_else()
     ensures duplicated { (stored shown given : List ElementValue) (ids : List (List ℕ))
         (prefix : List ℕ) (spot : Spot) (time nonce : ℕ)

@@ -229,8 +229,10 @@ fn last_key<'a>(elements: &'a [Element], except: Option<&Text>) -> Option<&'a Ke
 /// The keys of an element and of the one above it, among the elements but the one of this id.
 fn gap_above<'a>(elements: &'a [Element], below: &Text, except: Option<&Text>) -> Gap<'a>
     requires { HaveRisingKeys elements.now }
-    ensures low { option_copied result.low ≡ (placing.gap_above below.now (others (option_copied except.entry) elements.now)).low }
-    ensures high { option_copied result.high ≡ (placing.gap_above below.now (others (option_copied except.entry) elements.now)).high }
+    ensures low { option_copied result.low
+        ≡ (placing.gap_above below.now (others (option_copied except.entry) elements.now)).low }
+    ensures high { option_copied result.high
+        ≡ (placing.gap_above below.now (others (option_copied except.entry) elements.now)).high }
     ensures rises { ends_rise (option_copied result.low) (option_copied result.high) ≡ true }
 {
     let mut rest = elements;

@@ -67,14 +67,15 @@ names members = map (λ (member : Member). member.name) members
 abbrev pub AllNest : ℕ → List Member → Type 0
 AllNest limit members = AllByRecursion (λ (member : Member). IsCompact limit member.value) members
 
--- The further members of a binding have rising names, none of them `elementId`; it is in an element that nests at most 120.
+-- The further members of a binding have rising names, none of them `elementId`; it is in an element that nests at most
+-- 120.
 pub record IsBinding (binding : Binding) : Type 0 where
   pub rise : are_rising (names binding.rest) ≡ true
   pub free : list_any (bytes_eq (codes "elementId")) (names binding.rest) ≡ false
   pub nest : AllNest 118 binding.rest
 
--- The id isn't empty; the numbers are within their limit; a container is there for a text alone, bindings for an arrow, a
--- file for an image; the other names rise, and none is a header name of the kind; the element nests at most 120.
+-- The id isn't empty; the numbers are within their limit; a container is there for a text alone, bindings for an arrow,
+-- a file for an image; the other names rise, and none is a header name of the kind; the element nests at most 120.
 pub record IsElement (e : ElementValue) : Type 0 where
   pub named : e.id ≢ []
   pub version : e.version ≤ greatest_whole

@@ -35,12 +35,14 @@ members_below name (member ∷ members) = if bytes_less member.name name then me
 
 abbrev pub members_not_below : List ℕ → List Member → List Member
 members_not_below name [] = []
-members_not_below name (member ∷ members) = if bytes_less member.name name then members_not_below name members else member ∷ members
+members_not_below name (member ∷ members) =
+    if bytes_less member.name name then members_not_below name members else member ∷ members
 
 -- the header members and the others in the order of their names
 abbrev pub merged : List Pair → List Member → List Pair
 merged [] rest = pairs rest
-merged (header ∷ headers) rest = pairs (members_below header.0 rest) ++ header ∷ merged headers (members_not_below header.0 rest)
+merged (header ∷ headers) rest = pairs (members_below header.0 rest) ++ header
+    ∷ merged headers (members_not_below header.0 rest)
 
 -- Each name is a text, and each value is a compact text that nests at most so deep.
 abbrev pub AreSound : ℕ → List Pair → Type 0
@@ -85,10 +87,14 @@ header_pair e header = (header_name header, header_value e header)
 -- the header members of a kind in the order of their names
 abbrev pub headers_of : Kind → List Header
 headers_of kinds.Text =
-    BoundElements ∷ ContainerId ∷ FrameId ∷ GroupIds ∷ Id ∷ Index ∷ IsDeleted ∷ KindName ∷ Updated ∷ Version ∷ VersionNonce ∷ []
+    BoundElements ∷ ContainerId ∷ FrameId ∷ GroupIds ∷ Id ∷ Index ∷ IsDeleted ∷ KindName ∷ Updated ∷ Version
+    ∷ VersionNonce ∷ []
 headers_of kinds.Arrow =
-    BoundElements ∷ EndBinding ∷ FrameId ∷ GroupIds ∷ Id ∷ Index ∷ IsDeleted ∷ StartBinding ∷ KindName ∷ Updated ∷ Version
+    BoundElements ∷ EndBinding ∷ FrameId ∷ GroupIds ∷ Id ∷ Index ∷ IsDeleted ∷ StartBinding ∷ KindName
+    ∷ Updated ∷ Version
     ∷ VersionNonce ∷ []
 headers_of kinds.Image =
-    BoundElements ∷ FileId ∷ FrameId ∷ GroupIds ∷ Id ∷ Index ∷ IsDeleted ∷ KindName ∷ Updated ∷ Version ∷ VersionNonce ∷ []
-headers_of _ = BoundElements ∷ FrameId ∷ GroupIds ∷ Id ∷ Index ∷ IsDeleted ∷ KindName ∷ Updated ∷ Version ∷ VersionNonce ∷ []
+    BoundElements ∷ FileId ∷ FrameId ∷ GroupIds ∷ Id ∷ Index ∷ IsDeleted ∷ KindName ∷ Updated ∷ Version
+    ∷ VersionNonce ∷ []
+headers_of _ = BoundElements ∷ FrameId ∷ GroupIds ∷ Id ∷ Index ∷ IsDeleted ∷ KindName ∷ Updated ∷ Version
+    ∷ VersionNonce ∷ []

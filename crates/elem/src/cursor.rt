@@ -15,7 +15,8 @@ use crate::value::{Value, first_below, member_piece, object_end, object_mark, va
 use json_text::Member;
 use std::marker::Model;
 
-/// What is left of an element's text: of a piece of it, of the value that the piece belongs to, and its further members.
+/// What is left of an element's text: of a piece of it, of the value that the piece belongs to, and its further
+/// members.
 #[derive(Drop)]
 pub(crate) struct Cursor<'a> {
     source: Source<'a>,
@@ -89,7 +90,8 @@ impl<'a> Members<'a> {
     fn next(self, source: Source<'a>) -> Option<(Piece<'a>, Value<'a>, Members<'a>)>
         requires { IsElementSource source }
         ensures { MatchOption result (members_left source.entry self.entry ≡ [])
-            (λ next. Splits (members_left source.entry self.entry) next.0 (value_left next.1 ++ members_left source.entry next.2)) }
+            (λ next. Splits (members_left source.entry self.entry) next.0
+            (value_left next.1 ++ members_left source.entry next.2)) }
     {
         match self {
             Members::Open(first, headers, rest) => Some(next_of(source, first, headers, rest)),
@@ -106,7 +108,8 @@ fn next_of<'a>(
     rest: &'a [Member],
 ) -> (Piece<'a>, Value<'a>, Members<'a>)
     requires { IsElementSource source }
-    ensures { Splits (open_left source.entry first headers.now rest.now) result.0 (value_left result.1 ++ members_left source.entry result.2) }
+    ensures { Splits (open_left source.entry first headers.now rest.now) result.0
+        (value_left result.1 ++ members_left source.entry result.2) }
 {
     match headers.split_first() {
         None => next_kept(first, rest),
@@ -125,7 +128,8 @@ fn next_of<'a>(
 
 /// The next member behind all header members, or the end.
 fn next_kept<'a>(first: bool, rest: &'a [Member]) -> (Piece<'a>, Value<'a>, Members<'a>)
-    ensures { (source : Source) → Splits (open_left source first [] rest.now) result.0 (value_left result.1 ++ members_left source result.2) }
+    ensures { (source : Source) → Splits (open_left source first [] rest.now) result.0
+        (value_left result.1 ++ members_left source result.2) }
 {
     match rest.split_first() {
         None => (
@@ -144,7 +148,8 @@ fn next_kept<'a>(first: bool, rest: &'a [Member]) -> (Piece<'a>, Value<'a>, Memb
 /// A piece of a header member, and what is left of its value.
 fn header_piece<'a>(source: Source<'a>, first: bool, header: Header) -> (Piece<'a>, Value<'a>)
     requires { IsElementSource source }
-    ensures { Splits ((if first then 123 else 44) ∷ member_text (header_pair source.entry.e.now header)) result.0 (value_left result.1) }
+    ensures { Splits ((if first then 123 else 44) ∷ member_text (header_pair source.entry.e.now header))
+        result.0 (value_left result.1) }
 {
     let start = value_of(source, header);
     let name = header.name().as_bytes();

@@ -9,7 +9,8 @@ ghost use Rattle.elem.specs.Said.{Says, HasValidTexts};
 ghost use Rattle.elem.specs.Texts.{element_members, element_text};
 
 /// To beat is a strict order: nothing beats itself, of two elements one at most beats the other, and what beats an
-/// element beats all that it beats. Where neither beats the other, their versions, their nonces and their texts are equal.
+/// element beats all that it beats. Where neither beats the other, their versions, their nonces and their texts are
+/// equal.
 pub fn beats_is_an_order()
     ensures irreflexive { (e : ElementValue) → beats e e ≡ false }
     ensures asymmetric { (a b : ElementValue) → beats a b ≡ true → beats b a ≡ false }

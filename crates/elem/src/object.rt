@@ -23,7 +23,8 @@ pub(crate) fn push_below<'a>(
     name: &str,
 ) -> Result<&'a [Member], AllocError>
     ensures begun { OnOk result ((before : Items ℕ) (first : Items Pair) → start ≡ length before
-        → IsBegun before first out.old.items → IsBegun before (first ++ pairs (members_below name.now members.now)) out.new.items) }
+        → IsBegun before first out.old.items → IsBegun before
+        (first ++ pairs (members_below name.now members.now)) out.new.items) }
     ensures left { IfOk result (λ left. left.now ≡ members_not_below name.now members.now) }
     ensures named { OnOk result (All (λ m. IsUtf8 m.name) (members_below name.now members.now)) }
     ensures utf8 { IsUtf8 name.now }
@@ -70,7 +71,8 @@ pub(crate) fn push_members(
     Ok(())
 }
 
-/// Begins a member in an object that begins at an offset, where the name's quote and the colon behind it are these bytes.
+/// Begins a member in an object that begins at an offset, where the name's quote and the colon behind it are these
+/// bytes.
 #[tactic(auto, using(crate::proofs::Appending::extends_same, crate::proofs::Appending::extends_by, crate::proofs::Appending::extends_then))]
 pub(crate) fn begin_quoted(out: &mut Vec<u8>, start: usize, head: &[u8]) -> Result<(), AllocError>
     ensures text { OnOk result (out.new.items ≡ (out.old.items ++ mark start out.old.items ∷ []) ++ head.now) }

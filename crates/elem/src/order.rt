@@ -13,8 +13,8 @@ use crate::source::Source;
 use itoa::Buffer;
 
 /// Whether the new element takes the place of the old one of the same id: its version is higher, or the versions are
-/// equal and its nonce is lower, or both are equal and its text is less. Source: Excalidraw's reconcile; the last case is
-/// this project's own.
+/// equal and its nonce is lower, or both are equal and its text is less. Source: Excalidraw's reconcile; the last case
+/// is this project's own.
 pub fn beats(new: &Element, old: &Element) -> bool
     ensures { result ≡ order.beats new.now old.now }
 {

@@ -102,7 +102,8 @@ fn push_header(
     header: Header,
 ) -> Result<(), AllocError>
     ensures begun { OnOk result ((before : Items ℕ) (members : Items Pair) → start ≡ length before
-        → IsBegun before members out.old.items → IsBegun before (members ++ header_pair e.now header ∷ []) out.new.items) }
+        → IsBegun before members out.old.items → IsBegun before
+        (members ++ header_pair e.now header ∷ []) out.new.items) }
     ensures nests { OnOk result (IsCompact 119 (header_value e.now header)) }
     ensures kept { OnErr result (Extends out.old.items out.new.items) }
 {
@@ -110,8 +111,8 @@ fn push_header(
     push_named(out, e, header)
 }
 
-/// Appends a header member's name in quotes, a colon and its value. Each name is written out here, so that its length is
-/// known when it is copied.
+/// Appends a header member's name in quotes, a colon and its value. Each name is written out here, so that its length
+/// is known when it is copied.
 #[tactic(auto, using(crate::proofs::Appending::extends_same, crate::proofs::Appending::extends_by, crate::proofs::Appending::extends_then, crate::proofs::Appending::on_err_same, crate::proofs::Appending::on_err_then), unfolding(json_text::specs::Characters::quote))]
 fn push_named(out: &mut Vec<u8>, e: &Element, header: Header) -> Result<(), AllocError>
     ensures text { OnOk result (out.new.items

@@ -9,7 +9,8 @@ abbrev pub AreRead : List (List ℕ) → List ElementValue → Type 0
 AreRead [] elements = elements ≡ []
 AreRead (value ∷ values) elements =
     (IsSelection value × AreRead values elements)
-    ⊎ ((e : ElementValue) × (others : List ElementValue) × (elements ≡ e ∷ others) × IsElementIn value e × AreRead values others)
+    ⊎ ((e : ElementValue) × (others : List ElementValue) × (elements ≡ e ∷ others) × IsElementIn value e
+    × AreRead values others)
 
 -- The value at this place, counted from 0, is the first with a fault; dropped ones count.
 abbrev pub IsFirstFaulty : List (List ℕ) → ℕ → ElemFault → Type 0

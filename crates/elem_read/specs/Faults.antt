@@ -1,4 +1,5 @@
--- The faults of an element. The forms that are accepted, the order of the faults and their words are this project's own.
+-- The faults of an element. The forms that are accepted, the order of the faults and their words are this project's
+-- own.
 use Rattle.std.specs.Prelude.{◌⊎◌, ℕ, ◌<◌, List, Option, codes}
 use Rattle.elem.specs.Forms.{Find, IsText, IsId, IsWholeNumber, IsTruth, IsTextOrNull, IsKeyOrNull, AreTexts, IsListing, IsBindingOrNull}
 use Rattle.elem_read.specs.declared.fault.ElemFault.{ElemFault}

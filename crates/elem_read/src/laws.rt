@@ -16,10 +16,12 @@ ghost use Rattle.elem_read.specs.declared.fault.ElemFault.{ElemFault};
 
 /// A value is read in one way at most: as one element, as no element, or with one first fault.
 pub fn reading_is_unique()
-    ensures element { (value : List ℕ) (e other : ElementValue) → IsElementIn value e → IsElementIn value other → e ≡ other }
+    ensures element { (value : List ℕ) (e other : ElementValue) → IsElementIn value e
+        → IsElementIn value other → e ≡ other }
     ensures fault { (value : List ℕ) (fault other : ElemFault)
         → IsFaultIn value fault → IsFaultIn value other → fault ≡ other }
-    ensures faultless { (value : List ℕ) (e : ElementValue) (fault : ElemFault) → IsElementIn value e → IsFaultIn value fault → ⊥ }
+    ensures faultless { (value : List ℕ) (e : ElementValue) (fault : ElemFault) → IsElementIn value e
+        → IsFaultIn value fault → ⊥ }
     ensures kept { (value : List ℕ) (e : ElementValue) → IsElementIn value e → IsSelection value → ⊥ }
     ensures dropped { (value : List ℕ) (fault : ElemFault) → IsFaultIn value fault → IsSelection value → ⊥ }
 {}
@@ -40,7 +42,8 @@ pub fn order_of_members_plays_no_part()
 /// A value is no element, or an element, or has a first fault.
 pub fn reading_exists()
     ensures { (value : List ℕ) → IsCompact 128 value
-        → IsSelection value ⊎ (((e : ElementValue) × IsElementIn value e) ⊎ ((fault : ElemFault) × IsFaultIn value fault)) }
+        → IsSelection value ⊎ (((e : ElementValue) × IsElementIn value e)
+        ⊎ ((fault : ElemFault) × IsFaultIn value fault)) }
 {}
 
 /// Values are read in one way at most: as one list of elements, or with one first faulty value.
@@ -62,12 +65,14 @@ pub fn reading_elements_exists()
 
 /// Elements that are read of values are whole, each.
 pub fn read_elements_are_whole()
-    ensures { (values : List (List ℕ)) (elements : List ElementValue) → AreRead values elements → All IsWholeElement elements }
+    ensures { (values : List (List ℕ)) (elements : List ElementValue) → AreRead values elements
+        → All IsWholeElement elements }
 {}
 
 /// The texts of whole elements are read as these elements.
 pub fn texts_are_read()
-    ensures { (elements : List ElementValue) → All IsWholeElement elements → AreRead (map element_text elements) elements }
+    ensures { (elements : List ElementValue) → All IsWholeElement elements
+        → AreRead (map element_text elements) elements }
 {}
 
 /// What a value is read as is an element, as its type keeps it; so are all whole elements.

@@ -13,8 +13,8 @@ use json_text::{Member, Raw, Text};
 use scene_json::{GREATEST_WHOLE, shaped, text_of, truth_of, value_named, whole_of};
 use std::alloc::{AllocError, Global};
 
-/// The value of the member of this name, if there is one. It is sought from the place on, and then from the front. It takes
-/// no memory.
+/// The value of the member of this name, if there is one. It is sought from the place on, and then from the front. It
+/// takes no memory.
 pub(crate) fn value_near<'a>(members: &'a List<Member>, name: &str, place: usize) -> Option<&'a Raw>
     requires { HaveRisingNames (pairs members.now) }
     ensures { option_copied result ≡ value_at name.now (pairs members.now) }

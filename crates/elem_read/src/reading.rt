@@ -23,8 +23,9 @@ use std::alloc::Global;
 /// How many brackets may be open at once in an element, its own counted.
 const DEEPEST: u64 = 120;
 
-/// The element that the value is, the defaults of its missing members filled in. `None` comes exactly where the value is
-/// an object whose `type` is the text `selection`, whatever else is in it, and a fault exactly where it is the first.
+/// The element that the value is, the defaults of its missing members filled in. `None` comes exactly where the value
+/// is an object whose `type` is the text `selection`, whatever else is in it, and a fault exactly where it is the
+/// first.
 pub fn read_element(alloc: Global, value: &Raw) -> Result<Option<Element>, Stop<ElemFault>>
     ensures read { IfOk result (λ found. MatchOption found (IsSelection value.now) (IsElementIn value.now)) }
     ensures fault { (fault : ElemFault) → result ≡ Err (Stop.Fault fault) → IsFaultIn value.now fault }
@@ -40,8 +41,10 @@ fn read_members(
     taken: Option<List<Member>>,
 ) -> Result<Option<Element>, Stop<ElemFault>>
     requires { (value : Items ℕ) × IsTakenApart value taken }
-    ensures read { IfOk result (λ found. (value : Items ℕ) → IsTakenApart value taken → MatchOption found (IsSelection value) (IsElementIn value)) }
-    ensures fault { (fault : ElemFault) → result ≡ Err (Stop.Fault fault) → (value : Items ℕ) → IsTakenApart value taken → IsFaultIn value fault }
+    ensures read { IfOk result (λ found. (value : Items ℕ) → IsTakenApart value taken
+        → MatchOption found (IsSelection value) (IsElementIn value)) }
+    ensures fault { (fault : ElemFault) → result ≡ Err (Stop.Fault fault) → (value : Items ℕ)
+        → IsTakenApart value taken → IsFaultIn value fault }
     ensures whole { IfOk result (λ found. IfSome found IsWholeElement) }
 {
     let Some(given) = taken else {
@@ -70,8 +73,8 @@ fn is_shallow(members: &List<Member>) -> bool
     true
 }
 
-/// Whether at most so many brackets are open at once in the value. Most values aren't looked through, since they have no
-/// more bytes than that.
+/// Whether at most so many brackets are open at once in the value. Most values aren't looked through, since they have
+/// no more bytes than that.
 #[tactic(auto, using(crate::proofs::ShortValues::short_nests))]
 fn nests_within(value: &Raw, limit: u64) -> bool
     ensures { IsTrue result ↔ IsCompact limit value.now }
@@ -99,13 +102,14 @@ pub fn read_elements(
     Ok(List::from_vec(elements))
 }
 
-/// The elements that the items left of an array are, in their order, without what is dropped; or the first faulty one. Each
-/// item is taken apart as it comes.
+/// The elements that the items left of an array are, in their order, without what is dropped; or the first faulty one.
+/// Each item is taken apart as it comes.
 pub fn read_array(
     alloc: Global,
     objects: &mut Objects<'_>,
 ) -> Result<List<Element>, Stop<FaultyElement>>
-    ensures read { IfOk result (λ elements. (values : Items (Items ℕ)) → AreLeft objects.old values → AreRead values elements) }
+    ensures read { IfOk result (λ elements. (values : Items (Items ℕ)) → AreLeft objects.old values
+        → AreRead values elements) }
     ensures fault { (faulty : FaultyElement) → result ≡ Err (Stop.Fault faulty)
         → (values : Items (Items ℕ)) → AreLeft objects.old values → IsFirstFaulty values faulty.place faulty.fault }
     ensures whole { IfOk result (All IsWholeElement) }

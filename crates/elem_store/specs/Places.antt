@@ -19,7 +19,8 @@ elements_at elements places = filter_map (slice_get elements) places
 abbrev pub spare_in : ℕ → ℕ → ℕ → ℕ
 spare_in room count spare = min (room - count) spare
 
--- There are as many places as elements, each within the list, and the ids rise along them, so that no place comes twice.
+-- There are as many places as elements, each within the list, and the ids rise along them, so that no place comes
+-- twice.
 pub record AreInOrder (elements : List ElementValue) (places : List ℕ) : Type 0 where
   pub within : All (λ place. place < length elements) places
   pub full : length places ≡ length elements
@@ -32,7 +33,8 @@ pub record IsKept (list : List ElementValue) (places : List ℕ) : Type 0 where
 
 -- how the id of the element at a place compares with an id
 abbrev pub order_at : List ElementValue → List ℕ → ℕ → Ordering
-order_at elements id place = option_map_or (λ (e : ElementValue). slice_cmp nat_cmp e.id id) (slice_get elements place) Less
+order_at elements id place = option_map_or (λ (e : ElementValue). slice_cmp nat_cmp e.id id)
+    (slice_get elements place) Less
 
 -- The ids at the places before the one index are less than an id, and those from the other index on are greater.
 pub record IsBetween (elements : List ElementValue) (places : List ℕ) (id : List ℕ) (low high : ℕ) : Type 0 where

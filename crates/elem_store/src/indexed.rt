@@ -17,8 +17,8 @@ pub(crate) struct Late {
     pub(crate) place: usize,
 }
 
-/// Places in an order. Most of them are settled in one list; those that came lately stand beside it in a short one, so a
-/// new one moves few others. There is room for all of them in the long list.
+/// Places in an order. Most of them are settled in one list; those that came lately stand beside it in a short one, so
+/// a new one moves few others. There is room for all of them in the long list.
 #[derive(Drop)]
 pub(crate) struct Places {
     settled: Vec<usize>,
@@ -36,7 +36,8 @@ impl Model for Places {
       spare = vec_capacity p.settled - (vec_len p.settled + vec_len p.late);
     } };
 
-    ghost invariant = { λ p. AreGaps (vec_len p.settled) p.late.items × (vec_len p.settled + vec_len p.late ≤ vec_capacity p.settled) };
+    ghost invariant = { λ p. AreGaps (vec_len p.settled) p.late.items
+        × (vec_len p.settled + vec_len p.late ≤ vec_capacity p.settled) };
 }
 
 impl Places {
@@ -196,8 +197,8 @@ fn put_settled(settled: &mut Vec<usize>, i: usize, place: usize)
     }
 }
 
-/// Puts the late places among the settled ones, from the back, so that each place moves once. There is room, so it takes
-/// no memory.
+/// Puts the late places among the settled ones, from the back, so that each place moves once. There is room, so it
+/// takes no memory.
 fn settle(settled: &mut Vec<usize>, late: &mut Vec<Late>)
     requires gaps { AreGaps (vec_len settled.old) late.old.items }
     requires room { vec_len settled.old + vec_len late.old ≤ vec_capacity settled.old }
@@ -222,7 +223,8 @@ fn move_up(settled: &mut Vec<usize>, from: usize, to: usize, by: usize)
     requires order { from ≤ to }
     requires within { to + by < vec_len settled.old }
     ensures count { vec_len settled.new ≡ vec_len settled.old }
-    ensures moved { settled.new.items ≡ take (from + by + 1) settled.old.items ++ (take (to - from) (drop from settled.old.items) ++ drop (to + by + 1) settled.old.items) }
+    ensures moved { settled.new.items ≡ take (from + by + 1) settled.old.items
+        ++ (take (to - from) (drop from settled.old.items) ++ drop (to + by + 1) settled.old.items) }
     ensures kept { vec_capacity settled.old ≤ vec_capacity settled.new }
 {
     settled.copy_within(from..to, from + by + 1);

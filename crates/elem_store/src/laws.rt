@@ -99,7 +99,8 @@ pub fn ids_stay_stored()
 
 /// Which of further updates become stored, and over what, is told by the stored elements as by the updates.
 pub fn takings_are_of_the_stored()
-    ensures { (updates elements more : List ElementValue) → AreStored updates elements → takings elements more ≡ takings updates more }
+    ensures { (updates elements more : List ElementValue) → AreStored updates elements
+        → takings elements more ≡ takings updates more }
 {}
 
 /// Where no two updates of one id differ, all updates are stored.

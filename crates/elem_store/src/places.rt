@@ -30,8 +30,8 @@ pub(crate) fn find_place(elements: &Shelf, places: &Places, id: &Text) -> Result
     find_among(elements, settled, late, id, front_of(id.as_bytes()))
 }
 
-/// The same, among the settled places with the late ones, by the id and its front. The late ones are searched first, and
-/// then the settled ones between two of them alone.
+/// The same, among the settled places with the late ones, by the id and its front. The late ones are searched first,
+/// and then the settled ones between two of them alone.
 fn find_among(
     elements: &Shelf,
     settled: &Vec<usize>,
@@ -42,8 +42,10 @@ fn find_among(
     requires gaps { AreGaps (vec_len settled.now) late.now.items }
     requires in_order { AreInOrder elements.now.items (woven settled.now.items late.now.items) }
     requires front { front ≡ front_of id.now }
-    ensures found { IfOk result (IsAt (elements_at elements.now.items (woven settled.now.items late.now.items)) id.now) }
-    ensures absent { IfErr result (IsGapFor (elements_at elements.now.items (woven settled.now.items late.now.items)) id.now) }
+    ensures found { IfOk result
+        (IsAt (elements_at elements.now.items (woven settled.now.items late.now.items)) id.now) }
+    ensures absent { IfErr result
+        (IsGapFor (elements_at elements.now.items (woven settled.now.items late.now.items)) id.now) }
 {
     let (before, from, to) = match find_late(elements, settled, late, id, front) {
         Ok(i) => return Ok(i),
@@ -62,8 +64,8 @@ fn find_among(
     Err(low + before)
 }
 
-/// The index of the late place at which the element of this id is, or the stretch of settled places that its place would
-/// be among.
+/// The index of the late place at which the element of this id is, or the stretch of settled places that its place
+/// would be among.
 fn find_late(
     elements: &Shelf,
     settled: &Vec<usize>,
@@ -74,8 +76,10 @@ fn find_late(
     requires gaps { AreGaps (vec_len settled.now) late.now.items }
     requires in_order { AreInOrder elements.now.items (woven settled.now.items late.now.items) }
     requires front { front ≡ front_of id.now }
-    ensures found { IfOk result (IsAt (elements_at elements.now.items (woven settled.now.items late.now.items)) id.now) }
-    ensures between { IfErr result (λ s. IsBetween elements.now.items (woven settled.now.items late.now.items) id.now (s.from + s.late) (s.to + s.late)) }
+    ensures found { IfOk result
+        (IsAt (elements_at elements.now.items (woven settled.now.items late.now.items)) id.now) }
+    ensures between { IfErr result (λ s. IsBetween elements.now.items
+        (woven settled.now.items late.now.items) id.now (s.from + s.late) (s.to + s.late)) }
     ensures aside { IfErr result (λ s. AreAside late.now.items s.late s.late (s.from + s.late) (s.to + s.late)) }
     ensures within { IfErr result (λ s. s.to ≤ vec_len settled.now) }
 {
@@ -130,7 +134,8 @@ pub(crate) fn add(
     requires { i ≤ length places.old.places }
     ensures elements { OnOk result (elements.new.items ≡ elements.old.items ++ e ∷ []) }
     ensures places { OnOk result (places.new.places ≡ insert places.old.places i (length elements.old.items)) }
-    ensures err { IfErr result (λ back. (elements.new.items ≡ elements.old.items) × (places.new.places ≡ places.old.places) × (back.0 ≡ e)) }
+    ensures err { IfErr result (λ back. (elements.new.items ≡ elements.old.items)
+        × (places.new.places ≡ places.old.places) × (back.0 ≡ e)) }
     ensures room { length elements.old.items < elements.old.room → 0 < places.old.spare → IsOk result }
     ensures kept { (elements.old.room ≤ elements.new.room) × (places.old.spare ≤ places.new.spare + 1) }
 {
@@ -154,7 +159,8 @@ pub(crate) fn moved_out(
 ) -> Result<Vec<Element>, AllocError>
     requires in_order { AreInOrder elements.items places.now.places }
     requires distinct { AllPairs (λ i j. i ≢ j) indices.now }
-    ensures { IfOk result (λ moved. moved.items ≡ filter_map (slice_get (elements_at elements.items places.now.places)) indices.now) }
+    ensures { IfOk result (λ moved. moved.items ≡ filter_map
+        (slice_get (elements_at elements.items places.now.places)) indices.now) }
 {
     let mut slots = elements.into_slots(alloc)?;
     let mut moved = Vec::with_capacity(alloc, indices.len())?;

@@ -14,8 +14,8 @@ use std::marker::Model;
 /// The first bytes of an id, and zeros where it is shorter.
 pub(crate) type Front = [u8; 8];
 
-/// Elements as they came. Beside them stand the fronts of their ids, which are close together in memory, so that ids are
-/// mostly told apart without a look at an element.
+/// Elements as they came. Beside them stand the fronts of their ids, which are close together in memory, so that ids
+/// are mostly told apart without a look at an element.
 #[derive(Drop)]
 pub(crate) struct Shelf {
     elements: Vec<Element>,
@@ -28,7 +28,11 @@ impl Model for Shelf {
 
     ghost Value = { Shelved };
 
-    ghost view = { λ s. record { items = s.elements.items; room = min (vec_capacity s.elements) (vec_capacity s.fronts) } };
+    ghost view = { λ s. record {
+      items = s.elements.items;
+      room = min (vec_capacity s.elements)
+          (vec_capacity s.fronts);
+    } };
 
     ghost invariant = { λ s. s.fronts.items ≡ map front_at s.elements.items };
 }

@@ -115,7 +115,8 @@ impl Store {
     /// Takes the elements in their order. There is room for them, so it takes no memory.
     pub fn take_all(&mut self, elements: List<Element>)
         requires { length elements ≤ self.old.spare }
-        ensures { (updates : Items ElementValue) → AreStored updates self.old.elements → AreStored (updates ++ elements) self.new.elements }
+        ensures { (updates : Items ElementValue) → AreStored updates self.old.elements
+            → AreStored (updates ++ elements) self.new.elements }
     {
         for e in elements.into_vec() {
             match self.take(e) {

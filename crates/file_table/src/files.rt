@@ -50,8 +50,8 @@ impl Files {
         }
     }
 
-    /// Adds the entry of a file, or keeps the lesser one, by the bytes of their compact texts, where the id has one. For
-    /// want of memory it is unchanged.
+    /// Adds the entry of a file, or keeps the lesser one, by the bytes of their compact texts, where the id has one.
+    /// For want of memory it is unchanged.
     pub fn take(&mut self, id: Text, entry: Raw) -> Result<(), AllocError>
         requires { IsCompact 126 entry }
         ensures taken { OnOk result (AreLeastEntries (self.old ++ (id, entry) ∷ []) self.new) }

@@ -19,20 +19,24 @@ pub fn least_entry_is_least()
 
 /// The entries that were given have one table of files, and no entry has an empty one.
 pub fn files_are_unique()
-    ensures unique { (given files others : List Pair) → AreLeastEntries given files → AreLeastEntries given others → files ≡ others }
+    ensures unique { (given files others : List Pair) → AreLeastEntries given files
+        → AreLeastEntries given others → files ≡ others }
     ensures none { AreLeastEntries [] [] }
 {}
 
 /// The order and the repeats of the given entries don't count.
 pub fn order_of_entries_plays_no_part()
     ensures { (given others files : List Pair)
-        → ((file : Pair) → Contains given file ↔ Contains others file) → AreLeastEntries given files → AreLeastEntries others files }
+        → ((file : Pair) → Contains given file ↔ Contains others file) → AreLeastEntries given files
+        → AreLeastEntries others files }
 {}
 
-/// Their grouping doesn't count: the files of two tables are those of all that was given for both, and a table is its own.
+/// Their grouping doesn't count: the files of two tables are those of all that was given for both, and a table is its
+/// own.
 pub fn files_join()
     ensures joined { (given files others more all : List Pair)
-        → AreLeastEntries given files → AreLeastEntries others more → AreLeastEntries (files ++ more) all → AreLeastEntries (given ++ others) all }
+        → AreLeastEntries given files → AreLeastEntries others more → AreLeastEntries (files ++ more) all
+        → AreLeastEntries (given ++ others) all }
     ensures own { (files : List Pair) → HaveRisingNames files → AreLeastEntries files files }
 {}
 
@@ -41,10 +45,11 @@ pub fn files_exist()
     ensures { (given : List Pair) → (files : List Pair) × AreLeastEntries given files }
 {}
 
-/// A file is referred exactly if an element names it, as images alone do, and the table has it; and then with the entry of
-/// the table, in the order in which they are first named.
+/// A file is referred exactly if an element names it, as images alone do, and the table has it; and then with the entry
+/// of the table, in the order in which they are first named.
 pub fn referred_files_are_named()
-    ensures exact { (files : List Pair) (elements : List ElementValue) (id : List ℕ) → value_at id (referred_files files elements)
+    ensures exact { (files : List Pair) (elements : List ElementValue) (id : List ℕ)
+        → value_at id (referred_files files elements)
         ≡ (if list_any (bytes_eq id) (references elements) then value_at id files else None) }
     ensures order { (files : List Pair) (elements : List ElementValue) → names_of (referred_files files elements)
         ≡ filter (λ id. is_some (value_at id files)) (first_texts (references elements)) }

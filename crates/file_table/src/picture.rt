@@ -17,8 +17,8 @@ use std::alloc::{AllocError, Global};
 /// Why a file's entry has no picture whose size can be told.
 #[derive(Clone, Copy, Debug, PartialEq, Eq)]
 pub enum PictureFault {
-    /// It is no object whose `dataURL` is a text that begins with `data:`, has a comma, and has `;base64` directly before
-    /// the first comma.
+    /// It is no object whose `dataURL` is a text that begins with `data:`, has a comma, and has `;base64` directly
+    /// before the first comma.
     NoDataUrl,
     /// What follows that comma isn't padded base64.
     Base64,
@@ -44,9 +44,11 @@ pub fn picture_size(alloc: Global, entry: &Raw) -> Result<u64, Stop<PictureFault
 
 /// How many bytes a base64 text decodes to.
 fn decoded_size(alloc: Global, content: &[u8]) -> Result<u64, Stop<PictureFault>>
-    ensures size { IfOk result (λ size. (bytes : Items ℕ) × (decode_of standard content.now ≡ Ok bytes) × (size ≡ length bytes)) }
+    ensures size { IfOk result (λ size. (bytes : Items ℕ) × (decode_of standard content.now ≡ Ok bytes)
+        × (size ≡ length bytes)) }
     ensures never { result ≢ Err (Stop.Fault PictureFault.NoDataUrl) }
-    ensures base64 { result ≡ Err (Stop.Fault PictureFault.Base64) → (bytes : Items ℕ) → decode_of standard content.now ≢ Ok bytes }
+    ensures base64 { result ≡ Err (Stop.Fault PictureFault.Base64) → (bytes : Items ℕ)
+        → decode_of standard content.now ≢ Ok bytes }
 {
     match STANDARD.decode(alloc, content) {
         Ok(bytes) => Ok(bytes.len() as u64),
@@ -67,7 +69,8 @@ fn url_of(alloc: Global, entry: &Raw) -> Result<Option<Text>, AllocError>
 
 /// The data of a data URL in base64, if the text is one.
 fn content_of(url: &[u8]) -> Option<&[u8]>
-    ensures { MatchOption result ((content : Items ℕ) → IsDataUrl url.now content → ⊥) (λ content. IsDataUrl url.now content.now) }
+    ensures { MatchOption result ((content : Items ℕ) → IsDataUrl url.now content → ⊥)
+        (λ content. IsDataUrl url.now content.now) }
 {
     let rest = after_scheme(url)?;
     let (head, content) = around_comma(rest)?;

@@ -20,7 +20,8 @@ pub(crate) fn keep_lesser(entries: &mut Entries, id: Text, entry: Raw) -> Result
     requires nest { IsCompact 126 entry }
     requires table { HaveFiles entries.old.entries }
     ensures taken { OnOk result
-        (AreLeastEntries (sorted_members entries.old.entries ++ (id, entry) ∷ []) (sorted_members entries.new.entries)) }
+        (AreLeastEntries (sorted_members entries.old.entries ++ (id, entry) ∷ [])
+        (sorted_members entries.new.entries)) }
     ensures table { HaveFiles entries.new.entries }
     ensures err { OnErr result (entries.new.entries ≡ entries.old.entries) }
 {

@@ -32,7 +32,8 @@ unfoldable pub midpoint : List ℕ → List ℕ → List ℕ
 midpoint a [] = []
 midpoint a (digit ∷ rest) =
     if first_digit a == digit then digit ∷ midpoint (later_digits a) rest
-    else (if nat_lt 1 (digit_value digit - digit_value (first_digit a)) then middle_digit (digit_value (first_digit a)) (digit_value digit) ∷ []
+    else (if nat_lt 1 (digit_value digit - digit_value (first_digit a)) then middle_digit
+    (digit_value (first_digit a)) (digit_value digit) ∷ []
     else midpoint_beside a (digit ∷ rest))
 
 -- Digits with one added or taken away: the last one that isn't `full` moves on, the full ones behind it become
@@ -119,7 +120,8 @@ unfoldable pub keys_inside : (depth : ℕ) → Option (List ℕ) → Option (Lis
 keys_inside zero a b n = []
 keys_inside (suc depth) a b n =
     if n == 0 then []
-    else (let middle = key_between a b in keys_inside depth a (Some middle) (n / 2) ++ middle ∷ keys_inside depth (Some middle) b (n - n / 2 - 1))
+    else (let middle = key_between a b in keys_inside depth a (Some middle) (n / 2) ++ middle
+    ∷ keys_inside depth (Some middle) b (n - n / 2 - 1))
 
 -- n keys between two ends, the first of which is less where both are given.
 abbrev pub keys_between : Option (List ℕ) → Option (List ℕ) → ℕ → List (List ℕ)

@@ -6,7 +6,8 @@ use Rattle.std.specs.Char.{is_ascii_alphanumeric}
 abbrev pub is_key_digit : ℕ → Bool
 is_key_digit byte = is_ascii_alphanumeric byte
 
--- The value of a digit, 0 to 61 in the order of the bytes; `9` is byte 57 and `Z` byte 90. Source: rocicorp's fractional-indexing.
+-- The value of a digit, 0 to 61 in the order of the bytes; `9` is byte 57 and `Z` byte 90. Source: rocicorp's
+-- fractional-indexing.
 unfoldable pub digit_value : ℕ → ℕ
 digit_value byte = if nat_le byte 57 then byte - 48 else (if nat_le byte 90 then byte - 55 else byte - 61)
 

@@ -19,7 +19,8 @@ integer_part (head ∷ rest) = head ∷ take (digit_count head) rest
 -- Whether bytes are an integer part: a head, and as many digits as it counts. Source: rocicorp's fractional-indexing.
 abbrev pub is_integer : List ℕ → Bool
 is_integer [] = false
-is_integer (head ∷ digits) = is_ascii_alphabetic head && length digits == digit_count head && list_all is_key_digit digits
+is_integer (head ∷ digits) = is_ascii_alphabetic head && length digits == digit_count head && list_all
+    is_key_digit digits
 
 -- The fraction of a key: what follows the integer part. Source: rocicorp's fractional-indexing.
 abbrev pub fraction : List ℕ → List ℕ

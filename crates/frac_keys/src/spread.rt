@@ -24,7 +24,8 @@ pub fn n_between(
     ensures count { IfOk result (λ keys. length keys ≡ n) }
     ensures are_keys { IfOk result (λ keys. IsTrue (list_all is_key keys)) }
     ensures rise { IfOk result (λ keys. IsTrue (rise_between (option_copied a.entry) (option_copied b.entry) keys)) }
-    ensures inside { IfOk result (λ keys. IsTrue (list_all (lies_between (option_copied a.entry) (option_copied b.entry)) keys)) }
+    ensures inside { IfOk result
+        (λ keys. IsTrue (list_all (lies_between (option_copied a.entry) (option_copied b.entry)) keys)) }
 {
     let keys = keys_between(alloc, end_bytes(a), end_bytes(b), n)?;
     Ok(List::from_vec(keys))
@@ -91,7 +92,8 @@ fn push_inside(
     requires a { IsTrue (is_key_or_none (option_copied a)) }
     requires b { IsTrue (is_key_or_none (option_copied b)) }
     requires rise { IsTrue (ends_rise (last_or (option_copied a) keys.old.items) (option_copied b)) }
-    ensures { OnOk result (keys.new.items ≡ keys.old.items ++ keys_inside n (last_or (option_copied a.entry) keys.old.items) (option_copied b.entry) n) }
+    ensures { OnOk result (keys.new.items ≡ keys.old.items
+        ++ keys_inside n (last_or (option_copied a.entry) keys.old.items) (option_copied b.entry) n) }
 {
     if n == 0 {
         return Ok(());

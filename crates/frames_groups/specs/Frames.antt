@@ -52,4 +52,5 @@ frames_settled elements = map (framed (has_frame elements)) elements
 -- Each frame name names a frame of the list, and frames have none themselves.
 abbrev pub NameFrames : List ElementValue → Type 0
 NameFrames elements =
-    All (λ (e : ElementValue). IfSome e.frame (λ id. (is_frame e ≡ false) × Any (λ (frame : ElementValue). (is_frame frame ≡ true) × (frame.id ≡ id)) elements)) elements
+    All (λ (e : ElementValue). IfSome e.frame (λ id. (is_frame e ≡ false)
+    × Any (λ (frame : ElementValue). (is_frame frame ≡ true) × (frame.id ≡ id)) elements)) elements

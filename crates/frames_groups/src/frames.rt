@@ -12,8 +12,8 @@ use json_text::Text;
 use std::alloc::{AllocError, Global};
 use std::collections::BTreeSet;
 
-/// The elements, each with the frame name that it keeps: a frame or magicframe of the list has none, and another element
-/// keeps a name that names one of these. Fails only for want of memory.
+/// The elements, each with the frame name that it keeps: a frame or magicframe of the list has none, and another
+/// element keeps a name that names one of these. Fails only for want of memory.
 pub fn settle_frames(alloc: Global, list: List<Element>) -> Result<List<Element>, AllocError>
     ensures exact { IfOk result (λ settled. settled ≡ frames_settled list) }
     ensures named { IfOk result NameFrames }
@@ -28,7 +28,8 @@ pub fn settle_frames(alloc: Global, list: List<Element>) -> Result<List<Element>
 
 /// The ids of the frames among the elements.
 fn frames_of(alloc: Global, elements: &Vec<Element>) -> Result<BTreeSet<Text>, AllocError>
-    ensures { IfOk result (λ frames. (id : Items ℕ) → contains (slice_cmp nat_cmp) frames id ≡ has_frame elements.now.items id) }
+    ensures { IfOk result (λ frames. (id : Items ℕ) → contains (slice_cmp nat_cmp) frames id
+        ≡ has_frame elements.now.items id) }
 {
     let mut frames = BTreeSet::new(alloc);
     for e in elements {

@@ -24,10 +24,11 @@ pub fn frames_and_groups_stay_settled()
         → frames_settled (groups_settled elements) ≡ groups_settled (frames_settled elements) }
 {}
 
-/// What settling makes of an element's frame name rests on the frames of this name alone: where they are among the elements
-/// that are settled, it makes the same of it.
+/// What settling makes of an element's frame name rests on the frames of this name alone: where they are among the
+/// elements that are settled, it makes the same of it.
 pub fn named_frames_are_enough()
     ensures { (elements : List ElementValue) (among : ElementValue → Bool) (e : ElementValue)
-        → ((frame : ElementValue) → Contains elements frame → IsTrue (is_frame frame) → e.frame ≡ Some frame.id → IsTrue (among frame))
+        → ((frame : ElementValue) → Contains elements frame → IsTrue (is_frame frame)
+        → e.frame ≡ Some frame.id → IsTrue (among frame))
         → framed (has_frame (filter among elements)) e ≡ framed (has_frame elements) e }
 {}

@@ -15,8 +15,8 @@ pub record Stacks : Type 0 where
   pub undo : List (List Delta)
   pub redo : List (List Delta)
 
--- A history as contracts see it: its stacks, each of which has room for the entries of both and so many more. "As before" is
--- said of the stacks: room may have grown.
+-- A history as contracts see it: its stacks, each of which has room for the entries of both and so many more. "As
+-- before" is said of the stacks: room may have grown.
 pub record Recorded : Type 0 where
   pub stacks : Stacks
   pub spare : ℕ
@@ -55,8 +55,8 @@ pub record IsTopmostSeen (store : List ElementValue) (stack below : List (List D
   pub seen : IsSeen store parts
   pub unseen : AreUnseen store above
 
--- One step took the topmost entry that is seen from one stack. Those above it went to the other stack one after another,
--- inverted, and on them one that takes the step back.
+-- One step took the topmost entry that is seen from one stack. Those above it went to the other stack one after
+-- another, inverted, and on them one that takes the step back.
 pub record HasStepped (store : List ElementValue) (time nonce : ℕ) (given : List ElementValue)
     (from to below grown : List (List Delta)) : Type 0 where
   pub parts : List Delta
@@ -75,8 +75,8 @@ abbrev pub HasRedone : List ElementValue → ℕ → ℕ → List ElementValue �
 HasRedone store time nonce given old new =
     HasStepped store time nonce given old.redo old.undo new.redo new.undo
 
--- The topmost entry of a stack that is seen would change the element of this id, which stands at the greatest version, and no
--- lesser one.
+-- The topmost entry of a stack that is seen would change the element of this id, which stands at the greatest version,
+-- and no lesser one.
 pub record StopsAt (store : List ElementValue) (stack : List (List Delta))
     (id : List ℕ) : Type 0 where
   pub below : List (List Delta)
@@ -109,8 +109,9 @@ stepped true passed (Some made) stacks =
 stepped false passed (Some made) stacks =
     record { undo = grown_by passed made stacks.redo stacks.undo; redo = below_last (passed + 1) stacks.redo }
 
--- The stacks once a planned step is put: the pending entry is noted; where an entry was made, the entries that are passed over
--- go to the other stack one after another, inverted, the next one goes, and the made one is put on the other stack.
+-- The stacks once a planned step is put: the pending entry is noted; where an entry was made, the entries that are
+-- passed over go to the other stack one after another, inverted, the next one goes, and the made one is put on the
+-- other stack.
 abbrev pub put_step : HistoryStep → Stacks → Stacks
 put_step step stacks = stepped step.undo step.passed step.made (noted step.pending stacks)
 

@@ -77,8 +77,8 @@ impl History {
         self.redo.reserve(self.undo.len() + 1)
     }
 
-    /// Makes an entry the next one to undo, after which nothing can be redone. An empty entry changes nothing. For want of
-    /// memory the stacks are unchanged; where there is room it takes none.
+    /// Makes an entry the next one to undo, after which nothing can be redone. An empty entry changes nothing. For want
+    /// of memory the stacks are unchanged; where there is room it takes none.
     pub fn note(&mut self, entry: Entry) -> Result<(), AllocError>
         ensures ok { OnOk result (self.new.stacks ≡ noted entry self.old.stacks) }
         ensures room { 0 < self.old.spare → IsOk result }
@@ -89,10 +89,10 @@ impl History {
         Ok(())
     }
 
-    /// Plans to note what is pending and then to undo. The step and the answer are those of these two calls: the topmost
-    /// entry that is seen is taken back from the stored elements, and those that change are given, stamped with this time and
-    /// nonce, in the order of their ids. `Nothing` comes exactly where no entry is seen. `VersionFull` names the least id of
-    /// those that would change and stand at the greatest version.
+    /// Plans to note what is pending and then to undo. The step and the answer are those of these two calls: the
+    /// topmost entry that is seen is taken back from the stored elements, and those that change are given, stamped with
+    /// this time and nonce, in the order of their ids. `Nothing` comes exactly where no entry is seen. `VersionFull`
+    /// names the least id of those that would change and stand at the greatest version.
     pub fn plan_undo(
         &self,
         pending: Entry,
@@ -158,9 +158,9 @@ impl History {
         Ok(step_of(pending, false, plan))
     }
 
-    /// Puts a planned step in place: notes what is pending; where an entry was made, moves the entries that are passed over
-    /// to the other stack, one after another and inverted, takes the next one away, and puts the made one on the other
-    /// stack. It takes no memory.
+    /// Puts a planned step in place: notes what is pending; where an entry was made, moves the entries that are passed
+    /// over to the other stack, one after another and inverted, takes the next one away, and puts the made one on the
+    /// other stack. It takes no memory.
     pub fn put(&mut self, step: HistoryStep)
         requires spare { 0 < self.old.spare }
         requires fits { FitsIn step self.old.stacks }
@@ -180,10 +180,10 @@ impl History {
         }
     }
 
-    /// Takes the topmost entry that is seen back from the stored elements, and gives those that change, stamped with this
-    /// time and nonce, in the order of their ids: whoever calls stores them. The entries above it go to the other stack,
-    /// inverted. `Nothing` comes exactly where no entry is seen. `VersionFull` names the least id of those that would change
-    /// and stand at the greatest version. Where the answer isn't Done the stacks are unchanged.
+    /// Takes the topmost entry that is seen back from the stored elements, and gives those that change, stamped with
+    /// this time and nonce, in the order of their ids: whoever calls stores them. The entries above it go to the other
+    /// stack, inverted. `Nothing` comes exactly where no entry is seen. `VersionFull` names the least id of those that
+    /// would change and stand at the greatest version. Where the answer isn't Done the stacks are unchanged.
     pub fn undo(&mut self, store: &Store, time: u64, nonce: u64) -> Result<Step, Stop<VersionFull>>
         requires time { time ≤ greatest_whole }
         requires nonce { nonce ≤ greatest_whole }

@@ -28,7 +28,8 @@ pub enum Step {
     Nothing,
 }
 
-/// The plan for the topmost entry of a stack that is seen, if there is one, once an entry that isn't empty was put on it.
+/// The plan for the topmost entry of a stack that is seen, if there is one, once an entry that isn't empty was put on
+/// it.
 pub(crate) fn plan_noted(
     alloc: Global,
     pending: &Entry,

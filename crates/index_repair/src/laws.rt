@@ -40,7 +40,8 @@ pub fn runs_are_filled()
         → filled low above (replicate n None) ≡ keys_between low above n }
     ensures split { (low above : Option (List ℕ)) (before : List (Option (List ℕ))) (key : List ℕ)
         (after : List (Option (List ℕ)))
-        → filled low above (before ++ Some key ∷ after) ≡ filled low (Some key) before ++ key ∷ filled (Some key) above after }
+        → filled low above (before ++ Some key ∷ after) ≡ filled low (Some key) before ++ key
+        ∷ filled (Some key) above after }
     ensures between { (low above : Option (List ℕ)) (before : List (Option (List ℕ))) (a : List ℕ) (n : ℕ) (b : List ℕ)
         (after : List (Option (List ℕ)))
         → filled low above (before ++ Some a ∷ (replicate n None ++ Some b ∷ after))
@@ -53,8 +54,8 @@ pub fn runs_are_filled()
         ≡ filled low (Some a) before ++ a ∷ keys_between (Some a) above n }
 {}
 
-/// A list may be repaired part by part: it is cut before a key that is greater than every key before it. Where keys never
-/// fall, that is a key which isn't the one before it.
+/// A list may be repaired part by part: it is cut before a key that is greater than every key before it. Where keys
+/// never fall, that is a key which isn't the one before it.
 pub fn parts_are_repaired_apart()
     ensures whole { (before : List (Option (List ℕ))) (key : List ℕ) (after : List (Option (List ℕ)))
         → IsTrue (are_below (Some key) before)

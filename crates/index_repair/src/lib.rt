@@ -104,7 +104,8 @@ fn push_between(
     run: usize,
 ) -> Result<(), AllocError>
     requires { IsTrue (ends_rise (option_copied low) (option_copied high)) }
-    ensures { OnOk result (new.new.items ≡ new.old.items ++ keys_between (option_copied low.entry) (option_copied high.entry) run) }
+    ensures { OnOk result (new.new.items ≡ new.old.items ++ keys_between (option_copied low.entry)
+        (option_copied high.entry) run) }
 {
     let mut between = n_between(alloc, low, high, run)?.into_vec();
     new.append(&mut between)

@@ -13,9 +13,9 @@ pair_text member = member.0 ++ 58 ∷ member.1
 abbrev pub pairs_text : List Member → List ℕ
 pairs_text members = join_with_byte 44 (map pair_text members)
 
--- Of the innermost object that is open, or of the text outside objects: its text, where what stands behind its last colon or
--- comma begins, where the name of the member under way stands, where its whole members stand, and how many arrays are open
--- in it.
+-- Of the innermost object that is open, or of the text outside objects: its text, where what stands behind its last
+-- colon or comma begins, where the name of the member under way stands, where its whole members stand, and how many
+-- arrays are open in it.
 pub record Drafted : Type 0 where
   pub text : List ℕ
   pub from : ℕ

@@ -199,14 +199,16 @@ string_move r Plain b =
 string_move r Escape b =
     if b == 117 then To (Quoted r (Hex 3)) else (if letter_meaning b == 0 then Refuse else To (Quoted r Plain))
 string_move r (Hex more) b = if is_hex b then To (Quoted r (after_digit more)) else Refuse
-string_move r (Sequence length tail) b = if tail_fits tail b then To (Quoted r (in_sequence length (tail_after tail))) else Refuse
+string_move r (Sequence length tail) b = if tail_fits tail b then To
+    (Quoted r (in_sequence length (tail_after tail))) else Refuse
 
 -- ---- the machine
 -- what a byte does in a mode, where this bracket is the innermost open one
 abbrev pub moved : Mode → Option Bracket → ℕ → Move
 moved Mode.Value top b = if is_space b then To Mode.Value else value_begun b
 moved Fresh None b = End
-moved Fresh (Some bracket) b = if is_space b then To Fresh else (if closes_bracket bracket b then Close else first_move bracket b)
+moved Fresh (Some bracket) b = if is_space b then To Fresh else
+    (if closes_bracket bracket b then Close else first_move bracket b)
 moved Name top b = if is_space b then To Name else first_move Curly b
 moved Colon top b = if is_space b then To Colon else (if b == 58 then To Mode.Value else Refuse)
 moved After top b = after_move top b

@@ -19,8 +19,8 @@ pub use Rattle.json_reader.specs.declared.writing.Deed.{Deed}
 pub use Rattle.json_reader.specs.declared.writing.Deed.TheVariants.{Skip, Begin, Keep, Slash, Finish, Open, Shut, Name, Part, Deepen, Rise, Push}
 pub use Rattle.json_reader.specs.declared.writing.Writer.{Writer}
 
--- Where a writer stands: in a string, of which these bytes came, an escape among them; in the innermost object that is open,
--- and in those around it, the outermost first.
+-- Where a writer stands: in a string, of which these bytes came, an escape among them; in the innermost object that is
+-- open, and in those around it, the outermost first.
 pub record Writing : Type 0 where
   pub place : Place
   pub escapes : Bool
@@ -95,7 +95,8 @@ Done Skip w b new = new ≡ w
 Done Begin w b new = new ≡ record w { place = inside false; escapes = false; string = w.string ++ b ∷ [] }
 Done Keep w b new = new ≡ record w { place = inside false; string = w.string ++ b ∷ [] }
 Done Slash w b new = new ≡ record w { place = inside true; escapes = true; string = w.string ++ b ∷ [] }
-Done Finish w b new = (text : List ℕ) → Quoted (w.string ++ b ∷ []) text [] → new ≡ between (grown w.here (quote text)) w.around
+Done Finish w b new = (text : List ℕ) → Quoted (w.string ++ b ∷ []) text []
+    → new ≡ between (grown w.here (quote text)) w.around
 Done Open w b new = new ≡ record w { here = fresh; around = w.around ++ grown w.here (b ∷ []) ∷ [] }
 Done Shut w b new = (outer : List Drafted) (next : Drafted) → w.around ≡ outer ++ next ∷ []
     → new ≡ record w { here = grown (grown next (closed w.here)) (b ∷ []); around = outer }
@@ -115,7 +116,8 @@ ground_of w = if w.quoted then ground.Quoted else ground.Between
 -- These bytes are taken together on this ground.
 abbrev pub AreAlike : Ground → List ℕ → Type 0
 AreAlike ground.Quoted bytes = AllByRecursion (λ b. is_plain b ≡ true) bytes
-AreAlike ground.Between bytes = AllByRecursion (λ b. is_space b ≡ true) bytes ⊎ AllByRecursion (λ b. is_digit b ≡ true) bytes
+AreAlike ground.Between bytes = AllByRecursion (λ b. is_space b ≡ true) bytes
+    ⊎ AllByRecursion (λ b. is_digit b ≡ true) bytes
 
 -- the writer with the bytes before an offset copied
 abbrev pub copied : List ℕ → ℕ → Writer → Writer
@@ -134,7 +136,8 @@ Ready text w (b ∷ bytes) = Can (deed_at w b) w b × ((new : Writing) → Done 
 -- Whatever value behind white space these bytes begin, the writer is ready for the rest of it.
 abbrev pub HasWritten : List ℕ → Writing → Type 0
 HasWritten bytes w =
-    (blank more : List ℕ) (tree : Tree) → is_blank blank ≡ true → IsGood tree → blank ++ spelling tree ≡ bytes ++ more → Ready (compact tree) w more
+    (blank more : List ℕ) (tree : Tree) → is_blank blank ≡ true → IsGood tree
+    → blank ++ spelling tree ≡ bytes ++ more → Ready (compact tree) w more
 
 -- The machine has run over the bytes from an offset to the next one, and what they make is written.
 pub record HasRead (bytes : List ℕ) (at next : ℕ) (machine : Machine) (writer : Writer) : Type 0 where
@@ -151,7 +154,8 @@ GoesOn before byte machine = step 128 before.mode before.brackets byte ≡ state
 -- Wherever the bytes were read from on: what was read up to an offset is read up to a later one.
 abbrev pub ReadsOn : List ℕ → ℕ → Machine → Writer → ℕ → Machine → Writer → Type 0
 ReadsOn bytes next machine writer end after written =
-    (next ≤ end) × (end ≤ length bytes) × ((at : ℕ) → HasRead bytes at next machine writer → HasRead bytes at end after written)
+    (next ≤ end) × (end ≤ length bytes) × ((at : ℕ) → HasRead bytes at next machine writer
+    → HasRead bytes at end after written)
 
 -- what a reader has read of these bytes from an offset on
 abbrev pub IsRead : List ℕ → ℕ → Reader → Type 0
@@ -170,8 +174,10 @@ pub record EndsAt (bytes : List ℕ) (at end : ℕ) : Type 0 where
 
 -- what came of reading on in these bytes, which were read from an offset on
 abbrev pub Came : List ℕ → ℕ → Taken → Type 0
-Came bytes at (taken.Through reader) = IsRead bytes at reader × (reader.next ≡ length bytes) × (is_over reader.machine.mode reader.machine.brackets ≡ false)
-Came bytes at (taken.Ended value end) = (at ≤ end) × (end ≤ length bytes) × EndsAt bytes at end × Stands (drop at bytes) value (drop end bytes)
+Came bytes at (taken.Through reader) = IsRead bytes at reader × (reader.next ≡ length bytes)
+    × (is_over reader.machine.mode reader.machine.brackets ≡ false)
+Came bytes at (taken.Ended value end) = (at ≤ end) × (end ≤ length bytes) × EndsAt bytes at end
+    × Stands (drop at bytes) value (drop end bytes)
 Came bytes at (taken.Refused machine next) =
     (at ≤ next) × (next < length bytes) × (run 128 start (stretch bytes at next) ≡ state machine.mode machine.brackets)
     × (step 128 machine.mode machine.brackets (slice_index bytes next) ≡ refused)
@@ -181,7 +187,8 @@ abbrev pub Breaks : Mode → List Bracket → List ℕ → Type 0
 Breaks m st [] = Ends m st [] → ⊥
 Breaks m st (b ∷ more) = step 128 m st b ≡ refused
 
--- No value goes on with what is left of these bytes, and this fault is told of it, where so many bytes came with them in all.
+-- No value goes on with what is left of these bytes, and this fault is told of it, where so many bytes came with them
+-- in all.
 pub record IsBroken (bytes left : List ℕ) (total : ℕ) (fault : JsonFault) : Type 0 where
   pub mode : Mode
   pub brackets : List Bracket
@@ -199,7 +206,9 @@ pub record IsRefusedIn (bytes : List ℕ) (total : ℕ) (fault : JsonFault) : Ty
   pub more : List ℕ
   pub broken : IsBroken bytes (byte ∷ more) total fault
 
--- What is left of these bytes, whose last ones are a piece, of which so many were used: all, where the value is under way.
+-- What is left of these bytes, whose last ones are a piece, of which so many were used: all, where the value is under
+-- way.
 abbrev pub HasFed : List ℕ → List ℕ → List ℕ → ℕ → Option (List ℕ) → Type 0
 HasFed bytes piece left used None = (used ≡ length piece) × (left ≡ bytes) × IsKept left
-HasFed bytes piece left used (Some text) = (left ≡ []) × (used ≤ length piece) × (end : ℕ) × (used + length bytes ≡ end + length piece) × Came bytes 0 (taken.Ended text end)
+HasFed bytes piece left used (Some text) = (left ≡ []) × (used ≤ length piece) × (end : ℕ)
+    × (used + length bytes ≡ end + length piece) × Came bytes 0 (taken.Ended text end)

@@ -24,12 +24,13 @@ pub(crate) struct Place {
     pub value: Span,
 }
 
-/// How many members are few, as an element's are: room is made for so many at once, and their names are compared one by one.
+/// How many members are few, as an element's are: room is made for so many at once, and their names are compared one by
+/// one.
 pub(crate) const FEW: usize = 40;
 
-/// Where a name comes again among the members that are all of the text, writes the text anew: the last value stands at the
-/// first one's place. Names are equal where their quotes are. Among many an ordered map finds them, so that no choice of
-/// names makes this slow.
+/// Where a name comes again among the members that are all of the text, writes the text anew: the last value stands at
+/// the first one's place. Names are equal where their quotes are. Among many an ordered map finds them, so that no
+/// choice of names makes this slow.
 pub(crate) fn collapse(
     alloc: Global,
     text: &mut Vec<u8>,
@@ -65,8 +66,8 @@ fn are_distinct(bytes: &[u8], places: &[Place]) -> bool
     true
 }
 
-/// A number below 256 that is the same for equal names, and mostly another one for others: the names of an element's members
-/// have one each.
+/// A number below 256 that is the same for equal names, and mostly another one for others: the names of an element's
+/// members have one each.
 fn mark_of(name: &[u8]) -> usize
     ensures value { result ≡ mark_of name.now }
     ensures small { result < 256 }
@@ -103,7 +104,8 @@ fn kept_places(
     places: &[Place],
 ) -> Result<Option<Vec<Place>>, AllocError>
     requires { AreWithin (length bytes.now) places.now }
-    ensures kept { IfOk result (λ found. MatchOption found (collapsed (entries bytes.now places.now) ≡ entries bytes.now places.now)
+    ensures kept { IfOk result (λ found. MatchOption found
+        (collapsed (entries bytes.now places.now) ≡ entries bytes.now places.now)
         (λ kept. entries bytes.now kept.items ≡ collapsed (entries bytes.now places.now))) }
     ensures within { IfOk result (λ found. IfSome found (λ kept. AreWithin (length bytes.now) kept.items)) }
 {
@@ -129,7 +131,11 @@ fn kept_places(
 /// Has this value stand at a place.
 fn keep_last(kept: &mut Vec<Place>, first: usize, value: Span)
     requires { first < length kept.old.items }
-    ensures { kept.new.items ≡ slice_set kept.old.items first (record { name = (slice_index_or kept.old.items first (record { name = value; value = value })).name; value = value }) }
+    ensures { kept.new.items ≡ slice_set kept.old.items first
+        (record {
+          name = (slice_index_or kept.old.items first (record { name = value; value = value })).name;
+          value = value;
+        }) }
 {
     let name = kept[first].name;
     kept[first] = Place { name, value };

@@ -95,13 +95,15 @@ impl Feed {
         ensures under_way { IfOk result (λ fed. fed.value ≡ None → IsUnderWay self.new.rest) }
         ensures emptied { IfOk result (λ fed. (text : List ℕ) → fed.value ≡ Some text
             → self.new ≡ record { rest = []; used = self.old.used + fed.used; fault = None }) }
-        ensures some { IfOk result (λ fed. (text : List ℕ) → fed.value ≡ Some text → 0 < length self.old.rest + fed.used) }
-        ensures faulty { (fault : JsonFault) → result ≡ Err (Stop.Fault fault) → self.new ≡ record self.old { fault = Some fault } }
+        ensures some { IfOk result (λ fed. (text : List ℕ) → fed.value ≡ Some text
+            → 0 < length self.old.rest + fed.used) }
+        ensures faulty { (fault : JsonFault) → result ≡ Err (Stop.Fault fault)
+            → self.new ≡ record self.old { fault = Some fault } }
         ensures again { (fault : JsonFault) → self.old.fault ≡ Some fault → result ≡ Err (Stop.Fault fault) }
         ensures memory { result ≡ Err Stop.Memory → self.new ≡ self.old }
 
-        // Wherever the feed stands in a stream: it goes on there; the value stands there, however the stream goes on; and
-        // so does the first fault.
+        // Wherever the feed stands in a stream: it goes on there; the value stands there, however the stream goes on;
+        // and so does the first fault.
         ensures going { IfOk result (λ fed. fed.value ≡ None → (stream : List ℕ) (start : ℕ)
             → IsAt stream start piece.now self.old → IsAt stream start [] self.new) }
         ensures value { IfOk result (λ fed. (text : List ℕ) → fed.value ≡ Some text → (stream : List ℕ) (start : ℕ)
@@ -127,14 +129,15 @@ impl Feed {
         }
     }
 
-    /// Ends the stream, and gives a number that only the end has ended. `None` comes exactly where nothing or white space
-    /// alone stands behind the last value, so that a further value is missing at the stream's end; a fault, where a value
-    /// has begun and isn't whole, and it is kept.
+    /// Ends the stream, and gives a number that only the end has ended. `None` comes exactly where nothing or white
+    /// space alone stands behind the last value, so that a further value is missing at the stream's end; a fault, where
+    /// a value has begun and isn't whole, and it is kept.
     pub fn end(&mut self) -> Result<Option<Raw>, Stop<JsonFault>>
         ensures none { IfOk result (λ found. found ≡ None → (self.old.rest ≡ []) × (self.new ≡ self.old)) }
         ensures emptied { IfOk result (λ found. (text : List ℕ) → found ≡ Some text
             → self.new ≡ record { rest = []; used = self.old.used; fault = None }) }
-        ensures faulty { (fault : JsonFault) → result ≡ Err (Stop.Fault fault) → self.new ≡ record self.old { fault = Some fault } }
+        ensures faulty { (fault : JsonFault) → result ≡ Err (Stop.Fault fault)
+            → self.new ≡ record self.old { fault = Some fault } }
         ensures again { (fault : JsonFault) → self.old.fault ≡ Some fault → result ≡ Err (Stop.Fault fault) }
         ensures memory { result ≡ Err Stop.Memory → self.new ≡ self.old }
 
@@ -179,8 +182,10 @@ fn read_piece(
     requires room { used + length piece.now < 2 ^ 64 }
     requires read { IsRead rest.old.items 0 reader.old }
     requires kept { IsKept rest.old.items }
-    ensures fed { IfOk result (λ fed. HasFed (behind_space (rest.old.items ++ piece.now)) piece.now rest.new.items fed.used fed.value) }
-    ensures fault { (fault : JsonFault) → result ≡ Err (Stop.Fault fault) → IsRefusedIn (behind_space (rest.old.items ++ piece.now)) (used + length piece.now) fault }
+    ensures fed { IfOk result (λ fed. HasFed (behind_space (rest.old.items ++ piece.now)) piece.now
+        rest.new.items fed.used fed.value) }
+    ensures fault { (fault : JsonFault) → result ≡ Err (Stop.Fault fault)
+        → IsRefusedIn (behind_space (rest.old.items ++ piece.now)) (used + length piece.now) fault }
     ensures read { IsRead rest.new.items 0 reader.new }
     ensures unchanged { OnErr result (rest.new.items ≡ rest.old.items) }
 {
@@ -202,8 +207,10 @@ fn read_first(
     requires room { used + length piece.now < 2 ^ 64 }
     requires none { rest.old.items ≡ [] }
     requires read { IsRead rest.old.items 0 reader.old }
-    ensures fed { IfOk result (λ fed. HasFed (behind_space (rest.old.items ++ piece.now)) piece.now rest.new.items fed.used fed.value) }
-    ensures fault { (fault : JsonFault) → result ≡ Err (Stop.Fault fault) → IsRefusedIn (behind_space (rest.old.items ++ piece.now)) (used + length piece.now) fault }
+    ensures fed { IfOk result (λ fed. HasFed (behind_space (rest.old.items ++ piece.now)) piece.now
+        rest.new.items fed.used fed.value) }
+    ensures fault { (fault : JsonFault) → result ≡ Err (Stop.Fault fault)
+        → IsRefusedIn (behind_space (rest.old.items ++ piece.now)) (used + length piece.now) fault }
     ensures read { IsRead rest.new.items 0 reader.new }
     ensures unchanged { OnErr result (rest.new.items ≡ rest.old.items) }
 {
@@ -228,7 +235,8 @@ fn read_first(
     }
 }
 
-/// Reads a further piece of a value, behind the rest. Where memory is wanting, the next reading begins with the rest anew.
+/// Reads a further piece of a value, behind the rest. Where memory is wanting, the next reading begins with the rest
+/// anew.
 #[tactic(auto, using(crate::proofs::Feeds::behind_on, crate::proofs::Feeds::late_ended, crate::proofs::Feeds::late_refused, crate::proofs::Feeds::fed_steps))]
 fn read_more(
     reader: &mut Reader,
@@ -240,8 +248,10 @@ fn read_more(
     requires some { rest.old.items ≡ [] → ⊥ }
     requires read { IsRead rest.old.items 0 reader.old }
     requires kept { IsKept rest.old.items }
-    ensures fed { IfOk result (λ fed. HasFed (behind_space (rest.old.items ++ piece.now)) piece.now rest.new.items fed.used fed.value) }
-    ensures fault { (fault : JsonFault) → result ≡ Err (Stop.Fault fault) → IsRefusedIn (behind_space (rest.old.items ++ piece.now)) (used + length piece.now) fault }
+    ensures fed { IfOk result (λ fed. HasFed (behind_space (rest.old.items ++ piece.now)) piece.now
+        rest.new.items fed.used fed.value) }
+    ensures fault { (fault : JsonFault) → result ≡ Err (Stop.Fault fault)
+        → IsRefusedIn (behind_space (rest.old.items ++ piece.now)) (used + length piece.now) fault }
     ensures read { IsRead rest.new.items 0 reader.new }
     ensures unchanged { OnErr result (rest.new.items ≡ rest.old.items) }
 {

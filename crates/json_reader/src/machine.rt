@@ -113,8 +113,8 @@ impl Machine {
         }
     }
 
-    /// Takes one byte more, unless no value goes on with it. Few bytes need it: it is one call, for which the machine stays in
-    /// memory.
+    /// Takes one byte more, unless no value goes on with it. Few bytes need it: it is one call, for which the machine
+    /// stays in memory.
     #[inline(never)]
     pub(crate) fn step(&mut self, byte: u8) -> Step
         ensures { Stepped self.old self.new result byte }
@@ -141,7 +141,8 @@ impl Machine {
     pub(crate) fn stay_end(&self, ground: Ground, bytes: &[u8], at: usize) -> usize
         requires { at ≤ length bytes.now }
         ensures within { (at ≤ result) × (result ≤ length bytes.now) }
-        ensures stays { AllByRecursion (λ b. moved self.now.mode (top self.now.brackets) b ≡ To self.now.mode) (take (result - at) (drop at bytes.now)) }
+        ensures stays { AllByRecursion (λ b. moved self.now.mode (top self.now.brackets) b ≡ To self.now.mode)
+            (take (result - at) (drop at bytes.now)) }
         ensures alike { AreAlike ground (take (result - at) (drop at bytes.now)) }
     {
         stay_end(self.mode, self.brackets.top(), ground, bytes, at)
@@ -150,7 +151,8 @@ impl Machine {
     /// Takes a quote, if a string begins with it.
     #[inline(always)]
     pub(crate) fn begin_string(&mut self) -> bool
-        ensures taken { IsTrue result → step 128 self.old.mode self.old.brackets 34 ≡ state self.new.mode self.new.brackets }
+        ensures taken { IsTrue result → step 128 self.old.mode self.old.brackets 34
+            ≡ state self.new.mode self.new.brackets }
         ensures left { result ≡ false → self.new ≡ self.old }
     {
         let role = match (self.mode, self.brackets.top()) {
@@ -165,7 +167,8 @@ impl Machine {
     /// Takes a comma behind a value.
     #[inline(always)]
     pub(crate) fn separate(&mut self) -> bool
-        ensures taken { IsTrue result → step 128 self.old.mode self.old.brackets 44 ≡ state self.new.mode self.new.brackets }
+        ensures taken { IsTrue result → step 128 self.old.mode self.old.brackets 44
+            ≡ state self.new.mode self.new.brackets }
         ensures left { result ≡ false → self.new ≡ self.old }
     {
         match (self.mode, self.brackets.top()) {
@@ -181,7 +184,8 @@ impl Machine {
     /// Takes a byte with which a part of a number begins, up to its fraction.
     #[inline(always)]
     pub(crate) fn begin_part(&mut self, byte: u8) -> bool
-        ensures taken { IsTrue result → step 128 self.old.mode self.old.brackets byte ≡ state self.new.mode self.new.brackets }
+        ensures taken { IsTrue result → step 128 self.old.mode self.old.brackets byte
+            ≡ state self.new.mode self.new.brackets }
         ensures left { result ≡ false → self.new ≡ self.old }
     {
         let part = match (self.mode, self.brackets.top()) {
@@ -201,7 +205,8 @@ impl Machine {
     /// Takes a letter of a word, a bracket, or a space where a value must come; other bytes it leaves.
     #[inline(always)]
     pub(crate) fn follow(&mut self, byte: u8) -> bool
-        ensures taken { IsTrue result → step 128 self.old.mode self.old.brackets byte ≡ state self.new.mode self.new.brackets }
+        ensures taken { IsTrue result → step 128 self.old.mode self.old.brackets byte
+            ≡ state self.new.mode self.new.brackets }
         ensures left { result ≡ false → self.new ≡ self.old }
     {
         match byte {
@@ -216,7 +221,8 @@ impl Machine {
     /// Takes a letter of a word, or a space where a value must come; other bytes it leaves.
     #[inline(always)]
     fn go_on(&mut self, byte: u8) -> bool
-        ensures taken { IsTrue result → step 128 self.old.mode self.old.brackets byte ≡ state self.new.mode self.new.brackets }
+        ensures taken { IsTrue result → step 128 self.old.mode self.old.brackets byte
+            ≡ state self.new.mode self.new.brackets }
         ensures left { result ≡ false → self.new ≡ self.old }
     {
         self.mode = match (self.mode, byte) {
@@ -233,7 +239,8 @@ impl Machine {
     /// Takes the bracket that opens an array or an object.
     #[inline(always)]
     fn open(&mut self, bracket: Bracket) -> bool
-        ensures taken { IsTrue result → step 128 self.old.mode self.old.brackets (opening (container_of bracket)) ≡ state self.new.mode self.new.brackets }
+        ensures taken { IsTrue result → step 128 self.old.mode self.old.brackets
+            (opening (container_of bracket)) ≡ state self.new.mode self.new.brackets }
         ensures left { result ≡ false → self.new ≡ self.old }
     {
         let may_open = match (self.mode, self.brackets.top()) {
@@ -250,7 +257,8 @@ impl Machine {
     /// Takes the bracket that closes an array or an object.
     #[inline(always)]
     fn close(&mut self, bracket: Bracket) -> bool
-        ensures taken { IsTrue result → step 128 self.old.mode self.old.brackets (closing (container_of bracket)) ≡ state self.new.mode self.new.brackets }
+        ensures taken { IsTrue result → step 128 self.old.mode self.old.brackets
+            (closing (container_of bracket)) ≡ state self.new.mode self.new.brackets }
         ensures left { result ≡ false → self.new ≡ self.old }
     {
         let may_close = match (bracket, self.brackets.top()) {
@@ -274,7 +282,8 @@ impl Machine {
     /// Takes the end of a string between two characters; other bytes it leaves.
     #[inline(always)]
     pub(crate) fn end_string(&mut self, byte: u8) -> bool
-        ensures taken { IsTrue result → step 128 self.old.mode self.old.brackets byte ≡ state self.new.mode self.new.brackets }
+        ensures taken { IsTrue result → step 128 self.old.mode self.old.brackets byte
+            ≡ state self.new.mode self.new.brackets }
         ensures left { result ≡ false → self.new ≡ self.old }
     {
         let (Mode::Quoted(role, Place::Plain), b'"') = (self.mode, byte) else {
@@ -287,7 +296,8 @@ impl Machine {
     /// Takes the colon behind a name; other bytes it leaves.
     #[inline(always)]
     pub(crate) fn end_name(&mut self, byte: u8) -> bool
-        ensures taken { IsTrue result → step 128 self.old.mode self.old.brackets byte ≡ state self.new.mode self.new.brackets }
+        ensures taken { IsTrue result → step 128 self.old.mode self.old.brackets byte
+            ≡ state self.new.mode self.new.brackets }
         ensures left { result ≡ false → self.new ≡ self.old }
     {
         let (Mode::Colon, b':') = (self.mode, byte) else {

@@ -48,8 +48,8 @@ impl Reader {
         }
     }
 
-    /// Reads on to the value's end, to a byte that is refused, or to the end of these bytes, which begin with those that
-    /// were read before.
+    /// Reads on to the value's end, to a byte that is refused, or to the end of these bytes, which begin with those
+    /// that were read before.
     pub(crate) fn read(self, alloc: Global, bytes: &[u8]) -> Result<Taken, AllocError>
         requires { (at : ℕ) × IsRead bytes.now at self }
         ensures { IfOk result (λ taken. (at : ℕ) → IsRead bytes.now at self → Came bytes.now at taken) }
@@ -77,11 +77,14 @@ impl Reader {
         }))
     }
 
-    /// The value that ends with these bytes, all of which were read; or the fault where they break off, with this place.
+    /// The value that ends with these bytes, all of which were read; or the fault where they break off, with this
+    /// place.
     pub(crate) fn finish(self, bytes: &[u8], place: usize) -> Result<Raw, Stop<JsonFault>>
         requires { (at : ℕ) × IsRead bytes.now at self × (self.next ≡ length bytes.now) }
-        ensures value { IfOk result (λ value. (at : ℕ) → IsRead bytes.now at self → Stands (drop at bytes.now) value (drop self.next bytes.now)) }
-        ensures fault { (fault : JsonFault) → result ≡ Err (Stop.Fault fault) → (at : ℕ) → IsRead bytes.now at self → IsBroken (drop at bytes.now) [] place fault }
+        ensures value { IfOk result (λ value. (at : ℕ) → IsRead bytes.now at self
+            → Stands (drop at bytes.now) value (drop self.next bytes.now)) }
+        ensures fault { (fault : JsonFault) → result ≡ Err (Stop.Fault fault) → (at : ℕ)
+            → IsRead bytes.now at self → IsBroken (drop at bytes.now) [] place fault }
     {
         let Reader {
             machine,
@@ -98,15 +101,17 @@ impl Reader {
 
 /// The value that stands before an offset.
 fn value_of(writer: Writer, bytes: &[u8], end: usize) -> Result<Raw, AllocError>
-    requires { (at : ℕ) × (machine : Machine) × HasRead bytes.now at end machine writer × Ends machine.mode machine.brackets (drop end bytes.now) }
+    requires { (at : ℕ) × (machine : Machine) × HasRead bytes.now at end machine writer
+        × Ends machine.mode machine.brackets (drop end bytes.now) }
     ensures { IfOk result (λ value. (at : ℕ) (machine : Machine) → HasRead bytes.now at end machine writer
-        → Ends machine.mode machine.brackets (drop end bytes.now) → Stands (drop at bytes.now) value (drop end bytes.now)) }
+        → Ends machine.mode machine.brackets (drop end bytes.now)
+        → Stands (drop at bytes.now) value (drop end bytes.now)) }
 {
     Ok(Raw::from_compact(writer.into_text(bytes, end)?)?)
 }
 
-/// Writes the byte at an offset, which the machine has taken, and takes the stretch behind it that leaves the machine as it
-/// is. It gives the offset after them.
+/// Writes the byte at an offset, which the machine has taken, and takes the stretch behind it that leaves the machine
+/// as it is. It gives the offset after them.
 #[inline(always)]
 fn take(
     alloc: Global,
@@ -116,7 +121,8 @@ fn take(
     next: usize,
 ) -> Result<usize, AllocError>
     requires within { next < length bytes.now }
-    requires read { (at : ℕ) × (before : Machine) × HasRead bytes.now at next before writer.old × GoesOn before (slice_index bytes.now next) machine.old }
+    requires read { (at : ℕ) × (before : Machine) × HasRead bytes.now at next before writer.old
+        × GoesOn before (slice_index bytes.now next) machine.old }
     ensures within { IfOk result (λ end. (next < end) × (end ≤ length bytes.now)) }
     ensures read { IfOk result (λ end. (at : ℕ) (before : Machine) → HasRead bytes.now at next before writer.old
         → GoesOn before (slice_index bytes.now next) machine.old → HasRead bytes.now at end machine.new writer.new) }
@@ -138,16 +144,18 @@ fn put(
 ) -> Result<(), AllocError>
     requires within { next < length bytes.now }
     requires byte { slice_index bytes.now next ≡ byte }
-    requires read { (at : ℕ) × (before : Machine) × HasRead bytes.now at next before writer.old × GoesOn before (slice_index bytes.now next) machine.now }
+    requires read { (at : ℕ) × (before : Machine) × HasRead bytes.now at next before writer.old
+        × GoesOn before (slice_index bytes.now next) machine.now }
     ensures { OnOk result ((at : ℕ) (before : Machine) → HasRead bytes.now at next before writer.old
-        → GoesOn before (slice_index bytes.now next) machine.now → HasRead bytes.now at (next + 1) machine.now writer.new) }
+        → GoesOn before (slice_index bytes.now next) machine.now
+        → HasRead bytes.now at (next + 1) machine.now writer.new) }
 {
     writer.put(alloc, bytes, next, byte)?;
     Ok(())
 }
 
-/// Takes what most often follows at an offset, up to a character of a string that is escaped or isn't ASCII. It gives the
-/// offset after that.
+/// Takes what most often follows at an offset, up to a character of a string that is escaped or isn't ASCII. It gives
+/// the offset after that.
 #[inline(always)]
 fn follow(
     alloc: Global,
@@ -170,8 +178,8 @@ fn follow(
     Ok(next)
 }
 
-/// Takes what most often stands at an offset, and gives the offset after that. What is most frequent has an arm of its own,
-/// in which it is known what its byte does.
+/// Takes what most often stands at an offset, and gives the offset after that. What is most frequent has an arm of its
+/// own, in which it is known what its byte does.
 #[inline(always)]
 fn take_next(
     alloc: Global,
@@ -216,8 +224,8 @@ fn take_next(
     }
 }
 
-/// Takes what is left of a string, up to a character that is escaped or isn't ASCII, its end, and the colon behind a name.
-/// It gives the offset after that.
+/// Takes what is left of a string, up to a character that is escaped or isn't ASCII, its end, and the colon behind a
+/// name. It gives the offset after that.
 #[inline(always)]
 fn finish_string(
     alloc: Global,

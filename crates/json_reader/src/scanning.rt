@@ -11,8 +11,9 @@ use board_base::Stop;
 use json_text::Raw;
 use std::alloc::Global;
 
-/// The one value that stands behind white space from `at` on, and the offset after it; or the first fault there, with its
-/// place among all bytes. RFC 8259; that at most 128 brackets may be open and the faults' places are this project's own.
+/// The one value that stands behind white space from `at` on, and the offset after it; or the first fault there, with
+/// its place among all bytes. RFC 8259; that at most 128 brackets may be open and the faults' places are this project's
+/// own.
 pub fn scan(alloc: Global, bytes: &[u8], at: usize) -> Result<(Raw, usize), Stop<JsonFault>>
     requires { at ≤ length bytes.now }
     ensures within { IfOk result (λ found. (at ≤ found.1) × (found.1 ≤ length bytes.now)) }

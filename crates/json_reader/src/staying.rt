@@ -21,8 +21,8 @@ pub(crate) enum Ground {
     Between,
 }
 
-/// Where a stretch from `at` on ends whose bytes all leave the mode as it is: plain characters of a string, or digits of a
-/// number or white space outside strings.
+/// Where a stretch from `at` on ends whose bytes all leave the mode as it is: plain characters of a string, or digits
+/// of a number or white space outside strings.
 #[inline(always)]
 pub(crate) fn stay_end(
     mode: Mode,

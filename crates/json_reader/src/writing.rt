@@ -1,7 +1,7 @@
 //! The compact text of a value, written while its bytes come.
 //!
-//! The writer looks at no more than a byte at a time, and takes what the machine has taken: white space outside strings is
-//! dropped, strings are quoted anew where they have escapes, and of equal names in an object the last value is kept.
+//! The writer looks at no more than a byte at a time, and takes what the machine has taken: white space outside strings
+//! is dropped, strings are quoted anew where they have escapes, and of equal names in an object the last value is kept.
 
 ghost use Rattle.std.specs.Prelude.{◌≡◌, ℕ, ◌+◌, ◌<◌, ◌≤◌, List, [], ◌++◌, true, false, length, slice_index, IfOk, OnOk};
 ghost use Rattle.json_text.specs.Walk.{outside, inside};
@@ -44,8 +44,8 @@ pub(crate) enum Deed {
     Push,
 }
 
-/// The writer of one value's compact text. What is to be written as it stands is copied from the bytes that are read, as
-/// late as can be.
+/// The writer of one value's compact text. What is to be written as it stands is copied from the bytes that are read,
+/// as late as can be.
 pub(crate) struct Writer {
     /// A string is open.
     quoted: bool,
@@ -111,8 +111,11 @@ impl Writer {
         requires within { next < length bytes.now }
         requires byte { slice_index bytes.now next ≡ byte }
         requires fits { Fits next self.old }
-        requires can { Can (deed_at (writing_at bytes.now next self.old) (slice_index bytes.now next)) (writing_at bytes.now next self.old) (slice_index bytes.now next) }
-        ensures { OnOk result (HasPut (deed_at (writing_at bytes.now next self.old) (slice_index bytes.now next)) bytes.now next self.old self.new) }
+        requires can { Can (deed_at (writing_at bytes.now next self.old) (slice_index bytes.now next))
+            (writing_at bytes.now next self.old) (slice_index bytes.now next) }
+        ensures { OnOk result
+            (HasPut (deed_at (writing_at bytes.now next self.old) (slice_index bytes.now next)) bytes.now next
+            self.old self.new) }
     {
         if self.quoted {
             self.put_quoted(alloc, bytes, next, byte)
@@ -132,14 +135,15 @@ impl Writer {
         }
     }
 
-    /// Takes the stretch between two offsets: bytes of a string that are no `"` and no `\`, or bytes outside strings that are
-    /// appended as they are or are all white space.
+    /// Takes the stretch between two offsets: bytes of a string that are no `"` and no `\`, or bytes outside strings
+    /// that are appended as they are or are all white space.
     #[tactic(auto, using(crate::proofs::Copying::stretch_in, crate::proofs::Copying::stretch_on, crate::proofs::Copying::stretch_skipped))]
     pub(crate) fn put_all(&mut self, bytes: &[u8], at: usize, end: usize) -> Result<(), AllocError>
         requires within { (at ≤ end) × (end ≤ length bytes.now) }
         requires fits { Fits at self.old }
         requires alike { AreAlike (ground_of self.old) (stretch bytes.now at end) }
-        ensures ready { OnOk result ((text more : List ℕ) → Ready text (writing_at bytes.now at self.old) (stretch bytes.now at end ++ more)
+        ensures ready { OnOk result ((text more : List ℕ)
+            → Ready text (writing_at bytes.now at self.old) (stretch bytes.now at end ++ more)
             → Ready text (writing_at bytes.now end self.new) more) }
         ensures fits { OnOk result (Fits end self.new) }
     {
@@ -160,7 +164,8 @@ impl Writer {
         requires within { end ≤ length bytes.now }
         requires fits { Fits end self }
         requires whole { (text : List ℕ) × (writing_at bytes.now end self ≡ between (grown fresh text) []) }
-        ensures { IfOk result (λ written. (text : List ℕ) → writing_at bytes.now end self ≡ between (grown fresh text) [] → written.items ≡ text) }
+        ensures { IfOk result (λ written. (text : List ℕ) → writing_at bytes.now end self
+            ≡ between (grown fresh text) [] → written.items ≡ text) }
     {
         let Writer {
             quoted: _quoted,
@@ -190,8 +195,11 @@ impl Writer {
         requires within { next < length bytes.now }
         requires byte { slice_index bytes.now next ≡ byte }
         requires fits { Fits next self.old }
-        requires can { Can (deed (inside self.old.escaped) self.old.here.level (slice_index bytes.now next)) (writing_at bytes.now next self.old) (slice_index bytes.now next) }
-        ensures { OnOk result (HasPut (deed (inside self.old.escaped) self.old.here.level (slice_index bytes.now next)) bytes.now next self.old self.new) }
+        requires can { Can (deed (inside self.old.escaped) self.old.here.level (slice_index bytes.now next))
+            (writing_at bytes.now next self.old) (slice_index bytes.now next) }
+        ensures { OnOk result
+            (HasPut (deed (inside self.old.escaped) self.old.here.level (slice_index bytes.now next))
+            bytes.now next self.old self.new) }
     {
         if self.escaped {
             self.escaped = false;
@@ -222,8 +230,10 @@ impl Writer {
         requires within { next < length bytes.now }
         requires byte { slice_index bytes.now next ≡ byte }
         requires fits { Fits next self.old }
-        requires can { Can (deed outside self.old.here.level (slice_index bytes.now next)) (writing_at bytes.now next self.old) (slice_index bytes.now next) }
-        ensures { OnOk result (HasPut (deed outside self.old.here.level (slice_index bytes.now next)) bytes.now next self.old self.new) }
+        requires can { Can (deed outside self.old.here.level (slice_index bytes.now next))
+            (writing_at bytes.now next self.old) (slice_index bytes.now next) }
+        ensures { OnOk result (HasPut (deed outside self.old.here.level (slice_index bytes.now next))
+            bytes.now next self.old self.new) }
     {
         match deed_between(self.here.level(), byte) {
             Deed::Begin => {
@@ -359,7 +369,8 @@ impl Writer {
     #[tactic(auto, using(crate::proofs::Copying::later_steps))]
     fn deepen(&mut self) -> Result<(), AllocError>
         requires { self.old.quoted ≡ false }
-        ensures { OnOk result ((bytes : List ℕ) (next : ℕ) → next < length bytes → Fits next self.old → HasPut Deepen bytes next self.old self.new) }
+        ensures { OnOk result ((bytes : List ℕ) (next : ℕ) → next < length bytes → Fits next self.old
+            → HasPut Deepen bytes next self.old self.new) }
     {
         self.here.deepen()?;
         Ok(())
@@ -369,7 +380,8 @@ impl Writer {
     #[tactic(auto, using(crate::proofs::Copying::later_steps))]
     fn rise(&mut self)
         requires { self.old.quoted ≡ false }
-        ensures { (bytes : List ℕ) (next : ℕ) → next < length bytes → Fits next self.old → HasPut Rise bytes next self.old self.new }
+        ensures { (bytes : List ℕ) (next : ℕ) → next < length bytes → Fits next self.old
+            → HasPut Rise bytes next self.old self.new }
     {
         self.here.rise();
     }
@@ -378,7 +390,8 @@ impl Writer {
     #[tactic(auto, using(crate::proofs::Copying::later_steps))]
     fn push(&mut self)
         requires { self.old.quoted ≡ false }
-        ensures { (bytes : List ℕ) (next : ℕ) → next < length bytes → Fits next self.old → HasPut Push bytes next self.old self.new }
+        ensures { (bytes : List ℕ) (next : ℕ) → next < length bytes → Fits next self.old
+            → HasPut Push bytes next self.old self.new }
     {}
 
     /// Copies the bytes before an offset that aren't copied yet.

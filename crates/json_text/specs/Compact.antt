@@ -1,5 +1,5 @@
--- The compact text of a tree. RFC 8259, sections 4, 5 and 7; that literals are kept, which of two equal names counts, and
--- what a lone surrogate stands for is this project's own.
+-- The compact text of a tree. RFC 8259, sections 4, 5 and 7; that literals are kept, which of two equal names counts,
+-- and what a lone surrogate stands for is this project's own.
 use Rattle.std.specs.Prelude.{ℕ, ◌+◌, ◌*◌, ◌-◌, List, [], ◌∷◌, ◌++◌, Bool, not, ◌&&◌, ◌||◌, nat_le, nat_lt, if◌then◌else◌, map, filter, encode_utf8_all}
 use Rattle.std.specs.List.{join_with_byte}
 use Rattle.std.specs.Str.{bytes_eq}

@@ -13,7 +13,8 @@ abbrev pub AreDigits : List ℕ → Type 0
 AreDigits s = (first : ℕ) × (more : List ℕ) × (s ≡ first ∷ more) × (list_all is_digit s ≡ true)
 
 abbrev pub IsIntegerPart : List ℕ → Type 0
-IsIntegerPart s = (s ≡ 48 ∷ []) ⊎ ((first : ℕ) × (more : List ℕ) × (s ≡ first ∷ more) × (first ≢ 48) × (list_all is_digit s ≡ true))
+IsIntegerPart s = (s ≡ 48 ∷ []) ⊎ ((first : ℕ) × (more : List ℕ) × (s ≡ first ∷ more) × (first ≢ 48)
+    × (list_all is_digit s ≡ true))
 
 abbrev pub IsFraction : List ℕ → Type 0
 IsFraction s = (s ≡ []) ⊎ ((digits : List ℕ) × (s ≡ 46 ∷ digits) × AreDigits digits)
@@ -46,7 +47,8 @@ false_word = 102 ∷ 97 ∷ 108 ∷ 115 ∷ 101 ∷ []
 abbrev pub IsWord : List ℕ → Type 0
 IsWord s = (s ≡ null_word) ⊎ ((s ≡ true_word) ⊎ (s ≡ false_word))
 
--- A piece of a string: a character as it stands, `\` and a letter, or `\u` and four digits of base 16. RFC 8259, section 7.
+-- A piece of a string: a character as it stands, `\` and a letter, or `\u` and four digits of base 16. RFC 8259,
+-- section 7.
 pub data Piece : Type 0 where
   bare : ℕ → Piece
   letter : ℕ → Piece

@@ -58,7 +58,8 @@ IsInString bytes = (zeros : ℕ) × Begins 128 (bytes ++ (replicate zeros 48 ++ 
 
 -- a first part of the UTF-8 bytes of a character, neither empty nor whole
 abbrev pub IsUnfinished : List ℕ → Type 0
-IsUnfinished bytes = (c first : ℕ) × (more next : _) × IsScalar c × (bytes ≡ first ∷ more) × (encode_utf8 c ≡ bytes ++ next) × (next ≢ [])
+IsUnfinished bytes = (c first : ℕ) × (more next : _) × IsScalar c × (bytes ≡ first ∷ more)
+    × (encode_utf8 c ≡ bytes ++ next) × (next ≢ [])
 
 -- no value stands at the front of the text
 abbrev pub IsFaulty : List ℕ → Type 0

@@ -30,7 +30,8 @@ unit_at bytes = unit (slice_index bytes 2) (slice_index bytes 3) (slice_index by
 -- A `\u` and the four digits of this number stand at the front. RFC 8259, section 7.
 abbrev pub StartsWithUnit : List ℕ → ℕ → Type 0
 StartsWithUnit bytes value =
-    (6 ≤ length bytes) × (slice_index bytes 0 ≡ 92) × (slice_index bytes 1 ≡ 117) × (piece_value (unit_at bytes) ≡ value)
+    (6 ≤ length bytes) × (slice_index bytes 0 ≡ 92) × (slice_index bytes 1 ≡ 117)
+    × (piece_value (unit_at bytes) ≡ value)
 
 -- outside strings, or in one and perhaps behind a backslash
 pub data Place : Type 0 where

@@ -20,7 +20,8 @@ use std::alloc::{AllocError, Global};
 #[inline(always)]
 pub fn text_at(alloc: Global, value: &Raw, at: usize) -> Result<(Text, usize), AllocError>
     requires { (text rest : List ℕ) × Quoted (drop at value.now) text rest }
-    ensures found { IfOk result (λ found. (text rest : List ℕ) → Quoted (drop at value.now) text rest → (found.0 ≡ text) × (drop found.1 value.now ≡ rest)) }
+    ensures found { IfOk result (λ found. (text rest : List ℕ) → Quoted (drop at value.now) text rest
+        → (found.0 ≡ text) × (drop found.1 value.now ≡ rest)) }
     ensures within { IfOk result (λ found. (at < found.1) × (found.1 ≤ length value.now)) }
 {
     let bytes = value.as_bytes();
@@ -34,7 +35,8 @@ pub fn text_at(alloc: Global, value: &Raw, at: usize) -> Result<(Text, usize), A
 /// The text of the string at an offset, and the offset after the string.
 pub fn content_of(alloc: Global, bytes: &[u8], at: usize) -> Result<(Text, usize), AllocError>
     requires { (text rest : List ℕ) × Quoted (drop at bytes.now) text rest }
-    ensures found { IfOk result (λ found. (text rest : List ℕ) → Quoted (drop at bytes.now) text rest → (found.0 ≡ text) × (drop found.1 bytes.now ≡ rest)) }
+    ensures found { IfOk result (λ found. (text rest : List ℕ) → Quoted (drop at bytes.now) text rest
+        → (found.0 ≡ text) × (drop found.1 bytes.now ≡ rest)) }
     ensures within { IfOk result (λ found. (at < found.1) × (found.1 ≤ length bytes.now)) }
 {
     let mut text = Vec::new(alloc);
@@ -80,8 +82,10 @@ fn push_escape(out: &mut Vec<u8>, rest: &[u8]) -> Result<usize, AllocError>
 /// The low surrogate that follows, where the first unit is a high one.
 fn second_unit(first: u32, tail: &[u8]) -> Option<u32>
     requires { slice_index tail.now 0 ≡ 92 → slice_index tail.now 1 ≡ 117 → IsPiece (unit_at tail.now) }
-    ensures found { IfSome result (λ second. (Compact.is_high first ≡ true) × (Compact.is_low second ≡ true) × StartsWithUnit tail.now second) }
-    ensures none { IfNone result ((second : ℕ) → Compact.is_high first ≡ true → Compact.is_low second ≡ true → StartsWithUnit tail.now second → ⊥) }
+    ensures found { IfSome result (λ second. (Compact.is_high first ≡ true) × (Compact.is_low second ≡ true)
+        × StartsWithUnit tail.now second) }
+    ensures none { IfNone result ((second : ℕ) → Compact.is_high first ≡ true → Compact.is_low second ≡ true
+        → StartsWithUnit tail.now second → ⊥) }
 {
     if !is_high(first) {
         return None;

@@ -43,7 +43,8 @@ pub fn form_is_decided()
     ensures object { (text : List ℕ) → IsCompact 128 text
         → ((members : List Member) × AreMembers 127 members × (text ≡ object_text members))
         ⊎ ((members : List Member) → text ≢ object_text members) }
-    ensures nesting { (text : List ℕ) (limit : ℕ) → IsCompact 128 text → IsCompact limit text ⊎ (IsCompact limit text → ⊥) }
+    ensures nesting { (text : List ℕ) (limit : ℕ) → IsCompact 128 text → IsCompact limit text
+        ⊎ (IsCompact limit text → ⊥) }
 {}
 
 /// One text more joins the first occurrences at their end, if it isn't among the texts before.

@@ -8,8 +8,8 @@ use std::alloc::AllocError;
 use std::marker::Model;
 use std::rc::Rc;
 
-/// A list of bytes that never changes, so that its copies and its parts share one place in memory. It is as small as can
-/// be, since an element has some forty of them.
+/// A list of bytes that never changes, so that its copies and its parts share one place in memory. It is as small as
+/// can be, since an element has some forty of them.
 pub(crate) struct Stretch {
     held: Held,
 }
@@ -139,7 +139,8 @@ impl Stretch {
         Ok(Stretch { held })
     }
 
-    /// The bytes between two offsets, with their quote around them. It takes no memory, and fails only as `try_clone` does.
+    /// The bytes between two offsets, with their quote around them. It takes no memory, and fails only as `try_clone`
+    /// does.
     #[tactic(auto, using(crate::proofs::Spans::between_between, crate::proofs::Spans::quoted_between))]
     pub(crate) fn cut_quoted(&self, start: usize, end: usize) -> Result<Stretch, AllocError>
         requires { StandsQuoted self.now start end }
@@ -200,7 +201,12 @@ impl Part {
     /// The part between two offsets of this one.
     fn cut(&self, start: usize, end: usize) -> Result<Part, AllocError>
         requires { (start ≤ end) × (end ≤ length (bytes_at self.now)) }
-        ensures { IfOk result (λ part. part ≡ record { source = self.now.source; start = self.now.start + start; end = self.now.start + end }) }
+        ensures { IfOk result (λ part. part
+            ≡ record {
+              source = self.now.source;
+              start = self.now.start + start;
+              end = self.now.start + end;
+            }) }
     {
         Ok(Part {
             source: self.source.clone()?,

@@ -55,8 +55,8 @@ can_hold_text Iframe = false
 can_hold_text Embeddable = false
 can_hold_text (Other name) = false
 
--- whether an element of this kind without a container may be what an arrow is bound to: all but arrows, lines, freedraws
--- and unknown kinds
+-- whether an element of this kind without a container may be what an arrow is bound to: all but arrows, lines,
+-- freedraws and unknown kinds
 abbrev pub can_be_bound_to : Kind → Bool
 can_be_bound_to Rectangle = true
 can_be_bound_to Diamond = true

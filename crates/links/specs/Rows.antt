@@ -14,7 +14,8 @@ id_there (Some id) = id ∷ []
 
 -- the ids that an element names: its container's, its frame's and those that its ends are bound to, each once
 abbrev pub named_ids : ElementValue → List (List ℕ)
-named_ids e = first_texts (id_there e.container ++ (id_there e.frame ++ (id_there (target_of e.start_binding) ++ id_there (target_of e.end_binding))))
+named_ids e = first_texts (id_there e.container
+    ++ (id_there e.frame ++ (id_there (target_of e.start_binding) ++ id_there (target_of e.end_binding))))
 
 -- the row of an id that an element names, and the rows of all of them
 abbrev pub row_of : ElementValue → List ℕ → LinkRow
@@ -42,7 +43,8 @@ namer_of row = row.namer
 
 -- whether a row comes before another one: by the named id, and then by the namer
 abbrev pub is_earlier : LinkRow → LinkRow → Bool
-is_earlier row other = bytes_less row.named other.named || (bytes_eq row.named other.named && bytes_less row.namer other.namer)
+is_earlier row other = bytes_less row.named other.named ||
+    (bytes_eq row.named other.named && bytes_less row.namer other.namer)
 
 -- each row comes before those behind it, so that none stands twice
 abbrev pub AreRowsRising : List LinkRow → Type 0

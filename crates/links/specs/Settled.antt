@@ -11,7 +11,8 @@ use Rattle.links.specs.Texts.{is_for_text, settled_texts}
 -- an arrow names an element exactly if that element lists it
 abbrev pub ArrowsAgree : List ElementValue → Type 0
 ArrowsAgree list =
-    (arrow e : ElementValue) → Contains list arrow → Contains list e → has_end_at e.id arrow ≡ lists e.bound (arrow_entry arrow.id)
+    (arrow e : ElementValue) → Contains list arrow → Contains list e
+    → has_end_at e.id arrow ≡ lists e.bound (arrow_entry arrow.id)
 
 -- a text names a container exactly if the container lists it
 abbrev pub TextsAgree : List ElementValue → Type 0
@@ -45,7 +46,8 @@ is_linked e = not (length e.bound == 0) || (is_some e.container || (is_some e.st
 abbrev pub settled_links : List ElementValue → List ElementValue
 settled_links list = settled_arrows (settled_texts list)
 
--- the element without what settling doesn't look at: all but its id, its kind, its listing, its container and its bindings
+-- the element without what settling doesn't look at: all but its id, its kind, its listing, its container and its
+-- bindings
 abbrev pub unplaced : ElementValue → ElementValue
 unplaced e = record e {
   version = 0;

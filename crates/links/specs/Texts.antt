@@ -21,7 +21,8 @@ is_text_entry list container entry =
 
 -- the first text in a container's own listing that names it, and the first text of the list that names it
 abbrev pub listed_text : List ElementValue → ElementValue → Option (List ℕ)
-listed_text list container = option_map (λ (entry : BoundRef). entry.id) (find (is_text_entry list container) container.bound)
+listed_text list container = option_map (λ (entry : BoundRef). entry.id)
+    (find (is_text_entry list container) container.bound)
 
 abbrev pub first_text : List ElementValue → ElementValue → Option (List ℕ)
 first_text list container = option_map id_of (find (names_container container.id) list)

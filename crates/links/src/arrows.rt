@@ -97,7 +97,8 @@ impl<'a> Names<'a> {
         requires empty { listing.old.entries.items ≡ [] }
         requires text { option_copied text ≡ text_of self.now e.now }
         requires seen { AreSeen listing.old.entries.items listing.old.arrows listing.old.texts }
-        ensures entries { OnOk result (listing.new.entries.items ≡ first_entries (filter (words.is_true_entry self.now e.now) e.now.bound)) }
+        ensures entries { OnOk result (listing.new.entries.items
+            ≡ first_entries (filter (words.is_true_entry self.now e.now) e.now.bound)) }
         ensures seen { OnOk result (AreSeen listing.new.entries.items listing.new.arrows listing.new.texts) }
     {
         for entry in bound_of(e).as_slice() {
@@ -117,7 +118,8 @@ impl<'a> Names<'a> {
     ) -> Result<(), AllocError>
         requires ends { IsTable has_end_at self.now ends.now.items }
         requires seen { AreSeen listing.old.entries.items listing.old.arrows listing.old.texts }
-        ensures entries { OnOk result (listing.new.entries.items ≡ with_entries listing.old.entries.items (words.arrow_entries self.now e.now)) }
+        ensures entries { OnOk result (listing.new.entries.items
+            ≡ with_entries listing.old.entries.items (words.arrow_entries self.now e.now)) }
         ensures seen { OnOk result (AreSeen listing.new.entries.items listing.new.arrows listing.new.texts) }
     {
         if is_target(e) {

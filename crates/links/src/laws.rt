@@ -20,9 +20,11 @@ pub fn settled_links_agree()
 
 /// Elements that are settled and settled again stay as they are.
 pub fn settled_links_stay()
-    ensures texts { (list : List ElementValue) → HaveDistinctIds list → settled_texts (settled_links list) ≡ settled_links list }
+    ensures texts { (list : List ElementValue) → HaveDistinctIds list
+        → settled_texts (settled_links list) ≡ settled_links list }
     ensures arrows { (list : List ElementValue) → settled_arrows (settled_links list) ≡ settled_links list }
-    ensures both { (list : List ElementValue) → HaveDistinctIds list → settled_links (settled_links list) ≡ settled_links list }
+    ensures both { (list : List ElementValue) → HaveDistinctIds list
+        → settled_links (settled_links list) ≡ settled_links list }
 {}
 
 /// Settling changes listings, containers and bindings alone: order, ids, kinds, keys, stamps and all other parts stay.

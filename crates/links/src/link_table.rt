@@ -65,11 +65,12 @@ impl LinkTable {
         self.namers.reserve(n)
     }
 
-    /// Takes out every row with this namer, and puts the given rows in. It takes no memory, and goes over all rows; where
-    /// the old rows of the namer are known, `replace` finds each.
+    /// Takes out every row with this namer, and puts the given rows in. It takes no memory, and goes over all rows;
+    /// where the old rows of the namer are known, `replace` finds each.
     pub fn change(&mut self, id: &Text, rows: List<LinkRow>)
         requires { length rows ≤ self.old.spare }
-        ensures rows { (row : LinkRow) → has_row self.new.rows row ≡ (has_row rows row || (has_row self.old.rows row && not (is_namer id.now row))) }
+        ensures rows { (row : LinkRow) → has_row self.new.rows row
+            ≡ (has_row rows row || (has_row self.old.rows row && not (is_namer id.now row))) }
         ensures spare { self.old.spare ≤ self.new.spare + length rows }
     {
         self.take_out_namer(id);
@@ -79,7 +80,8 @@ impl LinkTable {
     /// Takes the old rows out, and puts the new ones in. It takes no memory.
     pub fn replace(&mut self, old: &List<LinkRow>, new: List<LinkRow>)
         requires { length new ≤ self.old.spare }
-        ensures rows { (row : LinkRow) → has_row self.new.rows row ≡ (has_row new row || (has_row self.old.rows row && not (has_row old.now row))) }
+        ensures rows { (row : LinkRow) → has_row self.new.rows row
+            ≡ (has_row new row || (has_row self.old.rows row && not (has_row old.now row))) }
         ensures spare { self.old.spare ≤ self.new.spare + length new }
     {
         self.take_out_all(old);
@@ -100,7 +102,8 @@ impl LinkTable {
 impl LinkTable {
     /// Takes every row with this namer out.
     fn take_out_namer(&mut self, id: &Text)
-        ensures rows { (row : LinkRow) → has_row self.new.rows row ≡ (has_row self.old.rows row && not (is_namer id.now row)) }
+        ensures rows { (row : LinkRow) → has_row self.new.rows row
+            ≡ (has_row self.old.rows row && not (is_namer id.now row)) }
         ensures spare { self.old.spare ≤ self.new.spare }
     {
         take_out_namer(&mut self.named, &mut self.namers, id);
@@ -108,7 +111,8 @@ impl LinkTable {
 
     /// Takes these rows out.
     fn take_out_all(&mut self, rows: &List<LinkRow>)
-        ensures rows { (row : LinkRow) → has_row self.new.rows row ≡ (has_row self.old.rows row && not (has_row rows.now row)) }
+        ensures rows { (row : LinkRow) → has_row self.new.rows row
+            ≡ (has_row self.old.rows row && not (has_row rows.now row)) }
         ensures spare { self.old.spare ≤ self.new.spare }
     {
         for row in rows.as_slice() {
@@ -118,7 +122,8 @@ impl LinkTable {
 
     /// Takes a row out, if it is there.
     fn take_out(&mut self, row: &LinkRow)
-        ensures rows { (other : LinkRow) → has_row self.new.rows other ≡ (has_row self.old.rows other && not (same_row other row.now)) }
+        ensures rows { (other : LinkRow) → has_row self.new.rows other
+            ≡ (has_row self.old.rows other && not (same_row other row.now)) }
         ensures spare { self.old.spare ≤ self.new.spare }
     {
         match place_of(&self.named, &self.namers, row) {
@@ -144,7 +149,8 @@ impl LinkTable {
     /// Puts a row in, if it isn't there.
     fn put_in(&mut self, row: LinkRow)
         requires { 0 < self.old.spare }
-        ensures rows { (other : LinkRow) → has_row self.new.rows other ≡ (same_row other row || has_row self.old.rows other) }
+        ensures rows { (other : LinkRow) → has_row self.new.rows other
+            ≡ (same_row other row || has_row self.old.rows other) }
         ensures spare { self.old.spare ≤ self.new.spare + 1 }
     {
         match place_of(&self.named, &self.namers, &row) {

@@ -32,7 +32,8 @@ impl Listing {
     /// Adds an entry where it is missing.
     pub(crate) fn add(&mut self, id: &Text, role: Role) -> Result<(), AllocError>
         requires { AreSeen self.old.entries.items self.old.arrows self.old.texts }
-        ensures entries { OnOk result (self.new.entries.items ≡ with_listing_entry self.old.entries.items (record { id = id.now; role = role })) }
+        ensures entries { OnOk result (self.new.entries.items
+            ≡ with_listing_entry self.old.entries.items (record { id = id.now; role = role })) }
         ensures seen { OnOk result (AreSeen self.new.entries.items self.new.arrows self.new.texts) }
     {
         match role {
@@ -54,7 +55,8 @@ impl Listing {
 /// Notes that an id is seen, and tells whether it is for the first time.
 fn see(seen: &mut BTreeSet<Text>, id: &Text) -> Result<bool, AllocError>
     ensures first { IfOk result (λ first. first ≡ not (has_seen seen.old id.now)) }
-    ensures seen { OnOk result ((other : Items ℕ) → has_seen seen.new other ≡ (bytes_eq other id.now || has_seen seen.old other)) }
+    ensures seen { OnOk result ((other : Items ℕ) → has_seen seen.new other
+        ≡ (bytes_eq other id.now || has_seen seen.old other)) }
 {
     Ok(seen.insert(id.try_clone()?)?)
 }

@@ -37,7 +37,8 @@ pub(crate) fn bound_of(e: &Element) -> &List<BoundRef>
     &e.bound
 }
 
-/// Whether an element may be the container of a text: a rectangle, a diamond, an ellipse or an arrow. It takes no memory.
+/// Whether an element may be the container of a text: a rectangle, a diamond, an ellipse or an arrow. It takes no
+/// memory.
 pub fn can_hold_text(e: &Element) -> bool
     ensures { result ≡ names.can_hold_text e.now.kind }
 {

@@ -46,10 +46,12 @@ pub(crate) fn insert(texts: &mut Vec<Text>, i: usize, text: Text)
 /// Takes out every row with this namer.
 pub(crate) fn take_out_namer(named: &mut Vec<Text>, namers: &mut Vec<Text>, id: &Text)
     requires { AreRows named.old.items namers.old.items }
-    ensures rows { rows_at named.new.items namers.new.items ≡ filter (λ row. not (is_namer id.now row)) (rows_at named.old.items namers.old.items) }
+    ensures rows { rows_at named.new.items namers.new.items
+        ≡ filter (λ row. not (is_namer id.now row)) (rows_at named.old.items namers.old.items) }
     ensures are { AreRows named.new.items namers.new.items }
     ensures len { vec_len named.new ≤ vec_len named.old }
-    ensures room { (vec_capacity named.new ≡ vec_capacity named.old) × (vec_capacity namers.new ≡ vec_capacity namers.old) }
+    ensures room { (vec_capacity named.new ≡ vec_capacity named.old)
+        × (vec_capacity namers.new ≡ vec_capacity namers.old) }
 {
     let mut i = 0;
     while i < namers.len() {

@@ -66,8 +66,8 @@ fn set_container(e: &mut Element, keeps: bool)
     }
 }
 
-/// The list with the ends of its arrows and the listings of its elements settled. The list's order is that of the scene.
-/// Fails only for want of memory.
+/// The list with the ends of its arrows and the listings of its elements settled. The list's order is that of the
+/// scene. Fails only for want of memory.
 pub fn settle_arrows(alloc: Global, list: List<Element>) -> Result<List<Element>, AllocError>
     requires distinct { HaveDistinctIds list }
     requires texts { settled_texts list ≡ list }

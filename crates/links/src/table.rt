@@ -21,7 +21,8 @@ pub(crate) struct Row<'a> {
 /// The rows in the order of their ids; those of one id stay in their order.
 pub(crate) fn sorted<'a>(mut rows: Vec<Row<'a>>) -> Result<Vec<Row<'a>>, AllocError>
     ensures ordered { IfOk result (λ new. IsSortedBy row_less new.items) }
-    ensures kept { IfOk result (λ new. (key : List ℕ) → filter (is_under key) new.items ≡ filter (is_under key) rows.entry.items) }
+    ensures kept { IfOk result (λ new. (key : List ℕ) → filter (is_under key) new.items
+        ≡ filter (is_under key) rows.entry.items) }
 {
     rows.sort_by(by_key)?;
     Ok(rows)

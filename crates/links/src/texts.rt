@@ -89,7 +89,8 @@ impl<'a> Names<'a> {
 /// Whether a text keeps its container: it is the text of an element of the list that it names.
 fn keeps_container(containers: &Vec<Row<'_>>, e: &Element) -> bool
     requires { IsSortedBy row_less containers.now.items }
-    ensures { result ≡ list_any (λ container. names.names_container container.id e.now) (elements_under e.now.id containers.now.items) }
+    ensures { result ≡ list_any (λ container. names.names_container container.id e.now)
+        (elements_under e.now.id containers.now.items) }
 {
     rows_under(containers, id_of(e))
         .iter()

@@ -26,8 +26,8 @@ redrawn_as new e = record e {
   rest = if bytes_eq new.id e.id then new.rest else e.rest;
 }
 
--- At one place these elements, whose ids rise, have one that differs from the new one at most in what no rule looks at, and
--- at the other what is shown of it, which becomes that element.
+-- At one place these elements, whose ids rise, have one that differs from the new one at most in what no rule looks at,
+-- and at the other what is shown of it, which becomes that element.
 pub record IsRedrawn (live : List ElementValue) (new : ElementValue) (held_at shown_at : ℕ)
     (redrawn : ElementValue) : Type 0 where
   pub ordered : are_rising (ids_of live) ≡ true

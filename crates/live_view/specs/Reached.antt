@@ -27,7 +27,8 @@ named_of row = row.named
 abbrev pub HaveRowsOf : List ElementValue → List LinkRow → Type 0
 HaveRowsOf elements rows =
     (named namer : List ℕ)
-    → has_row rows (record { named = named; namer = namer }) ≡ option_map_or (names_id named) (element_of elements namer) false
+    → has_row rows (record { named = named; namer = namer })
+    ≡ option_map_or (names_id named) (element_of elements namer) false
 
 -- The ids of one list are among others, as is what is one step of naming from some of them.
 pub record HaveStepped (elements : List ElementValue) (over from to : List (List ℕ)) : Type 0 where

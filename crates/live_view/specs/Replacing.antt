@@ -33,7 +33,8 @@ AreRowsOfAll elements rows =
     (named namer : List ℕ)
     → has_row rows (record { named = named; namer = namer }) ≡ list_any (names_as named namer) elements
 
--- What is shown anew: the elements near the new ones, settled among those near these, with the keys that they are shown with.
+-- What is shown anew: the elements near the new ones, settled among those near these, with the keys that they are shown
+-- with.
 pub record AreRepairs (live shown news : List ElementValue) (puts : List Put) : Type 0 where
   pub start : List (List ℕ)
   pub near : List (List ℕ)
@@ -44,7 +45,8 @@ pub record AreRepairs (live shown news : List ElementValue) (puts : List Put) : 
   pub distinct : IsDistinct bytes_eq wide
   pub placed : All (IsInPlace shown) puts
   pub drawn : map without_index (puts_of puts) ≡ map without_index
-      (filter (λ (e : ElementValue). is_among near e.id) (settled (in_scene_order (filter_map (element_after live news) wide))))
+      (filter (λ (e : ElementValue). is_among near e.id)
+      (settled (in_scene_order (filter_map (element_after live news) wide))))
 
 -- A view, its elements in the order of their ids, what is shown of them, and the rows of who names whom.
 pub record IsLiveView (live shown : List ElementValue) (rows : List LinkRow) : Type 0 where

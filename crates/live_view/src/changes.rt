@@ -17,8 +17,8 @@ use json_text::Text;
 use std::alloc::AllocError;
 
 impl LiveView {
-    /// Makes this the view of the store, whose live elements are those that it was made of but for elements of these ids.
-    /// For want of memory it is unchanged.
+    /// Makes this the view of the store, whose live elements are those that it was made of but for elements of these
+    /// ids. For want of memory it is unchanged.
     pub fn update(&mut self, store: &Store, ids: &[Text]) -> Result<(), AllocError>
         requires { AreSameButAt ids.now self.old (live_elements store.now.elements) }
         ensures view { OnOk result (self.new ≡ live_elements store.now.elements) }
@@ -112,8 +112,8 @@ impl LiveView {
         self.follow(&news)
     }
 
-    /// Whether a change of so many elements is followed near them: where more of the board changes, a view made anew costs
-    /// less.
+    /// Whether a change of so many elements is followed near them: where more of the board changes, a view made anew
+    /// costs less.
     fn is_small(&self, changed: usize) -> bool {
         changed <= 4 + self.kept.len() / 8
     }

@@ -1,5 +1,5 @@
-//! An element that comes to a view or goes: the runs of keys around its place are repaired, what is near it is shown anew,
-//! and nothing else that is shown changes.
+//! An element that comes to a view or goes: the runs of keys around its place are repaired, what is near it is shown
+//! anew, and nothing else that is shown changes.
 
 ghost use Rattle.std.specs.Prelude.{◌≡◌, ℕ, ◌+◌, ◌<◌, ◌≤◌, [], ◌∷◌, Ok, Some, true, false, insert, length, slice_index_or, OnErr, IfOk, IfSome, IsTrue, vec_len, vec_capacity};
 ghost use Rattle.frac_keys.specs.Rising.{are_rising};

@@ -66,7 +66,8 @@ pub(crate) fn taken_of(
 /// Puts what is stored of an id into the store, if it has no element of this id.
 fn begin_with(news: &mut Store, store: &Store, id: &Text) -> Result<(), AllocError>
     ensures same { OnOk result ((other : Items ℕ)
-        → element_after store.now.elements news.new.elements other ≡ element_after store.now.elements news.old.elements other) }
+        → element_after store.now.elements news.new.elements other
+        ≡ element_after store.now.elements news.old.elements other) }
     ensures known { OnOk result
         (element_of news.new.elements id.now ≡ element_after store.now.elements news.old.elements id.now) }
 {

@@ -21,8 +21,8 @@ struct Redrawing {
 }
 
 impl Kept {
-    /// Lets the element take the place of that of its id, if they have one outline, and tells whether they do. For want of
-    /// memory nothing changes.
+    /// Lets the element take the place of that of its id, if they have one outline, and tells whether they do. For want
+    /// of memory nothing changes.
     pub(crate) fn redraw_as(&mut self, new: &Element) -> Result<bool, AllocError>
         ensures new { result ≡ Ok true → HasRedrawn self.old new.now self.new }
         ensures old { OnErr result (self.new ≡ self.old) }

@@ -1,5 +1,5 @@
-//! Elements that take the places of those of their ids, with the same indices: what is near them is shown anew, and nothing
-//! else that is shown changes.
+//! Elements that take the places of those of their ids, with the same indices: what is near them is shown anew, and
+//! nothing else that is shown changes.
 
 ghost use Rattle.std.specs.Prelude.{◌≡◌, ℕ, List as Items, Some, Ok, true, false, map, filter, filter_map, length, All, OnErr, IfOk, IfSome, IsTrue, bytes_eq, option_copied};
 ghost use Rattle.std.specs.List.{list_all, IsDistinct};
@@ -201,8 +201,8 @@ fn element_after<'a>(
     }
 }
 
-/// Those of the elements that are of these ids, at the places where they are shown and with the keys of these, if they are
-/// found.
+/// Those of the elements that are of these ids, at the places where they are shown and with the keys of these, if they
+/// are found.
 pub(crate) fn puts_near(
     alloc: Global,
     live: &Vec<Element>,

@@ -22,8 +22,9 @@ impl Kept {
         self.live.len()
     }
 
-    /// Follows what is stored of the ids of these elements: all of them in their places at once, or one after the other. It
-    /// tells whether all are found near their places; otherwise, and for want of memory, some may be followed.
+    /// Follows what is stored of the ids of these elements: all of them in their places at once, or one after the
+    /// other. It tells whether all are found near their places; otherwise, and for want of memory, some may be
+    /// followed.
     pub(crate) fn follow(&mut self, news: &Vec<Element>) -> Result<bool, AllocError>
         requires { are_rising (ids_of news.now.items) ≡ true }
         ensures { result ≡ Ok true → HaveFollowed self.old news.now.items self.new }
@@ -48,8 +49,8 @@ impl Kept {
         }
     }
 
-    /// Follows elements one after the other. It tells whether all are found near their places; otherwise, and for want of
-    /// memory, some may be followed.
+    /// Follows elements one after the other. It tells whether all are found near their places; otherwise, and for want
+    /// of memory, some may be followed.
     pub(crate) fn follow_each(&mut self, news: &Vec<Element>) -> Result<bool, AllocError>
         requires { are_rising (ids_of news.now.items) ≡ true }
         ensures { result ≡ Ok true → HaveFollowed self.old news.now.items self.new }

@@ -11,8 +11,8 @@ use elem::Element;
 use elem_store::Store;
 use std::alloc::{AllocError, Global};
 
-/// Takes the elements whose ids aren't held, in their order, and tells how many these were. Their copies and the room for
-/// them are made first, so that for want of memory the stored elements are as before.
+/// Takes the elements whose ids aren't held, in their order, and tells how many these were. Their copies and the room
+/// for them are made first, so that for want of memory the stored elements are as before.
 pub fn reconcile(
     alloc: Global,
     store: &mut Store,

@@ -24,7 +24,8 @@ pub record IsAs (was now : State) : Type 0 where
   pub looks : map unstamped (shown (live_elements now.stored)) ≡ map unstamped
       (shown (live_elements was.stored))
 
--- Nothing is pending: no stored element differs from that of the snapshot. One that the snapshot lacks counts as deleted before.
+-- Nothing is pending: no stored element differs from that of the snapshot. One that the snapshot lacks counts as
+-- deleted before.
 abbrev pub HasNothingPending : State → Type 0
 HasNothingPending s = pending s.snapshot s.stored ≡ []
 
@@ -73,7 +74,8 @@ pub record IsDone (call : Call) (found : Option (Result Turn (List ℕ))) : Type
   pub turn : Turn
   pub is : found ≡ Some (Ok turn)
 
--- A step is found: it is made, or refused for a full version alone: the stored element of the id stands at the greatest one.
+-- A step is found: it is made, or refused for a full version alone: the stored element of the id stands at the greatest
+-- one.
 abbrev pub IsFound : List ElementValue → Option (Result Turn (List ℕ)) → Type 0
 IsFound stored None = ⊥
 IsFound stored (Some (Ok turn)) = Unit {0}

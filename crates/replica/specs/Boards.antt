@@ -46,8 +46,8 @@ abbrev pub AreKnown : List ElementValue → List ElementValue → Type 0
 AreKnown elements stored =
     (id : List ℕ) → IsSome (element_of elements id) → IsSome (element_of stored id)
 
--- What holds of every board: it shows what is stored; of stored elements and snapshot the ids rise, and they are elements;
--- the ids of the snapshot and of both stacks are stored.
+-- What holds of every board: it shows what is stored; of stored elements and snapshot the ids rise, and they are
+-- elements; the ids of the snapshot and of both stacks are stored.
 pub record IsSound (t : Told) : Type 0 where
   pub view : t.view ≡ live_elements t.stored
   pub stored_rise : are_rising (ids_of t.stored) ≡ true

@@ -5,8 +5,8 @@ use Rattle.history.specs.Pairs.{StackStandsFor}
 use Rattle.history.specs.Stacks.{Stacks}
 use Rattle.replica.specs.State.{State}
 
--- The stored elements and those of the snapshot, in the order of their ids; the stacks of entries of changed members; and the
--- ids that are held.
+-- The stored elements and those of the snapshot, in the order of their ids; the stacks of entries of changed members;
+-- and the ids that are held.
 pub record Kept : Type 0 where
   pub stored : List ElementValue
   pub snapshot : List ElementValue

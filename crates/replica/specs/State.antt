@@ -1,5 +1,5 @@
--- What a replica is, and what each call makes of it, over whole elements. This project's own, after Excalidraw's store and
--- history.
+-- What a replica is, and what each call makes of it, over whole elements. This project's own, after Excalidraw's store
+-- and history.
 use Rattle.std.specs.Prelude.{◌≡◌, ℕ, List, [], ◌∷◌, Option, Some, None, Result, Ok, Err}
 use Rattle.elem.specs.ElementValue.{ElementValue}
 use Rattle.elem_store.specs.Updates.{takings}
@@ -17,8 +17,8 @@ use Rattle.undoing.specs.Carrying.{taken_all, carried_all}
 use Rattle.undoing.specs.Differing.{pending}
 use Rattle.undoing.specs.Steps.{Turn, step}
 
--- The stored elements and those of the snapshot, in the order of their ids; the entries that can be undone and redone, the
--- next one first, each the elements before and after that it is of; and the ids that are held.
+-- The stored elements and those of the snapshot, in the order of their ids; the entries that can be undone and redone,
+-- the next one first, each the elements before and after that it is of; and the ids that are held.
 pub record State : Type 0 where
   pub stored : List ElementValue
   pub snapshot : List ElementValue
@@ -79,7 +79,8 @@ undo_on time nonce s = step s.stored time nonce (captured s).undo (captured s).r
 abbrev pub redo_on : ℕ → ℕ → State → Option (Result Turn (List ℕ))
 redo_on time nonce s = step s.stored time nonce (captured s).redo (captured s).undo
 
--- after a step: its elements are taken and the snapshot is what is stored then; where an element is full nothing is changed
+-- after a step: its elements are taken and the snapshot is what is stored then; where an element is full nothing is
+-- changed
 abbrev pub turned : Turn → State → State
 turned turn s = record s { stored = taken_all turn.given s.stored; snapshot = taken_all turn.given s.stored }
 

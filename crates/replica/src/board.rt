@@ -1,5 +1,5 @@
-//! What a replica stores, shows, and knows of its changes. Each call makes all that it needs first, in the order plans, copies
-//! and room, view, and then puts it in place, which takes no memory.
+//! What a replica stores, shows, and knows of its changes. Each call makes all that it needs first, in the order plans,
+//! copies and room, view, and then puts it in place, which takes no memory.
 
 ghost use Rattle.std.specs.Prelude.{◌≡◌, ◌≤◌, ◌<◌, [], true, false, length, Ok, Err, IfOk, IfErr, OnOk, OnErr};
 ghost use Rattle.frac_keys.specs.Rising.{are_rising};
@@ -51,7 +51,12 @@ impl Drop for Board {
 impl Board {
     /// With nothing stored.
     pub(crate) fn new(alloc: Global) -> Board
-        ensures empty { told result ≡ record { stored = []; view = []; snapshot = []; stacks = record { undo = []; redo = [] } } }
+        ensures empty { told result ≡ record {
+          stored = [];
+          view = [];
+          snapshot = [];
+          stacks = record { undo = []; redo = [] };
+        } }
         ensures untouched { IsUntouched result }
     {
         Board {

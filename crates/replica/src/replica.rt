@@ -25,8 +25,8 @@ use reconcile::{Held, free_copies};
 use std::alloc::{AllocError, Global};
 use std::marker::Model;
 
-/// One of several boards that are changed apart and told of each other's changes. Contracts see its stored elements, its
-/// snapshot, its stacks of entries and the ids that are held; for want of memory they are as before each call.
+/// One of several boards that are changed apart and told of each other's changes. Contracts see its stored elements,
+/// its snapshot, its stacks of entries and the ids that are held; for want of memory they are as before each call.
 ///
 /// `specs/State.antt` says over whole elements what each call makes of a replica; a clause on a call is for every state that
 /// the replica stands for.
@@ -104,8 +104,8 @@ impl Replica {
         Ok(given)
     }
 
-    /// Takes the elements of a list whose ids aren't held, carries those that become stored into the snapshot, and tells how
-    /// many were taken.
+    /// Takes the elements of a list whose ids aren't held, carries those that become stored into the snapshot, and
+    /// tells how many were taken.
     pub fn deliver(&mut self, list: &[Element]) -> Result<u64, AllocError>
         ensures count { IfOk result
             (λ count. count ≡ length (free_elements self.old.held list.now)) }
@@ -136,9 +136,10 @@ impl Replica {
         self.held.drop_id(id)
     }
 
-    /// Captures what is pending, and then takes the topmost entry that is seen back: the elements that change are stored,
-    /// and given in the order of their ids. `Nothing` comes exactly where no entry is seen; the capture stands. `VersionFull`
-    /// names the least id of those that would change and stand at the greatest version; then nothing is changed.
+    /// Captures what is pending, and then takes the topmost entry that is seen back: the elements that change are
+    /// stored, and given in the order of their ids. `Nothing` comes exactly where no entry is seen; the capture stands.
+    /// `VersionFull` names the least id of those that would change and stand at the greatest version; then nothing is
+    /// changed.
     pub fn undo(&mut self, time: u64, nonce: u64) -> Result<Step, Stop<VersionFull>>
         requires time { time ≤ greatest_whole }
         requires nonce { nonce ≤ greatest_whole }
@@ -153,7 +154,8 @@ impl Replica {
         self.board.undo(self.alloc, time, nonce)
     }
 
-    /// Captures what is pending, and then takes the topmost undo that is seen back, as `undo` does with the stacks exchanged.
+    /// Captures what is pending, and then takes the topmost undo that is seen back, as `undo` does with the stacks
+    /// exchanged.
     pub fn redo(&mut self, time: u64, nonce: u64) -> Result<Step, Stop<VersionFull>>
         requires time { time ≤ greatest_whole }
         requires nonce { nonce ≤ greatest_whole }

@@ -45,8 +45,8 @@ abbrev pub listing_at : Option (List (List ℕ)) → List Pair → Option (List 
 listing_at (Some ids) members = Some (listing_text ids)
 listing_at None members = filled_at listing_name members
 
--- Of these members those are the restored ones: their names rise; an old listing is gone and its ids are listed as arrows;
--- and each other name has what is given there, or its default.
+-- Of these members those are the restored ones: their names rise; an old listing is gone and its ids are listed as
+-- arrows; and each other name has what is given there, or its default.
 pub record AreRestored (members restored : List Pair) : Type 0 where
   pub rise : HaveRisingNames restored
   pub ids : Option (List (List ℕ))

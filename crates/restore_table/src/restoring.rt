@@ -87,7 +87,8 @@ fn rows_behind(
 ) -> Option<&'static [Row]>
     requires { RiseAfter (name_of (option_copied last)) (map row_pair rows.now) }
     ensures rise { IfSome result (λ behind. RiseAfter member.now.name (map row_pair behind.now)) }
-    ensures whole { IfSome result (λ behind. (others : Items Pair) → IsWholeAfter member.now.name (map row_pair behind.now) others
+    ensures whole { IfSome result (λ behind. (others : Items Pair)
+        → IsWholeAfter member.now.name (map row_pair behind.now) others
         → IsWholeAfter (name_of (option_copied last.entry)) (map row_pair rows.now) (pair_of member.now ∷ others)) }
 {
     let name = member.name.as_bytes();
@@ -138,8 +139,8 @@ fn front_of(name: &[u8]) -> u64
     u64::from_be_bytes(bytes)
 }
 
-/// Fills up the members, whose names rise: puts the defaults of those that are missing between them, and in the place of
-/// a null.
+/// Fills up the members, whose names rise: puts the defaults of those that are missing between them, and in the place
+/// of a null.
 fn fill_up(members: &mut Vec<Member>) -> Result<(), AllocError>
     ensures { OnOk result (pairs members.new.items ≡ merged (pairs members.old.items) defaults) }
 {
@@ -164,7 +165,8 @@ fn fill_up(members: &mut Vec<Member>) -> Result<(), AllocError>
 
 /// How the name of the row compares to that of the member at the place; behind the members it is less.
 fn order_at(members: &[Member], place: usize, row: &Row) -> Ordering
-    ensures { result ≡ option_map_or (λ member. slice_cmp nat_cmp row.now.name.now member.name) (slice_get members.now place) Less }
+    ensures { result ≡ option_map_or (λ member. slice_cmp nat_cmp row.now.name.now member.name)
+        (slice_get members.now place) Less }
 {
     match members.get(place) {
         Some(member) => bytes_order(row.name.as_bytes(), member.name.as_bytes()),

@@ -1,5 +1,5 @@
--- A room, and what one event of its links gives. After Excalidraw's collaboration; the order of the texts, and that a fault
--- is told to its sender, is this project's own.
+-- A room, and what one event of its links gives. After Excalidraw's collaboration; the order of the texts, and that a
+-- fault is told to its sender, is this project's own.
 use Rattle.std.specs.Prelude.{◌≡◌, ℕ, ◌==◌, nat_lt, List, [], ◌∷◌, ◌++◌, Bool, not, filter, map, codes, Result, Ok, Err, MatchBool}
 use Rattle.std.specs.List.{list_any}
 use Rattle.json_text.specs.Characters.{quote}
@@ -20,8 +20,8 @@ pub record RoomState : Type 0 where
   pub elements : List ElementValue
   pub joined : List ℕ
 
--- A room as a value: its state; and how many new ids, and how many new links, there is room for. "As before" is said of the
--- state: what there is room for may have grown.
+-- A room as a value: its state; and how many new ids, and how many new links, there is room for. "As before" is said of
+-- the state: what there is room for may have grown.
 pub record RoomStock : Type 0 where
   pub state : RoomState
   pub spare_ids : ℕ
@@ -87,8 +87,8 @@ invalid_text fault =
 abbrev pub text_for_each : List ℕ → List ℕ → List (ℕ × List ℕ)
 text_for_each links text = map (λ link. (link, text)) links
 
--- The texts that a room sends where this happened: one that joins gets all stored elements; a message goes to each other
--- joined link, in rising order; a fault is told to the sender alone.
+-- The texts that a room sends where this happened: one that joins gets all stored elements; a message goes to each
+-- other joined link, in rising order; a fault is told to the sender alone.
 abbrev pub texts_of : RoomState → Happening → List (ℕ × List ℕ)
 texts_of room (Joined link) = (link, message_text (Init room.elements)) ∷ []
 texts_of room (Heard link (Ok message)) =

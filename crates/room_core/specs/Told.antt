@@ -1,4 +1,5 @@
--- What links tell of a call: the events given, the texts sent, and those that found their link gone. This project's own.
+-- What links tell of a call: the events given, the texts sent, and those that found their link gone. This project's
+-- own.
 use Rattle.std.specs.Prelude.{◌≡◌, ℕ, ◌+◌, List, [], ◌∷◌, ◌++◌, length, map, filter, Bool, not, if◌then◌else◌, IfSome, option_map}
 use Rattle.board_ends.specs.Ends.{LinksEnd}
 use Rattle.board_ends.specs.declared.links.LinkEvent.{LinkEvent}
@@ -27,7 +28,8 @@ texts_lost count [] = []
 texts_lost count (try ∷ tries) =
     if try.is_sent then texts_lost (count + 1) tries else (count, try.link) ∷ texts_lost count tries
 
--- Between the two the links told just these events, and of these texts just those that were sent and those that were lost.
+-- Between the two the links told just these events, and of these texts just those that were sent and those that were
+-- lost.
 pub record Tells (before after : LinksEnd) (events : List LinkEvent)
     (tries : List Try) : Type 0 where
   pub given : after.given ≡ option_map (λ told. told ++ events) before.given

@@ -73,8 +73,8 @@ pub fn serving_is_unique()
         → (one.rounds ≡ two.rounds) × (new ≡ other) × (end ≡ last) }
 {}
 
-/// Every script of events has a trace, whichever texts find their link gone: the room comes to an end by itself, with whole
-/// rounds before it.
+/// Every script of events has a trace, whichever texts find their link gone: the room comes to an end by itself, with
+/// whole rounds before it.
 pub fn every_script_has_a_trace()
     ensures { (limits : RoomLimits) (room : RoomState) (script : List LinkEvent) (is_lost : ℕ
         → Bool)

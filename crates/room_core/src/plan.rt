@@ -35,8 +35,8 @@ pub struct Plan {
 }
 
 impl Plan {
-    /// The record of the step, for a journal: the text of the update with the elements that are taken, where the step takes
-    /// those of a message. It takes no memory.
+    /// The record of the step, for a journal: the text of the update with the elements that are taken, where the step
+    /// takes those of a message. It takes no memory.
     pub fn record(&self) -> Option<&Bytes>
         ensures { option_copied result ≡ record_in self.now }
     {

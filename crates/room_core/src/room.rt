@@ -55,8 +55,8 @@ impl Room {
         }
     }
 
-    /// Plans the step of one event of the links: what it changes, the text to send and its links, and its record. What wants
-    /// memory is made here: there is then room for the change. The room is as before, also for want of memory.
+    /// Plans the step of one event of the links: what it changes, the text to send and its links, and its record. What
+    /// wants memory is made here: there is then room for the change. The room is as before, also for want of memory.
     pub fn plan(&mut self, event: &LinkEvent) -> Result<Plan, AllocError>
         ensures planned { IfOk result (IsPlanned self.old.state event.now) }
         ensures fits { IfOk result (λ plan. FitsIn plan.change self.new) }

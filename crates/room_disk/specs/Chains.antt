@@ -23,8 +23,8 @@ abbrev pub IsFoundOf : Run → Recovered → Type 0
 IsFoundOf run found =
     IsStopAnswer run.head run.stored (messages_heard run.account) (messages_told run.account) (Ok found)
 
--- Each run was resumed from what was recovered of the one before it, the first one from this; and that was recovered of the
--- last one.
+-- Each run was resumed from what was recovered of the one before it, the first one from this; and that was recovered of
+-- the last one.
 abbrev pub AreChained : Recovered → List Run → Recovered → Type 0
 AreChained first [] last = last ≡ first
 AreChained first (run ∷ runs) last =

@@ -10,7 +10,8 @@ is_within_line byte = not (byte == 10)
 abbrev pub lines_behind : List ℕ → List ℕ → List (List ℕ)
 lines_behind begun [] = []
 lines_behind begun (byte ∷ bytes) =
-    if is_within_line byte then lines_behind (begun ++ byte ∷ []) bytes else (begun ++ byte ∷ []) ∷ lines_behind [] bytes
+    if is_within_line byte then lines_behind (begun ++ byte ∷ []) bytes else (begun ++ byte ∷ [])
+    ∷ lines_behind [] bytes
 
 -- what stands behind the last of them
 abbrev pub begun_behind : List ℕ → List ℕ → List ℕ

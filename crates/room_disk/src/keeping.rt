@@ -193,8 +193,8 @@ fn keep_round<L: Links, J: Journal>(
     }
 }
 
-/// Plans the step of the event, keeps its record, makes the step, tries its texts and what tells that its message is kept,
-/// and takes the links out that are gone. Fewer messages are kept so far than the limit says.
+/// Plans the step of the event, keeps its record, makes the step, tries its texts and what tells that its message is
+/// kept, and takes the links out that are gone. Fewer messages are kept so far than the limit says.
 fn keep_event<L: Links, J: Journal>(
     alloc: Global,
     room: &mut Room,
@@ -235,8 +235,8 @@ fn keep_event<L: Links, J: Journal>(
     }
 }
 
-/// Keeps the record of a planned step, where it has one, and gives what tells the sender so. For want of memory the journal is
-/// as before. Fewer messages are kept so far than the limit says.
+/// Keeps the record of a planned step, where it has one, and gives what tells the sender so. For want of memory the
+/// journal is as before. Fewer messages are kept so far than the limit says.
 fn keep_record<J: Journal>(
     alloc: Global,
     journal: &mut J,

@@ -93,9 +93,9 @@ pub fn kept_room_stores_its_messages()
         (serving_at now rounds).room.elements }
 {}
 
-/// Over any chain of runs, each resumed from what was recovered of what a stop left of the one before, nothing is lost that
-/// was kept in any of them: each update that was told is stored at the end, or one of its id that beats it. It with the key
-/// that a restart gave it beats it.
+/// Over any chain of runs, each resumed from what was recovered of what a stop left of the one before, nothing is lost
+/// that was kept in any of them: each update that was told is stored at the end, or one of its id that beats it. It
+/// with the key that a restart gave it beats it.
 pub fn nothing_kept_is_lost()
     ensures { (first last : Recovered) (runs : List Run) (e : ElementValue)
         → All IsWholeElement first.elements → are_rising (ids_of first.elements) ≡ true
@@ -122,8 +122,8 @@ pub fn resumed_elements_have_keys()
         → All IsWholeElement elements → All IsWholeElement (resumed elements) }
 {}
 
-/// The layers stay: the ids of what a room resumes with are in the same scene order as before, and so are those of its live
-/// elements, which a view is made of.
+/// The layers stay: the ids of what a room resumes with are in the same scene order as before, and so are those of its
+/// live elements, which a view is made of.
 pub fn layers_stay()
     ensures all { (elements : List ElementValue)
         → are_rising (ids_of elements) ≡ true → HaveKeysOrNone elements
@@ -134,8 +134,8 @@ pub fn layers_stay()
         ≡ ids_of (in_scene_order (live_elements elements)) }
 {}
 
-/// The new keys are those between the greatest key and none, in the order of the ids. They rise, and every key that was there
-/// is at most the greatest one, above which they lie.
+/// The new keys are those between the greatest key and none, in the order of the ids. They rise, and every key that was
+/// there is at most the greatest one, above which they lie.
 pub fn new_keys_lie_above()
     ensures new { (elements : List ElementValue) → new_keys elements (resumed elements)
         ≡ map Some (keys_between (greatest_key None elements) None (keyless_count elements)) }

@@ -64,7 +64,8 @@ IsMessageOf text (Presence value) = (value ≡ text) × IsPresence text
 -- the first fault of members that are to have elements
 abbrev pub IsPayloadFault : List Pair → MsgFault → Type 0
 IsPayloadFault members Payload = (values : List (List ℕ)) → HasPayload members values → ⊥
-IsPayloadFault members (Element place fault) = (values : List (List ℕ)) × HasPayload members values × IsFirstFaulty values place fault
+IsPayloadFault members (Element place fault) = (values : List (List ℕ)) × HasPayload members values
+    × IsFirstFaulty values place fault
 IsPayloadFault members other = ⊥
 
 -- the first fault of a compact text that is no message
@@ -72,7 +73,8 @@ abbrev pub IsMessageFault : List ℕ → MsgFault → Type 0
 IsMessageFault text NotObject = (members : List Pair) → IsObject text members → ⊥
 IsMessageFault text Tag = (members : List Pair) × IsObject text members × ((tag : List ℕ) → HasTag members tag → ⊥)
 IsMessageFault text fault =
-    (members : List Pair) × IsObject text members × (HasTag members init_tag ⊎ HasTag members update_tag) × IsPayloadFault members fault
+    (members : List Pair) × IsObject text members × (HasTag members init_tag ⊎ HasTag members update_tag)
+    × IsPayloadFault members fault
 
 -- One value stands in the bytes, in whatever spelling, and white space alone around it.
 pub record StandsAlone (bytes text : List ℕ) : Type 0 where

@@ -38,8 +38,8 @@ pub(crate) enum Act {
     RedoPlanned,
 }
 
-/// The store, the snapshot with the ids that were stored since it was taken, and the history. Each id that the snapshot or
-/// an entry has is stored; of each id that isn't touched the snapshot has what is stored.
+/// The store, the snapshot with the ids that were stored since it was taken, and the history. Each id that the snapshot
+/// or an entry has is stored; of each id that isn't touched the snapshot has what is stored.
 struct Desk {
     store: Store,
     snapshot: Snapshot,

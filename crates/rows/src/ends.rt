@@ -54,8 +54,8 @@ fn reading_ends_at_the_byte_after_the_limit(rt: HostRuntime) {
     assert_eq!(rt; reads_text(rt.alloc(), 4, 99, 10), Ok(true));
 }
 
-/// Whether a sink with this room, whose write of this number fails, holds so many bytes of the text after it was written,
-/// and fails unless these are all.
+/// Whether a sink with this room, whose write of this number fails, holds so many bytes of the text after it was
+/// written, and fails unless these are all.
 fn holds(
     alloc: Global,
     chunk: usize,

@@ -1,5 +1,5 @@
--- What a scene's text says, and its first fault. After Excalidraw's JSON schema; which forms are accepted, and how missing
--- keys are filled, is this project's own.
+-- What a scene's text says, and its first fault. After Excalidraw's JSON schema; which forms are accepted, and how
+-- missing keys are filled, is this project's own.
 use Rattle.std.specs.Prelude.{◌≡◌, ℕ, List, [], Option, Some, None, drop, map, codes, bytes_eq, is_some, if◌then◌else◌}
 use Rattle.std.specs.List.{AllByRecursion, list_all}
 use Rattle.json_text.specs.Compact.{Member as Pair, array_text}
@@ -20,7 +20,8 @@ use Rattle.scene_file.specs.declared.fault.SceneFault.TheVariants.{Json, NotObje
 
 -- the value under a name: null counts as missing
 abbrev pub value_unless_null : List ℕ → List Pair → Option (List ℕ)
-value_unless_null name members = elim (value_at name members) [ None ↦ None | Some value ↦ if bytes_eq value null_word then None else Some value ]
+value_unless_null name members = elim (value_at name members)
+    [ None ↦ None | Some value ↦ if bytes_eq value null_word then None else Some value ]
 
 -- the items of an array, none where it is missing
 abbrev pub HasItems : Option (List ℕ) → List (List ℕ) → Type 0
@@ -45,7 +46,8 @@ IsScene members = IsText (value_at (codes "type") members) (codes "excalidraw")
 -- array's order
 abbrev pub loaded : List ElementValue → List ElementValue
 loaded elements =
-    if list_all (λ (e : ElementValue). is_some e.index) elements then elements else keyed elements (repaired (map index_of elements))
+    if list_all (λ (e : ElementValue). is_some e.index) elements then elements else keyed elements
+    (repaired (map index_of elements))
 
 -- The head says what the members do.
 pub record IsHeadOf (members : List Pair) (head : Heading) : Type 0 where

@@ -1,5 +1,5 @@
--- The text of a scene, and that of all that is stored. After Excalidraw's JSON schema; that a scene has the files alone that
--- its elements name is this project's own.
+-- The text of a scene, and that of all that is stored. After Excalidraw's JSON schema; that a scene has the files alone
+-- that its elements name is this project's own.
 use Rattle.std.specs.Prelude.{ℕ, List, [], ◌∷◌, map, codes, decimal}
 use Rattle.json_text.specs.Characters.{quote}
 use Rattle.json_text.specs.Compact.{Member as Pair, array_text, object_text}

@@ -1,5 +1,5 @@
--- What every scene has that is read, and every head and element that is made of such scenes: so their texts are read back.
--- This project's own.
+-- What every scene has that is read, and every head and element that is made of such scenes: so their texts are read
+-- back. This project's own.
 use Rattle.std.specs.Prelude.{◌≡◌, true, List, All, IfSome, is_some, filter, bytes_eq}
 use Rattle.std.specs.List.{list_all, list_any}
 use Rattle.std.specs.Str.{IsUtf8}

@@ -61,7 +61,8 @@ impl Head {
 
 /// Joins a further head to the head that others are joined to. For want of memory it is unchanged.
 pub fn join(alloc: Global, head: &mut Head, other: &Head) -> Result<(), AllocError>
-    ensures joined { OnOk result ((heads : Items Heading) → IsJoinedHead heads head.old → IsJoinedHead (heads ++ other.now ∷ []) head.new) }
+    ensures joined { OnOk result ((heads : Items Heading) → IsJoinedHead heads head.old
+        → IsJoinedHead (heads ++ other.now ∷ []) head.new) }
     ensures kept { OnErr result (head.new ≡ head.old) }
 {
     let source = lesser_source(alloc, &head.source, &other.source)?;
@@ -126,7 +127,8 @@ fn table_of(
 /// Takes all these members into the table. After want of memory it may have some of them.
 fn take_all(table: &mut Files, members: &List<Member>) -> Result<(), AllocError>
     requires { EntriesNest 126 (pairs members.now) }
-    ensures { OnOk result ((given : Items Pair) → AreLeastEntries given table.old → AreLeastEntries (given ++ pairs members.now) table.new) }
+    ensures { OnOk result ((given : Items Pair) → AreLeastEntries given table.old
+        → AreLeastEntries (given ++ pairs members.now) table.new) }
 {
     for member in members.as_slice() {
         let copy = member.try_clone()?;

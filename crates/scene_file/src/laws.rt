@@ -59,7 +59,8 @@ pub fn joined_head_is_of_the_set()
 
 /// The source of a joined head is that of a head, and none is less; there is none exactly where no head has one.
 pub fn least_source_is_least()
-    ensures least { (heads : List Heading) (source : List ℕ) → least_source heads ≡ Some source → IsLeastSource heads source }
+    ensures least { (heads : List Heading) (source : List ℕ) → least_source heads ≡ Some source
+        → IsLeastSource heads source }
     ensures none { (heads : List Heading) → (least_source heads ≡ None)
         ↔ ((head : Heading) → Contains heads head → head.source ≡ None) }
 {}
@@ -70,8 +71,8 @@ pub fn compact_scene_is_written()
         → IsCompact 128 (scene_text head elements) → (written : List ℕ) × IsSceneText layout head elements written }
 {}
 
-/// A scene that is read is whole, and so is what is made of whole scenes: their joined head, and what is stored of their
-/// elements.
+/// A scene that is read is whole, and so is what is made of whole scenes: their joined head, and what is stored of
+/// their elements.
 pub fn scenes_are_whole()
     ensures read { (bytes : List ℕ) (scene : Scene) (rest : List ℕ) → IsSceneAt bytes scene rest → IsWholeScene scene }
     ensures joined { (heads : List Heading) (head : Heading)
@@ -81,8 +82,8 @@ pub fn scenes_are_whole()
 {}
 
 /// The text of a whole scene, in whatever layout and whatever follows it, is read as that scene: with its elements, and
-/// under its head with those of the files that the elements name, which have the same text. The text of all that is stored
-/// is read as that, under its whole head.
+/// under its head with those of the files that the elements name, which have the same text. The text of all that is
+/// stored is read as that, under its whole head.
 pub fn texts_are_read_back()
     ensures scene { (layout : Layout) (head : Heading) (elements : List ElementValue) (written rest : List ℕ)
         → IsWholeHead head → All IsWholeElement elements → HaveKeys elements → IsSceneText layout head elements written

@@ -23,8 +23,8 @@ use json_text::{Member, Text, push_quote};
 use scene_json::{Lines, push_comma, push_member};
 use std::alloc::{AllocError, Global};
 
-/// The text of the scene of these elements, under this head, in this layout; no line feed ends it. Fails only for want of
-/// memory.
+/// The text of the scene of these elements, under this head, in this layout; no line feed ends it. Fails only for want
+/// of memory.
 pub fn elements_text(
     alloc: Global,
     head: &Head,
@@ -46,8 +46,8 @@ pub fn elements_text(
     }
 }
 
-/// The compact text of all that is stored, deleted elements too, as stored, under this head and with all its files. Fails
-/// only for want of memory.
+/// The compact text of all that is stored, deleted elements too, as stored, under this head and with all its files.
+/// Fails only for want of memory.
 pub fn state_text(alloc: Global, head: &Head, store: &Store) -> Result<Bytes, AllocError>
     ensures exact { IfOk result (λ text. text ≡ scenes.state_text head.now store.now.elements) }
 {
@@ -71,8 +71,8 @@ fn push_scene(out: &mut Vec<u8>, head: &Head, elements: &[Element]) -> Result<()
     Ok(())
 }
 
-/// Writes the text of the scene of these elements, each member and item on a line of its own. Beside it stands the text of
-/// one element at a time.
+/// Writes the text of the scene of these elements, each member and item on a line of its own. Beside it stands the text
+/// of one element at a time.
 fn push_scene_lines(out: &mut Vec<u8>, head: &Head, elements: &[Element]) -> Result<(), AllocError>
     requires { out.old.items ≡ [] }
     ensures { OnOk result (IsLaidOut 0 (scenes.scene_text head.now elements.now) out.new.items) }
@@ -140,7 +140,8 @@ fn push_back(
     requires settings_nest { EntriesNest 126 (pairs settings.now) }
     requires files_distinct { IsDistinct bytes_eq (names_of (pairs files.now)) }
     requires files_nest { EntriesNest 126 (pairs files.now) }
-    ensures text { OnOk result (out.new.items ≡ out.old.items ++ text_behind_elements (pairs settings.now) (pairs files.now)) }
+    ensures text { OnOk result (out.new.items ≡ out.old.items
+        ++ text_behind_elements (pairs settings.now) (pairs files.now)) }
     ensures settings { OnOk result (IsCompact 127 (object_text (pairs settings.now))) }
     ensures files { OnOk result (IsCompact 127 (object_text (pairs files.now))) }
 {

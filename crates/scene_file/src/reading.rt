@@ -24,8 +24,8 @@ use json_text::{Member, Raw};
 use scene_json::{has_value, is_null, members, members_to, shaped, value_named};
 use std::alloc::{AllocError, Global};
 
-/// The scene that stands at an offset, behind white space and in whatever spelling, and the offset after it; or the first
-/// fault there.
+/// The scene that stands at an offset, behind white space and in whatever spelling, and the offset after it; or the
+/// first fault there.
 pub fn read_scene(
     alloc: Global,
     bytes: &[u8],
@@ -77,8 +77,8 @@ pub fn scene_of(alloc: Global, value: &Raw) -> Result<Scene, Stop<SceneFault>>
 }
 
 /// The members of a scene's object, but for an array of elements, and what came of the elements: they are read as they
-/// stand, while the object is taken apart. `None` where it is no object, and in place of the elements where they are in no
-/// array.
+/// stand, while the object is taken apart. `None` where it is no object, and in place of the elements where they are in
+/// no array.
 fn taken_apart(
     alloc: Global,
     value: &Raw,

@@ -17,9 +17,12 @@ abbrev pub layout : Place → Bool → ℕ → List ℕ → List ℕ
 layout place first spaces [] = []
 layout outside first spaces (b ∷ bs) =
     (if is_space b then [] else put_before first spaces b ++ b ∷ put_behind (spaces_from first spaces b) b)
-    ++ layout (if b == quotation_mark then inside false else outside) (if is_space b then first else is_opening b) (if is_space b then spaces else spaces_from first spaces b) bs
+    ++ layout (if b == quotation_mark then inside false else outside)
+    (if is_space b then first else is_opening b) (if is_space b then spaces else spaces_from first spaces b)
+    bs
 layout (inside escaped) first spaces (b ∷ bs) =
-    b ∷ layout (if b == quotation_mark && not escaped then outside else inside (b == backslash && not escaped)) first spaces bs
+    b ∷ layout (if b == quotation_mark && not escaped then outside else inside
+    (b == backslash && not escaped)) first spaces bs
 
 abbrev pub layout_from : Standing → List ℕ → List ℕ
 layout_from standing rest = layout standing.place standing.first standing.spaces rest

@@ -44,7 +44,8 @@ pub record Compacted (bytes text rest : List ℕ) : Type 0 where
 -- What stands from one offset on is a value in a container, which ends at the other one.
 abbrev pub EndsAt : List ℕ → ℕ → ℕ → Type 0
 EndsAt bytes at end =
-    (text rest : List ℕ) → Compacted (drop at bytes) text rest → (drop end bytes ≡ rest) × (take (end - at) (drop at bytes) ≡ text)
+    (text rest : List ℕ) → Compacted (drop at bytes) text rest → (drop end bytes ≡ rest)
+    × (take (end - at) (drop at bytes) ≡ text)
 
 -- the rest of a container from the first of these texts on, and what follows the container
 abbrev pub left_text : Container → List ℕ → List (List ℕ) → List ℕ
@@ -58,7 +59,8 @@ behind_item c rest (next ∷ more) = 44 ∷ left_text c rest (next ∷ more)
 -- Whatever stands behind the end of an item or a member stands, its comma passed, from the other offset on.
 abbrev pub GoesOn : List ℕ → ℕ → ℕ → Type 0
 GoesOn bytes end next =
-    (c : Container) (rest : List ℕ) (more : List (List ℕ)) → drop end bytes ≡ behind_item c rest more → drop next bytes ≡ left_text c rest more
+    (c : Container) (rest : List ℕ) (more : List (List ℕ)) → drop end bytes ≡ behind_item c rest more
+    → drop next bytes ≡ left_text c rest more
 
 -- These members stand at the front, from the first one on; the rest follows the closing bracket.
 pub record StandHere (bytes : List ℕ) (members : List Pair) (rest : List ℕ) : Type 0 where

@@ -89,7 +89,8 @@ pub fn raw_object(alloc: Global, members: &List<Member>) -> Result<Raw, AllocErr
     requires distinct { IsDistinct bytes_eq (map (λ member. member.name) members.now) }
     requires values { All (λ member. IsCompact 127 member.value) members.now }
     ensures text { IfOk result (λ raw. raw ≡ object_text (pairs members.now)) }
-    ensures nests { (limit : ℕ) → All (λ member. IsCompact limit member.value) members.now → IfOk result (IsCompact (limit + 1)) }
+    ensures nests { (limit : ℕ) → All (λ member. IsCompact limit member.value) members.now
+        → IfOk result (IsCompact (limit + 1)) }
 {
     let mut out = Vec::new(alloc);
     out.push(b'{')?;
@@ -125,9 +126,11 @@ fn push_member_parts(out: &mut Vec<u8>, name: &Text, value: &Raw) -> Result<(), 
     out.extend_from_slice(value.as_bytes())
 }
 
-/// Appends the comma before the item at this index, which the first has none of. For want of memory nothing is appended.
+/// Appends the comma before the item at this index, which the first has none of. For want of memory nothing is
+/// appended.
 pub fn push_comma(out: &mut Vec<u8>, i: usize) -> Result<(), AllocError>
-    ensures ok { OnOk result (((0 < i) × (out.new.items ≡ out.old.items ++ 44 ∷ [])) ⊎ ((i ≡ 0) × (out.new.items ≡ out.old.items))) }
+    ensures ok { OnOk result (((0 < i) × (out.new.items ≡ out.old.items ++ 44 ∷ []))
+        ⊎ ((i ≡ 0) × (out.new.items ≡ out.old.items))) }
     ensures err { OnErr result (out.new.items ≡ out.old.items) }
 {
     if i > 0 {

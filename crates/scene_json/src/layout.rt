@@ -18,7 +18,8 @@ use std::alloc::{AllocError, Global};
 use std::marker::Model;
 
 /// The value with each member and item on a line of its own, two spaces deeper than its container, and a space behind
-/// the colon of a member. Empty containers are `{}` and `[]`, and no line feed ends it. It fails for want of memory alone.
+/// the colon of a member. Empty containers are `{}` and `[]`, and no line feed ends it. It fails for want of memory
+/// alone.
 pub fn pretty(alloc: Global, value: &Raw) -> Result<Bytes, AllocError>
     ensures laid_out { IfOk result (λ bytes. (tree : Tree) → IsGood tree → spelling tree ≡ value.now
         → bytes ≡ spelling (laid_out 0 tree)) }
@@ -78,8 +79,8 @@ impl Lines {
         }
     }
 
-    /// Appends the layout of the next piece, which may end anywhere in the text. White space between values is left out.
-    /// For want of memory nothing is appended.
+    /// Appends the layout of the next piece, which may end anywhere in the text. White space between values is left
+    /// out. For want of memory nothing is appended.
     pub fn push(&mut self, out: &mut Vec<u8>, piece: &[u8]) -> Result<(), AllocError>
         ensures ok { OnOk result ((text : Items ℕ) → IsLaidOutSoFar self.old text out.old.items
             → IsLaidOutSoFar self.new (text ++ piece.now) out.new.items) }
@@ -112,7 +113,8 @@ impl Lines {
     /// gives what follows.
     #[tactic(auto, using(json_text::proofs::CallerLemmas::extends_same, json_text::proofs::CallerLemmas::extends_by, json_text::proofs::CallerLemmas::extends_then, crate::proofs::Spread::run_from))]
     fn push_next<'a>(&mut self, out: &mut Vec<u8>, bytes: &'a [u8]) -> Result<&'a [u8], AllocError>
-        ensures appended { IfOk result (λ rest. (more : Items ℕ) → out.new.items ++ layout_from self.new (rest.now ++ more)
+        ensures appended { IfOk result (λ rest. (more : Items ℕ)
+            → out.new.items ++ layout_from self.new (rest.now ++ more)
             ≡ out.old.items ++ layout_from self.old (bytes.now ++ more)) }
         ensures shorter { IfOk result (λ rest. length rest.now ≤ length bytes.now - 1) }
         ensures kept { Extends out.old.items out.new.items }

@@ -16,7 +16,8 @@ pub fn whole_of(value: &Raw) -> Option<u64>
     whole_in(value.as_bytes())
 }
 
-/// The whole number that these bytes are in plain decimal, where it is at most 9,007,199,254,740,991. It takes no memory.
+/// The whole number that these bytes are in plain decimal, where it is at most 9,007,199,254,740,991. It takes no
+/// memory.
 #[tactic(auto, using(crate::proofs::Decimals::decimal_steps))]
 pub fn whole_in(digits: &[u8]) -> Option<u64>
     ensures found { IfSome result (λ n. (n ≤ GREATEST_WHOLE) × (digits.now ≡ decimal n)) }

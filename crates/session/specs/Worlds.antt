@@ -23,14 +23,14 @@ use Rattle.session.specs.declared.outcome.Outcome.{Outcome}
 use Rattle.session.specs.declared.outcome.Outcome.TheVariants.{Given, Refused}
 use Rattle.session.specs.declared.report.RefusedEvent.{RefusedEvent}
 
--- A replica, and the updates that it took, one after another: opening elements, its own changed ones, and delivered ones whose
--- ids weren't held.
+-- A replica, and the updates that it took, one after another: opening elements, its own changed ones, and delivered
+-- ones whose ids weren't held.
 pub record Seat : Type 0 where
   pub state : State
   pub taken : List ElementValue
 
--- The replicas in their order; the messages that were made; what the nonces are drawn from; how many events there were; and
--- those that were refused.
+-- The replicas in their order; the messages that were made; what the nonces are drawn from; how many events there were;
+-- and those that were refused.
 pub record World : Type 0 where
   pub seats : List Seat
   pub messages : List (List ElementValue)
@@ -106,8 +106,8 @@ abbrev pub with_refused : ℕ → Outcome → List RefusedEvent → List Refused
 with_refused event (Given elements) refused = refused
 with_refused event (Refused why) refused = refused ++ record { event = event; why = why } ∷ []
 
--- A replica made a change, an undo or a redo, or was refused it: a word was drawn, and the elements that came of it, maybe none,
--- are a message.
+-- A replica made a change, an undo or a redo, or was refused it: a word was drawn, and the elements that came of it,
+-- maybe none, are a message.
 abbrev pub after_act : ℕ → Act → World → World
 after_act at act w = record {
   seats = slice_set w.seats at (acted act (seat_at w at));

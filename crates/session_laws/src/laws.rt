@@ -61,10 +61,10 @@ pub fn nothing_is_pending()
         → IsCaptured (state_at (world_after session count) at) }
 {}
 
-/// A replica on which nothing is pending makes changes, and then as many undos are done: it is as it was before the changes,
-/// whatever else happens meanwhile that keeps away from it. As nothing is pending after a change, this tells also what it is
-/// after each of several undos: as it was before as many of the last changes. While changes are left, undo finds an entry,
-/// and is refused for a full version alone.
+/// A replica on which nothing is pending makes changes, and then as many undos are done: it is as it was before the
+/// changes, whatever else happens meanwhile that keeps away from it. As nothing is pending after a change, this tells
+/// also what it is after each of several undos: as it was before as many of the last changes. While changes are left,
+/// undo finds an entry, and is refused for a full version alone.
 pub fn undo_brings_back()
     ensures back { (session : Session) (count at n : ℕ) (changes undos rest : List Event)
         → IsSession session
@@ -96,9 +96,9 @@ pub fn undo_brings_back()
         IsFound s.stored (undo_on time nonce s) }
 {}
 
-/// A replica on which nothing is pending makes some changes and then others, all of them are undone, and as many redos are
-/// done as there were first changes: it is as it was after these, whatever else happens meanwhile that keeps away from it.
-/// While undos are left, redo finds an entry, and is refused for a full version alone.
+/// A replica on which nothing is pending makes some changes and then others, all of them are undone, and as many redos
+/// are done as there were first changes: it is as it was after these, whatever else happens meanwhile that keeps away
+/// from it. While undos are left, redo finds an entry, and is refused for a full version alone.
 pub fn redo_repeats()
     ensures again { (session : Session) (count at r l : ℕ)
         (again others undos redos rest : List Event) → IsSession session
@@ -112,7 +112,8 @@ pub fn redo_repeats()
         → AreRedosAt at redos (after_events undos
         (after_events others (after_events again (world_after session count)))) r
         → IsAs (state_at (after_events again (world_after session count)) at)
-        (state_at (after_events redos (after_events undos (after_events others (after_events again (world_after session count))))) at) }
+        (state_at (after_events redos (after_events undos
+        (after_events others (after_events again (world_after session count))))) at) }
     ensures found { (session : Session) (count at n j k : ℕ)
         (changes undos redos rest : List Event) → IsSession session
         → drop count session.events ≡ changes ++ undos ++ redos ++ rest → at < session.replicas

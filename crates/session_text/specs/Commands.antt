@@ -75,26 +75,30 @@ IdsAnd name members answer =
 -- an arrow and an end of it
 abbrev pub EndOf : List Pair → Reading (List ℕ × Side)
 EndOf members answer =
-    Then (TextOf names.Arrow members) (λ arrow. Then (MemberOf names.End IsSide members) (λ side. Gives (arrow, side))) answer
+    Then (TextOf names.Arrow members) (λ arrow. Then (MemberOf names.End IsSide members)
+    (λ side. Gives (arrow, side))) answer
 
 -- ---- the commands
 abbrev pub CommandNamed : List Pair → Asked → Reading Command
 CommandNamed members asked.Create answer =
-    Then (ElementOf members) (λ e. Then (MemberOf names.Spot IsSpot members) (λ spot. Gives (commands.Create e spot))) answer
+    Then (ElementOf members) (λ e. Then (MemberOf names.Spot IsSpot members)
+    (λ spot. Gives (commands.Create e spot))) answer
 CommandNamed members asked.Set answer =
     Then (TextOf names.Id members) (λ id. Then (TextOf names.Member members) (λ name.
     Then (MemberOf names.Value IsShallow members) (λ value. Gives (commands.Set id name value)))) answer
 CommandNamed members asked.Delete answer =
     Then (IdsOf members) (λ ids. Gives (commands.Delete ids)) answer
 CommandNamed members asked.Place answer =
-    Then (TextOf names.Id members) (λ id. Then (MemberOf names.Spot IsSpot members) (λ spot. Gives (commands.Place id spot))) answer
+    Then (TextOf names.Id members) (λ id. Then (MemberOf names.Spot IsSpot members)
+    (λ spot. Gives (commands.Place id spot))) answer
 CommandNamed members asked.Bind answer =
     Then (EndOf members) (λ bound. Then (TextOf names.Target members) (λ target.
     Then (MemberOf names.Binding IsRest members) (λ rest. Gives (commands.Bind bound.0 bound.1 target rest)))) answer
 CommandNamed members asked.Unbind answer =
     Then (EndOf members) (λ bound. Gives (commands.Unbind bound.0 bound.1)) answer
 CommandNamed members asked.Label answer =
-    Then (TextOf names.Container members) (λ container. Then (TextOf names.Text members) (λ text. Gives (commands.Label container text))) answer
+    Then (TextOf names.Container members)
+    (λ container. Then (TextOf names.Text members) (λ text. Gives (commands.Label container text))) answer
 CommandNamed members asked.Unlabel answer =
     Then (TextOf names.Text members) (λ text. Gives (commands.Unlabel text)) answer
 CommandNamed members asked.Frame answer =
@@ -106,7 +110,8 @@ CommandNamed members asked.Group answer =
 CommandNamed members asked.Ungroup answer =
     Then (IdsAnd names.Group members) (λ grouped. Gives (commands.Ungroup grouped.0 grouped.1)) answer
 CommandNamed members asked.Duplicate answer =
-    Then (IdsAnd names.Prefix members) (λ copied. Then (MemberOf names.Spot IsSpot members) (λ spot. Gives (commands.Duplicate copied.0 copied.1 spot))) answer
+    Then (IdsAnd names.Prefix members) (λ copied. Then (MemberOf names.Spot IsSpot members)
+    (λ spot. Gives (commands.Duplicate copied.0 copied.1 spot))) answer
 CommandNamed members asked.Paste answer =
     Then (ClipOf members) (λ clip. Then (TextOf names.Prefix members) (λ prefix.
     Then (MemberOf names.Spot IsSpot members) (λ spot. Gives (commands.Paste clip.elements prefix spot)))) answer

@@ -62,12 +62,14 @@ AreDrawnAs values (Err fault) =
 -- a replica and a time
 abbrev pub TimeOf : ℕ → List Pair → Reading (ℕ × ℕ)
 TimeOf replicas members answer =
-    Then (MemberOf names.At (IsFrom 0 replicas) members) (λ at. Then (MemberOf names.Time IsWholeNumber members) (λ time. Gives (at, time))) answer
+    Then (MemberOf names.At (IsFrom 0 replicas) members)
+    (λ at. Then (MemberOf names.Time IsWholeNumber members) (λ time. Gives (at, time))) answer
 
 -- a replica and an id
 abbrev pub HeldOf : ℕ → List Pair → Reading (ℕ × List ℕ)
 HeldOf replicas members answer =
-    Then (MemberOf names.At (IsFrom 0 replicas) members) (λ at. Then (MemberOf names.Id IsText members) (λ id. Gives (at, id))) answer
+    Then (MemberOf names.At (IsFrom 0 replicas) members)
+    (λ at. Then (MemberOf names.Id IsText members) (λ id. Gives (at, id))) answer
 
 -- the command
 abbrev pub CommandIn : List Pair → Reading Command

@@ -1,5 +1,5 @@
--- What the member of a session's text may be, and what it stands for: each form is a relation between what was found under
--- the member's name and what that is read as. This project's own.
+-- What the member of a session's text may be, and what it stands for: each form is a relation between what was found
+-- under the member's name and what that is read as. This project's own.
 use Rattle.std.specs.Prelude.{◌≡◌, ℕ, ◌<◌, ◌≤◌, List, [], ◌∷◌, Option, Some, None, codes, bytes_eq}
 use Rattle.std.specs.List.{AllByRecursion}
 use Rattle.json_text.specs.Characters.{quote}

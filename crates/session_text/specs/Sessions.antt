@@ -66,8 +66,8 @@ pub record IsSessionOf (bytes : List ℕ) (session : Session) : Type 0 where
   pub lead : LeadTo bytes (header session.replicas session.seed session.scene) session.events end
   pub space : is_blank (drop end bytes) ≡ true
 
--- The text of an event has the first fault: behind the header and events more than white space is left. Texts are counted
--- from 1.
+-- The text of an event has the first fault: behind the header and events more than white space is left. Texts are
+-- counted from 1.
 pub record HasFaultyEvent (bytes : List ℕ) (number : ℕ) (fault : TextFault) : Type 0 where
   pub head : Header
   pub events : List Event

@@ -45,7 +45,8 @@ session_so_far None events = None
 session_so_far (Some head) events =
     Some (record { replicas = head.replicas; seed = head.seed; scene = head.scene; events = events })
 
--- What is kept of a session so far: it is one, and so many messages were made by its events. Before the header there is none.
+-- What is kept of a session so far: it is one, and so many messages were made by its events. Before the header there is
+-- none.
 pub record IsFeed (head : Option Header) (events : List Event) (made : ℕ) : Type 0 where
   pub kept : IfSome (session_so_far head events) IsSession
   pub counted : made ≡ made_after 0 events

@@ -58,8 +58,8 @@ impl SessionFeed {
         }
     }
 
-    /// Takes the next text: the header's, or that of the next event. A text with a fault is refused for its first one, in
-    /// the order of its members. What was taken stays then, and for want of memory.
+    /// Takes the next text: the header's, or that of the next event. A text with a fault is refused for its first one,
+    /// in the order of its members. What was taken stays then, and for want of memory.
     pub fn take(&mut self, alloc: Global, text: &Raw) -> Result<(), Stop<TextFault>>
         requires { taken.is_full self.old ≡ false }
         ensures taken { OnOk result (TakesText self.old text.now self.new) }

@@ -138,7 +138,8 @@ fn carry_one(
     requires newer { are_rising (ids_of newer.old.items) ≡ true }
     requires step { are_rising (ids_of step.old.items) ≡ true }
     ensures newer { let stored = with_all_put newer.old.items store.now.elements in
-        OnOk result (newer.new.items ≡ (if is_taken stored e.now then with_put e.now newer.old.items else newer.old.items)) }
+        OnOk result (newer.new.items
+        ≡ (if is_taken stored e.now then with_put e.now newer.old.items else newer.old.items)) }
     ensures step { let stored = with_all_put newer.old.items store.now.elements in
         let now = with_all_put step.old.items captured.now.items in
         OnOk result (with_all_put step.new.items captured.now.items

@@ -94,16 +94,17 @@ impl Snapshot {
     }
 
     /// Plans a capture of what will be stored once the changed elements are: the elements to put, and the entry of what
-    /// will have changed since the last capture. Only the ids that were touched since then and those of the changed elements
-    /// are looked up. There is then room for the elements; those of the snapshot stay, also for want of memory.
+    /// will have changed since the last capture. Only the ids that were touched since then and those of the changed
+    /// elements are looked up. There is then room for the elements; those of the snapshot stay, also for want of
+    /// memory.
     pub fn plan_capture(
         &mut self,
         store: &Store,
         touched: &Touched,
         changed: &[Element],
     ) -> Result<(SnapshotStep, Entry), AllocError>
-        // Of each id that isn't touched the snapshot has what is stored. Each id of the snapshot is stored, and all that
-        // changed would be.
+        // Of each id that isn't touched the snapshot has what is stored. Each id of the snapshot is stored, and all
+        // that changed would be.
         requires untouched { AreUntouched touched.now self.old.elements store.now.elements }
         requires known { (id : Items ℕ)
             → IsSome (element_of self.old.elements id) → IsSome (element_of store.now.elements id) }
@@ -158,9 +159,9 @@ impl Snapshot {
         put_all(&mut self.elements, step.elements);
     }
 
-    /// Takes a stored change over that is captured by nobody. `old` is what was stored of the id before, if anything was.
-    /// A new element, or one of another kind, is then that of the snapshot. Another change is made of the element of the
-    /// snapshot, if there is one. For want of memory the elements are unchanged.
+    /// Takes a stored change over that is captured by nobody. `old` is what was stored of the id before, if anything
+    /// was. A new element, or one of another kind, is then that of the snapshot. Another change is made of the element
+    /// of the snapshot, if there is one. For want of memory the elements are unchanged.
     pub fn carry(&mut self, old: Option<&Element>, new: &Element) -> Result<(), AllocError>
         requires { IfSome (option_copied old) (λ old. old.id ≡ new.now.id) }
         ensures ok { OnOk result

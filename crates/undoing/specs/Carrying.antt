@@ -1,5 +1,5 @@
--- What taking an update makes of stored elements, and what a change that nobody captures makes of a snapshot, as functions.
--- This project's own, after Excalidraw's store.
+-- What taking an update makes of stored elements, and what a change that nobody captures makes of a snapshot, as
+-- functions. This project's own, after Excalidraw's store.
 use Rattle.std.specs.Prelude.{List, [], ◌∷◌, Option, Some, None, if◌then◌else◌}
 use Rattle.elem.specs.ElementValue.{ElementValue}
 use Rattle.elem_store.specs.Updates.{Taking, element_of, is_taken}
@@ -28,11 +28,13 @@ abbrev pub followed : Option ElementValue → ElementValue → ElementValue → 
 followed None old new snapshot = snapshot
 followed (Some captured) old new snapshot = with_put (undone (record { before = new; after = old }) captured) snapshot
 
--- A snapshot after a stored change was carried into it: a new element, or one of another kind, is then that of the snapshot.
+-- A snapshot after a stored change was carried into it: a new element, or one of another kind, is then that of the
+-- snapshot.
 abbrev pub carried_over : Option ElementValue → ElementValue → List ElementValue → List ElementValue
 carried_over None new snapshot = with_put new snapshot
 carried_over (Some old) new snapshot =
-    if same_kind old.kind new.kind then followed (element_of snapshot new.id) old new snapshot else with_put new snapshot
+    if same_kind old.kind new.kind then followed (element_of snapshot new.id) old new snapshot else with_put
+    new snapshot
 
 abbrev pub carried : Taking → List ElementValue → List ElementValue
 carried taking snapshot = carried_over taking.before taking.taken snapshot

@@ -12,11 +12,13 @@ use Rattle.undoing.specs.Undoing.{undone}
 
 -- Both of a pair are elements, as their types keep them.
 abbrev pub IsOfElements : Pair → Type 0
-IsOfElements pair = (IsElement pair.before × HasValidTexts pair.before) × (IsElement pair.after × HasValidTexts pair.after)
+IsOfElements pair = (IsElement pair.before × HasValidTexts pair.before)
+    × (IsElement pair.after × HasValidTexts pair.after)
 
 -- So are an update that becomes stored and what was stored before it.
 abbrev pub IsTakingOfElements : Taking → Type 0
-IsTakingOfElements taking = IfSome taking.before (λ e. IsElement e × HasValidTexts e) × (IsElement taking.taken × HasValidTexts taking.taken)
+IsTakingOfElements taking = IfSome taking.before (λ e. IsElement e × HasValidTexts e)
+    × (IsElement taking.taken × HasValidTexts taking.taken)
 
 -- the ids of pairs
 abbrev pub pair_ids : List Pair → List (List ℕ)

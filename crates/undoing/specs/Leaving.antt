@@ -12,17 +12,19 @@ use Rattle.undoing.specs.Steps.{Sought, sought}
 abbrev pub gains : {T : Type 0} → (T → T → Bool) → List T → List T → T → Bool
 gains same before after item = is_in same after item && not (is_in same before item)
 
--- A list changes item by item, as another one does from before to after: an item is in it now if that one gains it, or if it was
--- in it and that one doesn't lose it.
+-- A list changes item by item, as another one does from before to after: an item is in it now if that one gains it, or
+-- if it was in it and that one doesn't lose it.
 abbrev pub ChangesByItems : {T : Type 0} → (T → T → Bool) → List T → List T → List T → List T → Type 0
 ChangesByItems {T} same before after old new =
-    (item : T) → is_in same new item ≡ (gains same before after item || (is_in same old item && not (gains same after before item)))
+    (item : T) → is_in same new item
+    ≡ (gains same before after item || (is_in same old item && not (gains same after before item)))
 
--- What undoing a pair leaves of an element: each member outside the stamp that is the same before and after, or each one if the
--- element is of another kind; and of the two lists all items but those that the pair gained or lost, which it takes and gives
--- back.
+-- What undoing a pair leaves of an element: each member outside the stamp that is the same before and after, or each
+-- one if the element is of another kind; and of the two lists all items but those that the pair gained or lost, which
+-- it takes and gives back.
 pub record Leaves (pair : Pair) (now new : ElementValue) : Type 0 where
-  pub scalars : (name : List ℕ) → (scalar_of pair.before name ≡ scalar_of pair.after name) ⊎ (pair.after.kind ≢ now.kind)
+  pub scalars : (name : List ℕ) → (scalar_of pair.before name ≡ scalar_of pair.after name)
+      ⊎ (pair.after.kind ≢ now.kind)
       → scalar_of new name ≡ scalar_of now name
   pub groups : (pair.before.groups ≡ pair.after.groups) ⊎ (pair.after.kind ≢ now.kind) → new.groups ≡ now.groups
   pub group_items : pair.after.kind ≡ now.kind
@@ -31,9 +33,11 @@ pub record Leaves (pair : Pair) (now new : ElementValue) : Type 0 where
   pub bound_items : pair.after.kind ≡ now.kind
       → ChangesByItems same_listing_entry pair.after.bound pair.before.bound now.bound new.bound
 
--- What taking an entry back leaves of stored elements: each whose id no pair has, and of the others what their pair leaves.
+-- What taking an entry back leaves of stored elements: each whose id no pair has, and of the others what their pair
+-- leaves.
 pub record LeavesOthers (entry : List Pair) (old new : List ElementValue) : Type 0 where
-  pub apart : (id : List ℕ) → ((pair : Pair) → Contains entry pair → pair.after.id ≢ id) → element_of new id ≡ element_of old id
+  pub apart : (id : List ℕ) → ((pair : Pair) → Contains entry pair → pair.after.id ≢ id)
+      → element_of new id ≡ element_of old id
   pub each : (pair : Pair) (now : ElementValue) → Contains entry pair → element_of old pair.after.id ≡ Some now
       → (next : ElementValue) × (element_of new pair.after.id ≡ Some next) × Leaves pair now next
 

@@ -15,10 +15,11 @@ pub record Reverted : Type 0 where
   pub undone : ElementValue
 
 abbrev pub reverted : List ElementValue → Pair → Option Reverted
-reverted stored pair = option_map (λ now. record { now = now; undone = undone pair now }) (element_of stored pair.after.id)
+reverted stored pair = option_map (λ now. record { now = now; undone = undone pair now })
+    (element_of stored pair.after.id)
 
--- whether it changes outside the stamp; whether anybody sees that: it is live before or after; and whether it can't, since it
--- stands at the greatest version
+-- whether it changes outside the stamp; whether anybody sees that: it is live before or after; and whether it can't,
+-- since it stands at the greatest version
 abbrev pub changes : Reverted → Bool
 changes r = differ r.now r.undone
 
@@ -47,10 +48,11 @@ given stored time nonce pairs = filter_map (given_of stored time nonce) pairs
 -- the first id whose element would change and stands at the greatest version
 abbrev pub full_id : List ElementValue → List Pair → Option (List ℕ)
 full_id stored pairs =
-    option_map (λ (pair : Pair). pair.after.id) (find (λ pair. option_map_or is_full (reverted stored pair) false) pairs)
+    option_map (λ (pair : Pair). pair.after.id)
+    (find (λ pair. option_map_or is_full (reverted stored pair) false) pairs)
 
--- the topmost entry of a stack that is seen, what is below it, and the other stack once the entries above it went there, one
--- after another, with before and after exchanged
+-- the topmost entry of a stack that is seen, what is below it, and the other stack once the entries above it went
+-- there, one after another, with before and after exchanged
 pub record Sought : Type 0 where
   pub entry : List Pair
   pub below : List (List Pair)

@@ -1,5 +1,5 @@
--- What undoing a change makes of an element that others may have changed since, as a function. This project's own, after
--- Excalidraw's history.
+-- What undoing a change makes of an element that others may have changed since, as a function. This project's own,
+-- after Excalidraw's history.
 use Rattle.std.specs.Prelude.{ℕ, List, [], ◌∷◌, ◌++◌, bytes_eq, if◌then◌else◌}
 use Rattle.json_text.specs.declared.text.Member.{Member}
 use Rattle.elem.specs.ElementValue.{ElementValue}

@@ -37,10 +37,12 @@ pub fn changed_is_told()
 /// What is pending is an entry, and what stands for the pairs since the snapshot stands for it.
 pub fn pending_is_an_entry()
     ensures entry { (snapshot stored : List ElementValue)
-        → AreElements snapshot → AreElements stored → are_rising (ids_of stored) ≡ true → IsEntry (pending snapshot stored) }
+        → AreElements snapshot → AreElements stored → are_rising (ids_of stored) ≡ true
+        → IsEntry (pending snapshot stored) }
     ensures stands { (snapshot stored : List ElementValue) (parts : List Delta)
         → AreElements snapshot → AreElements stored
-        → EntryStandsFor parts (pairs_from (element_of snapshot) stored) → EntryStandsFor parts (pending snapshot stored) }
+        → EntryStandsFor parts (pairs_from (element_of snapshot) stored)
+        → EntryStandsFor parts (pending snapshot stored) }
 {}
 
 /// What is made of an element by undoing a change is an element, undoes the change, and is the only element that does.
@@ -53,7 +55,8 @@ pub fn undone_is_unique()
         → IsElement (undone pair now) × HasValidTexts (undone pair now) }
     ensures only { (pair : Pair) (now : ElementValue)
         → IsOfElements pair → pair.before.kind ≡ pair.after.kind → IsElement now → HasValidTexts now
-        → (result : ElementValue) → IsElement result → IsUndone pair.before pair.after now result → result ≡ undone pair now }
+        → (result : ElementValue) → IsElement result → IsUndone pair.before pair.after now result
+        → result ≡ undone pair now }
 {}
 
 /// The inverse of a part makes the undone element of any element, and the part that of the change the other way round.
@@ -63,21 +66,25 @@ pub fn parts_make_the_undone()
         → (part : Delta) (result : ElementValue) → PartStandsFor part pair.before pair.after
         → IsElement result → IsApplied (inverse part) now result → result ≡ undone pair now }
     ensures part { (old new captured : ElementValue)
-        → IsElement old → HasValidTexts old → IsElement new → HasValidTexts new → old.kind ≡ new.kind → IsElement captured → HasValidTexts captured
+        → IsElement old → HasValidTexts old → IsElement new → HasValidTexts new → old.kind ≡ new.kind
+        → IsElement captured → HasValidTexts captured
         → (part : Delta) (result : ElementValue) → PartStandsFor part old new
-        → IsElement result → IsApplied part captured result → result ≡ undone (record { before = new; after = old }) captured }
+        → IsElement result → IsApplied part captured result
+        → result ≡ undone (record { before = new; after = old }) captured }
 {}
 
 /// An element that is put is the one of its id, the others stay, and the ids rise.
 pub fn put_keeps_the_order()
     ensures { (e : ElementValue) (elements : List ElementValue) → are_rising (ids_of elements) ≡ true
         → (are_rising (ids_of (with_put e elements)) ≡ true)
-        × ((id : List ℕ) → element_of (with_put e elements) id ≡ (if has_id id e then Some e else element_of elements id)) }
+        × ((id : List ℕ) → element_of (with_put e elements) id
+        ≡ (if has_id id e then Some e else element_of elements id)) }
 {}
 
 /// What is made of stored elements by taking an update is what a store has that took it, and nothing else is.
 pub fn update_is_taken()
-    ensures has { (stored : List ElementValue) (e : ElementValue) → are_rising (ids_of stored) ≡ true → HasTaken stored e (taken e stored) }
+    ensures has { (stored : List ElementValue) (e : ElementValue) → are_rising (ids_of stored) ≡ true
+        → HasTaken stored e (taken e stored) }
     ensures only { (stored : List ElementValue) (e : ElementValue) (new : List ElementValue)
         → are_rising (ids_of stored) ≡ true → HasTaken stored e new → new ≡ taken e stored }
 {}
@@ -88,11 +95,12 @@ pub fn updates_are_taken()
         → AreStored updates stored → AreStored (updates ++ list) (taken_all list stored) }
     ensures only { (updates stored list new : List ElementValue)
         → AreStored updates stored → AreStored (updates ++ list) new → new ≡ taken_all list stored }
-    ensures elements { (stored list : List ElementValue) → AreElements stored → AreElements list → AreElements (taken_all list stored) }
+    ensures elements { (stored list : List ElementValue) → AreElements stored → AreElements list
+        → AreElements (taken_all list stored) }
 {}
 
-/// A snapshot into which changes of elements are carried stays one of elements in the order of their ids, and what becomes
-/// stored of elements are such changes.
+/// A snapshot into which changes of elements are carried stays one of elements in the order of their ids, and what
+/// becomes stored of elements are such changes.
 pub fn carrying_keeps_elements()
     ensures elements { (takings : List Taking) (snapshot : List ElementValue)
         → All IsTakingOfElements takings → AreElements snapshot → AreElements (carried_all takings snapshot) }
@@ -108,7 +116,8 @@ pub fn step_gives_the_undone()
         → Contains (given stored time nonce pairs) e → IsGiven stored time nonce pairs e }
     ensures all { (stored : List ElementValue) (time nonce : ℕ) (pairs : List Pair) (e : ElementValue)
         → IsGiven stored time nonce pairs e → Contains (given stored time nonce pairs) e }
-    ensures taken { (stored : List ElementValue) (time nonce : ℕ) → AreElements stored → (pairs : List Pair) (e : ElementValue)
+    ensures taken { (stored : List ElementValue) (time nonce : ℕ) → AreElements stored
+        → (pairs : List Pair) (e : ElementValue)
         → Contains (given stored time nonce pairs) e → is_taken stored e ≡ true }
 {}
 

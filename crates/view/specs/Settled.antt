@@ -20,9 +20,9 @@ unsettled e = record e {
   end_binding = None;
 }
 
--- The elements agree on their links, frames and groups: an arrow names an element exactly if that element lists it, and a
--- text a container exactly if the container lists it; an element lists one text at most; each binding names a bindable
--- target, each frame name a frame; and no element has a group twice.
+-- The elements agree on their links, frames and groups: an arrow names an element exactly if that element lists it, and
+-- a text a container exactly if the container lists it; an element lists one text at most; each binding names a
+-- bindable target, each frame name a frame; and no element has a group twice.
 pub record AreSettled (elements : List ElementValue) : Type 0 where
   pub arrows : ArrowsAgree elements
   pub texts : TextsAgree elements

@@ -32,7 +32,8 @@ comes_before e other = place_less e.index e.id other.index other.id
 -- elements in an order and one more, which goes before the first that doesn't come before it
 abbrev pub with_element : (ElementValue → ElementValue → Bool) → ElementValue → List ElementValue → List ElementValue
 with_element before e [] = e ∷ []
-with_element before e (other ∷ others) = if before other e then other ∷ with_element before e others else e ∷ other ∷ others
+with_element before e (other ∷ others) = if before other e then other ∷ with_element before e others else e
+    ∷ other ∷ others
 
 -- the elements in an order
 abbrev pub in_order : (ElementValue → ElementValue → Bool) → List ElementValue → List ElementValue

@@ -6,8 +6,8 @@ use Rattle.links.specs.Steps.{near}
 use Rattle.view.specs.Settled.{settled}
 use Rattle.view.specs.Shown.{without_index}
 
--- the elements of the two lists at most three steps of naming from an id are the same but for their keys, and in the same
--- order
+-- the elements of the two lists at most three steps of naming from an id are the same but for their keys, and in the
+-- same order
 abbrev pub AreAlikeNear : List ElementValue → List ElementValue → List ℕ → Type 0
 AreAlikeNear list other id = map without_index (near list id) ≡ map without_index (near other id)
 

@@ -47,8 +47,8 @@ pub fn view_of_a_view_is_that_view()
         → IsPermutation (shown live) stored → shown (live_elements stored) ≡ shown live }
 {}
 
-/// The stamps of elements play no part: lists that are the same but for versions, nonces and times are shown the same but
-/// for these.
+/// The stamps of elements play no part: lists that are the same but for versions, nonces and times are shown the same
+/// but for these.
 pub fn stamps_play_no_part()
     ensures { (live others : List ElementValue)
         → map unstamped live ≡ map unstamped others → map unstamped (shown live) ≡ map unstamped (shown others) }

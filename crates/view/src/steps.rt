@@ -7,10 +7,10 @@ ghost use Rattle.elem.specs.Order.{HaveDistinctIds};
 ghost use Rattle.view.specs.Shown.{without_index};
 ghost use Rattle.view.specs.Steps.{settled_of, settled_but_for_key, AreAlikeNear, HasAllNear};
 
-/// What texts, arrows, frames and groups make of an element depends on the elements at most three steps of naming from it
-/// alone: where these are the same but for their keys, and in the same order, in two lists, settling makes the same of the
-/// element in both, but for its key. Three steps are enough, since an arrow looks at its target, at the container that the
-/// target names, and at the other texts that name this container.
+/// What texts, arrows, frames and groups make of an element depends on the elements at most three steps of naming from
+/// it alone: where these are the same but for their keys, and in the same order, in two lists, settling makes the same
+/// of the element in both, but for its key. Three steps are enough, since an arrow looks at its target, at the
+/// container that the target names, and at the other texts that name this container.
 pub fn three_steps_are_enough()
     ensures alike { (list other : List ElementValue) (id : List ℕ)
         → HaveDistinctIds list → HaveDistinctIds other → AreAlikeNear list other id
@@ -21,8 +21,8 @@ pub fn three_steps_are_enough()
         → HaveDistinctIds list → HasAllNear among list id
         → settled_of (filter among list) id ≡ settled_of list id }
 
-    // Where some elements of two lists are the same but for their keys, and in the same order, and those near one are among
-    // them in both lists, settling makes the same of it in both, but for its key.
+    // Where some elements of two lists are the same but for their keys, and in the same order, and those near one are
+    // among them in both lists, settling makes the same of it in both, but for its key.
     ensures unchanged { (list other : List ElementValue) (among : ElementValue → Bool) (id : List ℕ)
         → HaveDistinctIds list → HaveDistinctIds other
         → map without_index (filter among list) ≡ map without_index (filter among other)

@@ -66,18 +66,20 @@ pub fn view_of(alloc: Global, store: &Store) -> Result<View, AllocError>
 }
 
 impl View {
-    /// What is shown: the live elements in scene order, with repaired keys, and with links, frames and groups that agree.
-    /// It takes no memory.
+    /// What is shown: the live elements in scene order, with repaired keys, and with links, frames and groups that
+    /// agree. It takes no memory.
     pub fn elements(&self) -> &[Element]
         ensures exact { result.now ≡ shown self.now }
         ensures keys { HaveRisingKeys result.now }
-        ensures order { (ordered : Items ElementValue) × IsSceneOrder self.now ordered × (ids_of result.now ≡ ids_of ordered) }
+        ensures order { (ordered : Items ElementValue) × IsSceneOrder self.now ordered
+            × (ids_of result.now ≡ ids_of ordered) }
         ensures ids { IsPermutation (ids_of self.now) (ids_of result.now) }
         ensures others { IsPermutation (map bare self.now) (map bare result.now) }
         ensures settled { AreSettled result.now }
 
         // The view of these elements, in any order, is this view.
-        ensures again { (stored : Items ElementValue) → IsPermutation result.now stored → shown (live_elements stored) ≡ result.now }
+        ensures again { (stored : Items ElementValue) → IsPermutation result.now stored
+            → shown (live_elements stored) ≡ result.now }
     {
         self.shown.as_slice()
     }
@@ -107,7 +109,8 @@ pub fn into_shown(alloc: Global, store: Store) -> Result<List<Element>, AllocErr
     Ok(elements)
 }
 
-/// The live elements of a store in scene order, moved out of it. Where they came in this order, they are in their places.
+/// The live elements of a store in scene order, moved out of it. Where they came in this order, they are in their
+/// places.
 fn ordered_of(alloc: Global, store: Store) -> Result<Vec<Element>, AllocError>
     ensures exact { IfOk result (λ ordered. ordered.items ≡ in_scene_order (live_elements store.elements)) }
     ensures live { IfOk result (λ _. HaveDistinctIds (live_elements store.elements)) }
@@ -131,7 +134,8 @@ fn live_given(store: Store) -> Vec<Element>
 
 /// Where the live elements of a store stand in it, in scene order.
 fn order_of(alloc: Global, store: &Store) -> Result<Vec<usize>, AllocError>
-    ensures exact { IfOk result (λ order. filter_map (slice_get store.now.elements) order.items ≡ in_scene_order (live_elements store.now.elements)) }
+    ensures exact { IfOk result (λ order. filter_map (slice_get store.now.elements) order.items
+        ≡ in_scene_order (live_elements store.now.elements)) }
     ensures distinct { IfOk result (λ order. AllPairs (λ i j. i ≢ j) order.items) }
     ensures live { IfOk result (λ _. HaveDistinctIds (live_elements store.now.elements)) }
 {
@@ -187,7 +191,8 @@ fn shown_of(alloc: Global, live: &mut Vec<Spot<'_>>) -> Result<List<Element>, Al
     settled_of(alloc, elements)
 }
 
-/// What is shown of elements in scene order: they get repaired keys, and then texts, arrows, frames and groups are settled.
+/// What is shown of elements in scene order: they get repaired keys, and then texts, arrows, frames and groups are
+/// settled.
 #[tactic(auto, unfolding(crate::specs::Settled::settled))]
 fn settled_of(alloc: Global, ordered: Vec<Element>) -> Result<List<Element>, AllocError>
     requires { HaveDistinctIds ordered.items }
@@ -222,14 +227,17 @@ fn copied(alloc: Global, spots: &Vec<Spot<'_>>) -> Result<Vec<Element>, AllocErr
     Ok(elements)
 }
 
-/// The stored elements of those that are shown otherwise than they are stored, copied. The spots tell where each stands.
+/// The stored elements of those that are shown otherwise than they are stored, copied. The spots tell where each
+/// stands.
 fn originals_of(
     alloc: Global,
     store: &Store,
     spots: &Vec<Spot<'_>>,
     shown: &List<Element>,
 ) -> Result<List<Element>, AllocError>
-    ensures { IfOk result (λ originals. All (λ e. IfSome (element_of store.now.elements e.id) (λ stored. as_stored originals e ≡ stored)) shown.now) }
+    ensures { IfOk result
+        (λ originals. All (λ e. IfSome (element_of store.now.elements e.id)
+        (λ stored. as_stored originals e ≡ stored)) shown.now) }
 {
     let mut originals = Vec::new(alloc);
     let mut spots = spots.iter();

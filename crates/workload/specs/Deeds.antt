@@ -39,11 +39,12 @@ abbrev pub capture_of : ℕ → Capture
 capture_of number =
     if number == 0 then captures.Later else (if number == 1 then captures.Never else captures.Now)
 
--- The event of this number, where so many messages were made before it: a command in the rows 0 to 13, undo in 14, redo in 15,
--- and in the others two messages are delivered, the latest among them. Its time is its number and one.
+-- The event of this number, where so many messages were made before it: a command in the rows 0 to 13, undo in 14, redo
+-- in 15, and in the others two messages are delivered, the latest among them. Its time is its number and one.
 unfoldable pub deed_of : ℕ → ℕ → Draws → Deed
 deed_of number made draws =
-    if nat_le (row_of number draws) 13 then Change draws.at (number + 1) (capture_of draws.capture) (order_of (row_of number draws) draws.element draws.other)
+    if nat_le (row_of number draws) 13 then Change draws.at (number + 1) (capture_of draws.capture)
+    (order_of (row_of number draws) draws.element draws.other)
     else (if row_of number draws == 14 then Undo draws.at (number + 1)
     else (if row_of number draws == 15 then Redo draws.at (number + 1)
     else Deliver draws.at ((200 * draws.element + draws.other) % made) (made - 1)))
@@ -62,7 +63,11 @@ pub record Course : Type 0 where
   pub generator : Lcg
 
 abbrev pub with_deed : Deed → Course → Course
-with_deed deed c = record { deeds = c.deeds ++ deed ∷ []; made = c.made + messages_of deed; generator = after_draws c.generator }
+with_deed deed c = record {
+  deeds = c.deeds ++ deed ∷ [];
+  made = c.made + messages_of deed;
+  generator = after_draws c.generator;
+}
 
 -- the drill of a seed after so many events
 unfoldable pub course : ℕ → ℕ → Course

@@ -15,7 +15,13 @@ drawn generator =
     let third = next_generator second in
     let fourth = next_generator third in
     let fifth = next_generator fourth in
-    record { at = draw 4 generator; row = draw 24 second; element = draw 200 third; other = draw 200 fourth; capture = draw 8 fifth }
+    record {
+      at = draw 4 generator;
+      row = draw 24 second;
+      element = draw 200 third;
+      other = draw 200 fourth;
+      capture = draw 8 fifth;
+    }
 
 -- the generator after them
 unfoldable pub after_draws : Lcg → Lcg

@@ -96,7 +96,8 @@ falling made = reverse (rising made)
 -- the last four events: each replica is delivered all messages
 abbrev pub last_texts : ℕ → List (List ℕ)
 last_texts made =
-    delivery_text 0 (rising made) ∷ delivery_text 1 (falling made) ∷ delivery_text 2 (rising made) ∷ delivery_text 3 (falling made) ∷ []
+    delivery_text 0 (rising made) ∷ delivery_text 1 (falling made) ∷ delivery_text 2 (rising made)
+    ∷ delivery_text 3 (falling made) ∷ []
 
 -- ---- the drill
 abbrev pub session_header_members : ℕ → List Pair
@@ -114,6 +115,7 @@ abbrev pub event_texts : ℕ → ℕ → List (List ℕ)
 event_texts seed events =
     map deed_text (course seed events).deeds ++ last_texts (course seed events).made
 
--- the text of the drill of a seed with so many events before the last four: a line for the header, and one for each event
+-- the text of the drill of a seed with so many events before the last four: a line for the header, and one for each
+-- event
 unfoldable pub drill_text : ℕ → ℕ → List ℕ
 drill_text seed events = flat_map line (session_header_text seed ∷ event_texts seed events)

@@ -19,4 +19,5 @@ Reads P fault result = ReadsOr P P fault result
 -- The entry that the item is was appended, if it is one.
 abbrev pub TakesEntry : List ℕ → List BoundRef → List BoundRef → Type 0
 TakesEntry item old new =
-    ((entry : BoundRef) × IsListingEntry item entry × (new ≡ old ++ entry ∷ [])) ⊎ (Lacks (IsListingEntry item) × (new ≡ old))
+    ((entry : BoundRef) × IsListingEntry item entry × (new ≡ old ++ entry ∷ []))
+    ⊎ (Lacks (IsListingEntry item) × (new ≡ old))

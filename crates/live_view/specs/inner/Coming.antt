@@ -46,7 +46,8 @@ pub record AreAround (live : List ElementValue) (e : ElementValue)
   pub more : HaveReached live near wide
   pub distinct : IsDistinct bytes_eq wide
 
--- Those of the elements that are near, but for one, are put where they are shown, with the keys that they are shown with.
+-- Those of the elements that are near, but for one, are put where they are shown, with the keys that they are shown
+-- with.
 pub record ArePutBeside (drawn part : List ElementValue) (near : List (List ℕ)) (id : List ℕ)
     (puts : List Put) : Type 0 where
   pub others : List (List ℕ)

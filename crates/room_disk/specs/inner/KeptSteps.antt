@@ -31,7 +31,8 @@ abbrev pub kept_answers : ℕ → ℕ → Option (List ℕ) → List (ℕ × Lis
 kept_answers sender count None = []
 kept_answers sender count (Some text) = (sender, kept_text (count + 1)) ∷ []
 
--- why a record isn't kept: for want of memory the journal is as before; where it failed it took a first part of the record
+-- why a record isn't kept: for want of memory the journal is as before; where it failed it took a first part of the
+-- record
 abbrev pub IsRecordStopped : Option (List ℕ) → SinkEnd → SinkEnd → KeepEnd → Type 0
 IsRecordStopped kept before after JournalFault =
     (text : List ℕ) × (kept ≡ Some text) × HasGained (record_of text ∷ []) before after

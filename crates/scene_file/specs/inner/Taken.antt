@@ -20,7 +20,8 @@ AreItemsRead value None = (values : List (List ℕ)) → HasItems value values �
 AreItemsRead value (Some read) = (values : List (List ℕ)) × HasItems value values × HaveCome values read
 
 -- The text is that of an object, which has these members but for its elements, of which this came.
-pub record IsTaken (text : List ℕ) (found : List Pair) (read : Option (Result (List ElementValue) FaultyElement)) : Type 0 where
+pub record IsTaken (text : List ℕ) (found : List Pair)
+    (read : Option (Result (List ElementValue) FaultyElement)) : Type 0 where
   pub members : List Pair
   pub object : IsObject text members
   pub are : AreMembers 127 found

@@ -31,8 +31,8 @@ pub record WorldStandsFor (played : Played) (w : World) : Type 0 where
   pub events : played.events ≡ w.events
   pub refused : played.refused.items ≡ w.refused
 
--- What the program holds after an event, which makes such worlds of worlds, stands for what it makes of what was stood for; there
--- are as many replicas, and one event more.
+-- What the program holds after an event, which makes such worlds of worlds, stands for what it makes of what was stood
+-- for; there are as many replicas, and one event more.
 pub record IsWorldAfter (old : Played) (makes : World → World) (new : Played) : Type 0 where
   pub world : (w : World) → WorldStandsFor old w → WorldStandsFor new (makes w)
   pub seats : vec_len new.seats ≡ vec_len old.seats
