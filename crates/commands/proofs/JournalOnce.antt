@@ -16,11 +16,11 @@ use Rattle.scene_file.specs.declared.layout.Layout.TheVariants.{Compact}
 use Rattle.scene_file.specs.declared.fault.SceneFault.{SceneFault}
 use Rattle.scene_file.specs.declared.fault.SceneFault.TheVariants.{Json, NotObject, NotScene, Elements, AppState, Files, Element}
 use Rattle.scene_file.proofs.CallerLemmas.{fault-once}
-use Rattle.room_disk.specs.Lines.{lines_of}
+use Rattle.intake.specs.Lines.{lines_of}
 use Rattle.room_disk.specs.Recovering.{HasFaultyLine, IsLineFault, IsRecoveredAs, IsSceneLineFault, IsSceneReadAs, IsUpdateLineFault, Recovered}
 use Rattle.room_disk.specs.declared.fault.LineFault.{LineFault}
 use Rattle.room_disk.specs.declared.fault.LineFault.TheVariants.{Scene as SceneLine, Message as MessageLine, Other}
-use Rattle.room_disk.proofs.Once.{kept-once, kept-sound}
+use Rattle.room_disk.proofs.CallerLemmas.{kept-once, kept-sound}
 use Rattle.commands.specs.Answers.{IsAnswer}
 use Rattle.commands.specs.Faults.{newline}
 use Rattle.commands.specs.Journals.{IsJournalRefusal, IsToldAs}

@@ -14,7 +14,7 @@ pub record HasTaken {F : Type 0} (before after : SourceEnd) (used : ℕ) (feed :
   pub given : Gave before after stream
   pub stands : StandsIn stream [] feed reader stop
 
-Gave-none : (left : Option (List ℕ)) → left ≡ option_map (λ rest. [] ++ rest) left
+pub Gave-none : (left : Option (List ℕ)) → left ≡ option_map (λ rest. [] ++ rest) left
 Gave-none None = refl
 Gave-none (Some rest) = refl
 

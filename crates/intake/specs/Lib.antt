@@ -1,1 +1,4 @@
+pub mod Answering
+pub mod Lines
 pub mod Texts
+pub mod inner

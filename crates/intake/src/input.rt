@@ -1,18 +1,16 @@
 //! The texts of a whole input.
 
-ghost use Rattle.std.specs.Prelude.{◌≡◌, ◌≢◌, ℕ, ◌+◌, ◌^◌, ◌<◌, ◌≤◌, List, [], ◌++◌, length, take, IfOk, OnOk, OnErr, vec_len};
+ghost use Rattle.std.specs.Prelude.{◌≡◌, ◌≢◌, ℕ, ◌+◌, ◌^◌, ◌<◌, ◌≤◌, List, [], ◌++◌, length, take, IfOk, OnOk, OnErr};
 ghost use Rattle.board_ends.specs.Counts.{Rose};
 ghost use Rattle.board_ends.specs.Ends.{Gave, IsAtEnd};
 ghost use Rattle.intake.specs.Texts.{StandsIn, AreRead};
 
+use crate::line::{PIECE, empty_piece};
 use crate::reading::{Reader, Stopped, finish, take_piece};
 use board_base::Stop;
 use board_ends::{Failed, ReadError, Source};
 use json_reader::Feed;
-use std::alloc::{AllocError, Global};
-
-/// How many bytes are asked of a source at once.
-const PIECE: usize = 65536;
+use std::alloc::Global;
 
 /// Hands the texts that the source gives on, each when it ends. What stops that first is the answer, and the source is read
 /// on to its end all the same. It stops at a failure, and at the byte after `limit` bytes.
@@ -97,11 +95,4 @@ fn next_piece<S: Source, R: Reader>(
         }
         Err(Failed) => Err(Stop::Fault(ReadError::Failed)),
     }
-}
-
-/// A buffer for the bytes that are asked for at once.
-fn empty_piece(alloc: Global) -> Result<Vec<u8>, AllocError>
-    ensures { IfOk result (λ piece. vec_len piece ≡ PIECE) }
-{
-    vec![in alloc; 0; PIECE]
 }

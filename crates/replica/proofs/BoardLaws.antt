@@ -1,5 +1,6 @@
 -- What a board is after it stored updates: it is sound, and stands for what the same makes of a state.
-use Rattle.std.proofs.Common.{◌≡◌, true, List, [], ◌∷◌, IsSome, refl, sym, ap, ◌∙◌, subst, inl, inr, arith}
+use Rattle.std.proofs.Common.{◌≡◌, ◌≢◌, ◌↔◌, Bool, true, false, IsTrue, List, [], ◌∷◌, IsSome, refl, sym, ap, ◌∙◌, subst, inl, inr, arith}
+use Rattle.std.proofs.lemmas.Bool.{true_from_ne_false}
 use Rattle.std.proofs.lemmas.List.Elements.{All-nil, Contains-append_cases}
 use Rattle.frac_keys.specs.Rising.{are_rising}
 use Rattle.elem.specs.ElementValue.{ElementValue}
@@ -54,6 +55,19 @@ nothing-told = (
 -- ---- what is pending
 pub pending-is : (snapshot stored : List ElementValue) (entry : List Delta) → AreElements snapshot → AreElements stored → are_rising (ids_of stored) ≡ true → EntryStandsFor entry (pending snapshot stored) → IsEntryOf entry (pending snapshot stored)
 pending-is snapshot stored entry are are' rise stands = record { stands = stands; entry = pending-entry snapshot stored are are' rise }
+
+-- an entry has a part exactly where it is of some pair
+entry-empty : (parts : List Delta) (pairs : List Pair) → IsEntryOf parts pairs → (parts ≡ [] → pairs ≡ []) × (pairs ≡ [] → parts ≡ [])
+entry-empty [] [] is = (λ none. refl, λ none. refl)
+entry-empty [] (pair ∷ pairs) is = absurd (noted-stands [] (pair ∷ pairs) [] [] is tt)
+entry-empty (part ∷ parts) [] is = absurd (noted-stands (part ∷ parts) [] [] [] is tt)
+entry-empty (part ∷ parts) (pair ∷ pairs) is = (λ none. absurd (cc), λ none. absurd (cc))
+
+pub entry-tells : (snapshot stored : List ElementValue) (entry : List Delta) (has : Bool) → AreElements snapshot → AreElements stored → are_rising (ids_of stored) ≡ true → EntryStandsFor entry (pending snapshot stored)
+    → (has ≡ true → entry ≢ []) → (has ≡ false → entry ≡ []) → IsTrue has ↔ (pending snapshot stored ≢ [])
+entry-tells snapshot stored entry has are are' rise stands some none =
+    let empty = entry-empty entry (pending snapshot stored) (pending-is snapshot stored entry are are' rise stands) in
+    (λ t e. some t (empty.1 e), λ n. true_from_ne_false has (λ f. n (empty.0 (none f))))
 
 -- its ids are stored
 pub pending-ids : (snapshot stored : List ElementValue) (entry : List Delta) → are_rising (ids_of stored) ≡ true → EntryStandsFor entry (pending snapshot stored) → HasStoredIds stored entry

@@ -1,5 +1,5 @@
 -- A replica stands for what its board stands for, with the ids that are held.
-use Rattle.std.proofs.Common.{◌≡◌, ◌≤◌, ℕ, true, false, List, [], ◌∷◌, Option, Some, None, Result, Ok, Err, IfOk, IfErr, OnOk, OnErr, refl, sym, ap, ◌∙◌, subst}
+use Rattle.std.proofs.Common.{◌≡◌, ◌≤◌, ℕ, Bool, true, false, List, [], ◌∷◌, Option, Some, None, Result, Ok, Err, IfOk, IfErr, OnOk, OnErr, refl, sym, ap, ◌∙◌, subst}
 use Rattle.board_base.specs.declared.stop.Stop.{Stop}
 use Rattle.board_base.specs.declared.stop.Stop.TheVariants.{Fault, Memory}
 use Rattle.elem.specs.ElementValue.{ElementValue}
@@ -13,16 +13,17 @@ use Rattle.board_commands.specs.declared.command.Capture.{Capture}
 use Rattle.board_commands.specs.declared.command.Capture.TheVariants.{Now, Later, Never}
 use Rattle.board_commands.specs.declared.command.Command.{Command}
 use Rattle.effects.specs.declared.refusal.Refusal.{Refusal}
-use Rattle.history.specs.Stacks.{OnFull}
-use Rattle.history.specs.declared.step.Step.{Step}
+use Rattle.history.specs.Stacks.{OnFull, put_step}
 use Rattle.undoing.specs.Differing.{pending}
 use Rattle.undoing.specs.Steps.{Turn}
-use Rattle.replica.specs.Boards.{Told, ToldStandsFor, IsTold, HasCarriedAll, HasStopped, HasStoredGiven, HasTurned}
+use Rattle.replica.specs.Boards.{Told, ToldStandsFor, IsTold, HasCarriedAll, HasPutStep, HasStopped, HasStoredGiven, HasTurned, IsPlanOf, IsPlannedStep}
+use Rattle.replica.specs.declared.planned.PlannedStep.{PlannedStep}
 use Rattle.replica.specs.Standing.{Kept, ReplicaStandsFor}
 use Rattle.replica.specs.State as state
 use Rattle.replica.specs.State.{State}
 use Rattle.replica.proofs.BoardLaws.{Becomes-told, carried-becomes, given-becomes}
-use Rattle.replica.proofs.TurnLaws.{undone, undo-full, redone, redo-full}
+use Rattle.replica.proofs.CallLaws.{turned-from}
+use Rattle.replica.proofs.TurnLaws.{plan-answers, turn-full, turned-sound, turned-stands}
 
 -- a board with the ids that are held
 abbrev pub kept_of : Told → List (List ℕ) → Kept
@@ -83,16 +84,21 @@ module _ (old new : Told) (held : List (List ℕ)) (replica : Kept) (is : kept_o
   refused-seen command time nonce (Fault refusal) h = outcome-seen command time nonce (Err refusal) h
   refused-seen command time nonce Memory h = tt
 
-  pub change-told : (capture : Capture) (given : List ElementValue) → HasStoredGiven capture old given new → IsTold new
+  change-told : (capture : Capture) (given : List ElementValue) → HasStoredGiven capture old given new → IsTold new
   change-told capture given h = Becomes-told old new (state.after_given capture given) told (given-becomes capture old given new told.0 h)
 
-  pub change-stands : (command : Command) (capture : Capture) (time nonce : ℕ) (given : List ElementValue) → outcome old.stored (shown old.view) command time nonce ≡ Ok given → HasStoredGiven capture old given new
-      → (s : State) → ReplicaStandsFor replica s → ReplicaStandsFor (kept_of new held) (state.after_change command capture time nonce s)
-  change-stands command capture time nonce given o h s st =
-      let own = own-stands s st in
-      let after = after-stands old new held (state.after_given capture given) (given-becomes capture old given new told.0 h).stands (given-held capture given) s own in
-      let found : state.outcome_on command time nonce s ≡ Ok given = subst (λ es. outcome es (shown (live_elements es)) command time nonce ≡ Ok given) own.stored (subst (λ es. outcome old.stored (shown es) command time nonce ≡ Ok given) told.0.view o) in
-      subst (λ o. ReplicaStandsFor (kept_of new held) (state.after_outcome capture o s)) (sym found) after
+  given-stands : (capture : Capture) (given : List ElementValue) → HasStoredGiven capture old given new → (s : State) → ReplicaStandsFor replica s → ReplicaStandsFor (kept_of new held) (state.after_given capture given s)
+  given-stands capture given h s st =
+      after-stands old new held (state.after_given capture given) (given-becomes capture old given new told.0 h).stands (given-held capture given) s (own-stands s st)
+
+  pub given-told : {A B : Type 0} (r : Result A B) (capture : Capture) (given : List ElementValue) → OnOk r (HasStoredGiven capture old given new) → OnErr r (new ≡ old) → IsTold new
+  given-told (Ok done) capture given ok err = change-told capture given ok
+  given-told (Err stop) capture given ok err = subst IsTold (sym err) told
+
+  pub given-after : {A B : Type 0} (r : Result A B) (capture : Capture) (given : List ElementValue) → OnOk r (HasStoredGiven capture old given new)
+      → OnOk r ((s : State) → ReplicaStandsFor replica s → ReplicaStandsFor (kept_of new held) (state.after_given capture given s))
+  given-after (Ok done) capture given ok = given-stands capture given ok
+  given-after (Err stop) capture given ok = tt
 
   -- ---- a delivery
   pub delivered-told : (free : List ElementValue) → HasCarriedAll old free new → IsTold new
@@ -105,69 +111,47 @@ module _ (old new : Told) (held : List (List ℕ)) (replica : Kept) (is : kept_o
       subst (λ es. ReplicaStandsFor (kept_of new held) (state.carried_with es s)) (same ∙ ap (λ ids. free_elements ids list) own.held) after
 
   -- ---- undo and redo
-  module _ (time nonce : ℕ) (early : time ≤ greatest_whole) (small : nonce ≤ greatest_whole) where
-    pub undone-told : (step : Step) → HasTurned true old time nonce step new → IsTold new
-    undone-told step h =
-        let t = undone old time nonce early small told.0 new step h in
-        (t.is_sound, (state.after_undo time nonce told.1.0, t.stands told.1.0 told.1.1))
+  pub planned-seen : (r : Result PlannedStep (Stop VersionFull)) → IfOk r (IsPlannedStep old.stored old.snapshot old.stacks) → IfOk r (IsPlannedStep replica.stored replica.snapshot replica.stacks)
+  planned-seen r h = subst (λ (k : Kept). IfOk r (IsPlannedStep k.stored k.snapshot k.stacks)) is h
 
-    pub undone-answers : (step : Step) → HasTurned true old time nonce step new → (s : State) → ReplicaStandsFor replica s → state.IsStepAnswer step (state.undo_on time nonce s)
-    undone-answers step h s st = (undone old time nonce early small told.0 new step h).answers s (to-told old held s (own-stands s st))
+  pub planned-told : (plan : PlannedStep) → IsPlannedStep replica.stored replica.snapshot replica.stacks plan → IsPlannedStep old.stored old.snapshot old.stacks plan
+  planned-told plan h = subst (λ (k : Kept). IsPlannedStep k.stored k.snapshot k.stacks plan) (sym is) h
 
-    pub undone-stands : (step : Step) → HasTurned true old time nonce step new → (s : State) → ReplicaStandsFor replica s → ReplicaStandsFor (kept_of new held) (state.after_undo time nonce s)
-    undone-stands step h s st =
-        after-stands old new held (state.after_undo time nonce) (undone old time nonce early small told.0 new step h).stands (undo-held time nonce) s (own-stands s st)
+  own-answers : (plan : PlannedStep) → IsPlannedStep old.stored old.snapshot old.stacks plan → (s : State) → ReplicaStandsFor replica s → state.IsStepAnswer plan.step (state.turn_on plan.undo plan.time plan.nonce s)
+  own-answers plan h s st =
+      plan-answers plan.undo old plan.time plan.nonce h.time h.nonce told.0 h.entry h.stands plan.step (put_step plan.history old.stacks) h.comes s (to-told old held s (own-stands s st))
 
-    pub undo-stops : (stop : Stop VersionFull) → OnFull stop (HasStopped true old) → OnFull stop (λ id. (s : State) → ReplicaStandsFor replica s → state.undo_on time nonce s ≡ Some (Err id))
-    undo-stops (Fault full) h = λ s st. undo-full old time nonce early small told.0 full.0 h s (to-told old held s (own-stands s st))
-    undo-stops Memory h = tt
+  pub planned-answers : (undo : Bool) (time nonce : ℕ) (r : Result PlannedStep (Stop VersionFull)) → IfOk r (IsPlannedStep old.stored old.snapshot old.stacks) → IfOk r (IsPlanOf undo time nonce)
+      → IfOk r (λ plan. (s : State) → ReplicaStandsFor replica s → state.IsStepAnswer plan.step (state.turn_on undo time nonce s))
+  planned-answers undo time nonce (Ok plan) h call = λ (s : State) (st : ReplicaStandsFor replica s).
+      let own : state.IsStepAnswer plan.step (state.turn_on plan.undo plan.time nonce s) = subst (λ (n : ℕ). state.IsStepAnswer plan.step (state.turn_on plan.undo plan.time n s)) call.of_nonce (own-answers plan h s st) in
+      let timed : state.IsStepAnswer plan.step (state.turn_on plan.undo time nonce s) = subst (λ (t : ℕ). state.IsStepAnswer plan.step (state.turn_on plan.undo t nonce s)) call.of_time own in
+      subst (λ (u : Bool). state.IsStepAnswer plan.step (state.turn_on u time nonce s)) call.of_undo timed
+  planned-answers undo time nonce (Err stop) h call = tt
 
-    pub redone-told : (step : Step) → HasTurned false old time nonce step new → IsTold new
-    redone-told step h =
-        let t = redone old time nonce early small told.0 new step h in
-        (t.is_sound, (state.after_redo time nonce told.1.0, t.stands told.1.0 told.1.1))
+  full-stops : (undo : Bool) (time nonce : ℕ) → time ≤ greatest_whole → nonce ≤ greatest_whole → (stop : Stop VersionFull) → OnFull stop (HasStopped undo old) → OnFull stop (λ id. (s : State) → ReplicaStandsFor replica s → state.turn_on undo time nonce s ≡ Some (Err id))
+  full-stops undo time nonce early small (Fault full) h = λ s st. turn-full undo old time nonce early small told.0 full.0 h s (to-told old held s (own-stands s st))
+  full-stops undo time nonce early small Memory h = tt
 
-    pub redone-answers : (step : Step) → HasTurned false old time nonce step new → (s : State) → ReplicaStandsFor replica s → state.IsStepAnswer step (state.redo_on time nonce s)
-    redone-answers step h s st = (redone old time nonce early small told.0 new step h).answers s (to-told old held s (own-stands s st))
+  pub plan-stops : (undo : Bool) (time nonce : ℕ) → time ≤ greatest_whole → nonce ≤ greatest_whole → (r : Result PlannedStep (Stop VersionFull)) → IfErr r (λ stop. OnFull stop (HasStopped undo old)) → IfErr r (λ stop. OnFull stop (λ id. (s : State) → ReplicaStandsFor replica s → state.turn_on undo time nonce s ≡ Some (Err id)))
+  plan-stops undo time nonce early small (Ok plan) full = tt
+  plan-stops undo time nonce early small (Err stop) full = full-stops undo time nonce early small stop full
 
-    pub redone-stands : (step : Step) → HasTurned false old time nonce step new → (s : State) → ReplicaStandsFor replica s → ReplicaStandsFor (kept_of new held) (state.after_redo time nonce s)
-    redone-stands step h s st =
-        after-stands old new held (state.after_redo time nonce) (redone old time nonce early small told.0 new step h).stands (redo-held time nonce) s (own-stands s st)
+  turn-held : (undo : Bool) (time nonce : ℕ) (s : State) → (state.after_turn undo time nonce s).held ≡ s.held
+  turn-held true time nonce s = undo-held time nonce s
+  turn-held false time nonce s = redo-held time nonce s
 
-    pub redo-stops : (stop : Stop VersionFull) → OnFull stop (HasStopped false old) → OnFull stop (λ id. (s : State) → ReplicaStandsFor replica s → state.redo_on time nonce s ≡ Some (Err id))
-    redo-stops (Fault full) h = λ s st. redo-full old time nonce early small told.0 full.0 h s (to-told old held s (own-stands s st))
-    redo-stops Memory h = tt
+  -- a planned step that was put
+  module _ (plan : PlannedStep) (h : IsPlannedStep old.stored old.snapshot old.stacks plan) (put : HasPutStep old plan.step (put_step plan.history old.stacks) new) where
+    turned : HasTurned plan.undo old plan.time plan.nonce plan.step new
+    turned = turned-from old new plan h put
 
-    -- by what undo answers
-    pub undo-told : (r : Result Step (Stop VersionFull)) → IfOk r (λ step. HasTurned true old time nonce step new) → OnErr r (new ≡ old) → IsTold new
-    undo-told (Ok step) ok err = undone-told step ok
-    undo-told (Err stop) ok err = subst IsTold (sym err) told
+    pub put-told : IsTold new
+    put-told = (
+      turned-sound plan.undo old plan.time plan.nonce h.time h.nonce told.0 plan.step new turned,
+      (state.after_turn plan.undo plan.time plan.nonce told.1.0, turned-stands plan.undo old plan.time plan.nonce h.time h.nonce told.0 plan.step new turned told.1.0 told.1.1),
+    )
 
-    pub undo-answers : (r : Result Step (Stop VersionFull)) → IfOk r (λ step. HasTurned true old time nonce step new) → IfOk r (λ step. (s : State) → ReplicaStandsFor replica s → state.IsStepAnswer step (state.undo_on time nonce s))
-    undo-answers (Ok step) ok = undone-answers step ok
-    undo-answers (Err stop) ok = tt
-
-    pub undo-faults : (r : Result Step (Stop VersionFull)) → IfErr r (λ stop. OnFull stop (HasStopped true old)) → IfErr r (λ stop. OnFull stop (λ id. (s : State) → ReplicaStandsFor replica s → state.undo_on time nonce s ≡ Some (Err id)))
-    undo-faults (Ok step) full = tt
-    undo-faults (Err stop) full = undo-stops stop full
-
-    pub undo-after : (r : Result Step (Stop VersionFull)) → IfOk r (λ step. HasTurned true old time nonce step new) → OnOk r ((s : State) → ReplicaStandsFor replica s → ReplicaStandsFor (kept_of new held) (state.after_undo time nonce s))
-    undo-after (Ok step) ok = undone-stands step ok
-    undo-after (Err stop) ok = tt
-
-    -- by what redo answers
-    pub redo-told : (r : Result Step (Stop VersionFull)) → IfOk r (λ step. HasTurned false old time nonce step new) → OnErr r (new ≡ old) → IsTold new
-    redo-told (Ok step) ok err = redone-told step ok
-    redo-told (Err stop) ok err = subst IsTold (sym err) told
-
-    pub redo-answers : (r : Result Step (Stop VersionFull)) → IfOk r (λ step. HasTurned false old time nonce step new) → IfOk r (λ step. (s : State) → ReplicaStandsFor replica s → state.IsStepAnswer step (state.redo_on time nonce s))
-    redo-answers (Ok step) ok = redone-answers step ok
-    redo-answers (Err stop) ok = tt
-
-    pub redo-faults : (r : Result Step (Stop VersionFull)) → IfErr r (λ stop. OnFull stop (HasStopped false old)) → IfErr r (λ stop. OnFull stop (λ id. (s : State) → ReplicaStandsFor replica s → state.redo_on time nonce s ≡ Some (Err id)))
-    redo-faults (Ok step) full = tt
-    redo-faults (Err stop) full = redo-stops stop full
-
-    pub redo-after : (r : Result Step (Stop VersionFull)) → IfOk r (λ step. HasTurned false old time nonce step new) → OnOk r ((s : State) → ReplicaStandsFor replica s → ReplicaStandsFor (kept_of new held) (state.after_redo time nonce s))
-    redo-after (Ok step) ok = redone-stands step ok
-    redo-after (Err stop) ok = tt
+    pub put-stands : (s : State) → ReplicaStandsFor replica s → ReplicaStandsFor (kept_of new held) (state.after_turn plan.undo plan.time plan.nonce s)
+    put-stands s st =
+        after-stands old new held (state.after_turn plan.undo plan.time plan.nonce) (turned-stands plan.undo old plan.time plan.nonce h.time h.nonce told.0 plan.step new turned) (turn-held plan.undo plan.time plan.nonce) s (own-stands s st)

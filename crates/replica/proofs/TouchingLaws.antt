@@ -1,11 +1,8 @@
 -- Of each id that isn't touched the snapshot still has what is stored, after each call on a board.
-use Rattle.std.proofs.Common.{◌≡◌, ℕ, List, Result, Ok, Err, OnOk, OnErr, sym, ap, ◌∙◌, subst}
-use Rattle.frac_keys.specs.Rising.{are_rising}
+use Rattle.std.proofs.Common.{◌≡◌, ℕ, List, Result, Ok, Err, OnOk, OnErr, sym, ap, ◌∙◌}
 use Rattle.elem.specs.ElementValue.{ElementValue}
-use Rattle.elem_store.specs.Updates.{element_of, ids_of, takings}
-use Rattle.undoing.specs.Carrying.{taken_all, carried_all}
-use Rattle.snapshot.specs.Touched.{AreUntouched, HasTouched}
-use Rattle.snapshot.proofs.CallerLemmas.{untouched-grown, untouched-taken, untouched-carried}
+use Rattle.elem_store.specs.Updates.{element_of}
+use Rattle.snapshot.specs.Touched.{AreUntouched}
 
 -- what follows from what holds where a call succeeds, and from what holds where it fails
 pub either-way : {X Y : Type 0} {P Q R : Type 0} (result : Result X Y) → OnOk result P → OnErr result Q → (P → R) → (Q → R) → R

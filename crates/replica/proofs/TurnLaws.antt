@@ -1,5 +1,5 @@
--- What a board is after undo and redo: it is sound, and stands for what the same makes of a state.
-use Rattle.std.proofs.Common.{◌≡◌, ◌≤◌, ℕ, true, false, List, Some, None, Ok, Err, Contains, refl, sym, ◌∙◌, subst}
+-- What a board is after undo or redo: it is sound, and stands for what the same makes of a state.
+use Rattle.std.proofs.Common.{◌≡◌, ◌≤◌, ℕ, Bool, true, false, not, List, Option, Some, None, Result, Ok, Err, Contains, refl, sym, ◌∙◌, subst}
 use Rattle.std.proofs.lemmas.List.Elements.{All-weaker, All-contains_itself}
 use Rattle.elem.specs.ElementValue.{ElementValue}
 use Rattle.elem.specs.Facts.{greatest_whole}
@@ -7,15 +7,16 @@ use Rattle.elem.specs.Said.{AreElements}
 use Rattle.elem_store.specs.Updates.{is_taken}
 use Rattle.delta.specs.Delta.{Delta}
 use Rattle.delta.specs.Pairs.{EntryStandsFor}
+use Rattle.history.specs.Pairs.{StackStandsFor}
 use Rattle.view.specs.Shown.{live_elements}
 use Rattle.history.specs.declared.step.Step.{Step}
 use Rattle.history.specs.declared.step.Step.TheVariants.{Done, Nothing}
-use Rattle.history.specs.Stacks.{Stacks, HaveStoredIds, HasStepped, noted}
+use Rattle.history.specs.Stacks.{Stacks, HaveStoredIds, HasStepped, noted, side}
 use Rattle.history.proofs.CallerLemmas.{ids-stored, step-nothing, step-full, step-done, step-taken}
 use Rattle.undoing.specs.Carrying.{taken_all}
 use Rattle.undoing.specs.Differing.{pending}
-use Rattle.undoing.specs.Steps.{step}
-use Rattle.replica.specs.Boards.{Told, ToldStandsFor, IsSound, BecomeStored, HasTurned, HasStopped}
+use Rattle.undoing.specs.Steps.{Turn, step}
+use Rattle.replica.specs.Boards.{Told, ToldStandsFor, IsSound, BecomeStored, HasTurned, HasStopped, StacksComeBy}
 use Rattle.replica.specs.State as state
 use Rattle.replica.specs.State.{State}
 use Rattle.replica.proofs.BoardLaws.{told-is, captured_told, captured-stands, captured-sound, stored-rise, stored-elements}
@@ -59,111 +60,95 @@ module _ (old : Told) (sound : IsSound old) (entry : List Delta) (stands : Entry
     redo_ids = stack-kept old.stored given stacks.redo sound.stored_rise redo;
   }
 
-module _ (old : Told) (time nonce : ℕ) (early : time ≤ greatest_whole) (small : nonce ≤ greatest_whole) (sound : IsSound old) where
-  -- ---- undo
-  -- what a step answers, and what the board is and stands for then
-  pub record IsTurned (answer : Step → State → Type 0) (after : State → State) (step : Step) (new : Told) : Type 0 where
-    pub is_sound : IsSound new
-    pub answers : (s : State) → ToldStandsFor old s → answer step s
-    pub stands : (s : State) → ToldStandsFor old s → ToldStandsFor new (after s)
+-- ---- by which side
+side-stands : (undo : Bool) (t : Told) (s : State) → ToldStandsFor t s → StackStandsFor (side undo t.stacks) (state.entries undo s)
+side-stands true t s st = st.undo
+side-stands false t s st = st.redo
 
-  abbrev undo_answer : Step → State → Type 0
-  undo_answer answer s = state.IsStepAnswer answer (state.undo_on time nonce s)
+side-ids : (undo : Bool) (stored : List ElementValue) (stacks : Stacks) → HaveStoredIds stored stacks.undo → HaveStoredIds stored stacks.redo → HaveStoredIds stored (side undo stacks)
+side-ids true stored stacks undo redo = undo
+side-ids false stored stacks undo redo = redo
 
-  abbrev redo_answer : Step → State → Type 0
-  redo_answer answer s = state.IsStepAnswer answer (state.redo_on time nonce s)
+both-ids : (undo : Bool) (stored : List ElementValue) (stacks : Stacks) → HaveStoredIds stored (side undo stacks) → HaveStoredIds stored (side (not undo) stacks) → HaveStoredIds stored stacks.undo × HaveStoredIds stored stacks.redo
+both-ids true stored stacks own other = (own, other)
+both-ids false stored stacks own other = (other, own)
 
-  undo-done : (new : Told) (given : List ElementValue) (h : HasTurned true old time nonce (Done given) new) → IsTurned undo_answer (state.after_undo time nonce) (Done given) new
-  undo-done new given h =
+-- what undo, or redo, comes to
+abbrev found_in : Bool → ℕ → ℕ → State → Option (Result Turn (List ℕ))
+found_in undo time nonce s = step s.stored time nonce (state.entries undo (state.captured s)) (state.entries (not undo) (state.captured s))
+
+turn-is : (undo : Bool) (time nonce : ℕ) (s : State) (o : Option (Result Turn (List ℕ))) → found_in undo time nonce s ≡ o → state.turn_on undo time nonce s ≡ o
+turn-is true time nonce s o h = h
+turn-is false time nonce s o h = h
+
+after-done : (undo : Bool) (time nonce : ℕ) (new : Told) (s : State) (turn : Turn) → state.turn_on undo time nonce s ≡ Some (Ok turn) → new.stored ≡ taken_all turn.given s.stored → new.snapshot ≡ taken_all turn.given s.stored → StackStandsFor (side undo new.stacks) turn.from → StackStandsFor (side (not undo) new.stacks) turn.to
+    → ToldStandsFor new (state.after_turn undo time nonce s)
+after-done true time nonce new s turn found stored snapshot from to =
+    subst (λ o. ToldStandsFor new (state.after_undo_of o s)) (sym found) (record { stored = stored; snapshot = snapshot; undo = from; redo = to })
+after-done false time nonce new s turn found stored snapshot from to =
+    subst (λ o. ToldStandsFor new (state.after_redo_of o s)) (sym found) (record { stored = stored; snapshot = snapshot; undo = to; redo = from })
+
+after-none : (undo : Bool) (time nonce : ℕ) (new : Told) (s : State) → state.turn_on undo time nonce s ≡ None → ToldStandsFor new (state.captured s) → ToldStandsFor new (state.after_turn undo time nonce s)
+after-none true time nonce new s none st = subst (λ o. ToldStandsFor new (state.after_undo_of o s)) (sym none) st
+after-none false time nonce new s none st = subst (λ o. ToldStandsFor new (state.after_redo_of o s)) (sym none) st
+
+-- ---- a step of undo or redo
+module _ (undo : Bool) (old : Told) (time nonce : ℕ) (early : time ≤ greatest_whole) (small : nonce ≤ greatest_whole) (sound : IsSound old) where
+  module _ (entry : List Delta) (stands : EntryStandsFor entry (pending old.snapshot old.stored)) where
+    abbrev now : Stacks
+    now = noted entry old.stacks
+
+    -- the turn that is found
+    turn-of : (given : List ElementValue) (new : Stacks) → StacksComeBy undo old.stored time nonce (Done given) now new → (s : State) → ToldStandsFor old s
+        → (turn : Turn) × (state.turn_on undo time nonce s ≡ Some (Ok turn)) × (turn.given ≡ given) × StackStandsFor (side undo new) turn.from × StackStandsFor (side (not undo) new) turn.to
+    turn-of given new comes s st =
+        let was = noted-stands old sound entry stands s st in
+        let own = state.entries undo (state.captured s) in
+        let other = state.entries (not undo) (state.captured s) in
+        let t = step-done old.stored sound.stored_elements time nonce early small given (side undo now) (side (not undo) now) (side undo new) (side (not undo) new) own (side-stands undo (captured_told entry old) (state.captured s) was) comes other (side-stands (not undo) (captured_told entry old) (state.captured s) was) in
+        (t.0, turn-is undo time nonce s (Some (Ok t.0)) (subst (λ es. step es time nonce own other ≡ Some (Ok t.0)) st.stored t.1), t.2, t.3, t.4)
+
+    none-of : (new : Stacks) → StacksComeBy undo old.stored time nonce Nothing now new → (s : State) → ToldStandsFor old s → state.turn_on undo time nonce s ≡ None
+    none-of new comes s st =
+        let was = noted-stands old sound entry stands s st in
+        let own = state.entries undo (state.captured s) in
+        let other = state.entries (not undo) (state.captured s) in
+        turn-is undo time nonce s None (subst (λ es. step es time nonce own other ≡ None) st.stored
+        (step-nothing old.stored sound.stored_elements time nonce (side undo now) own other (side-stands undo (captured_told entry old) (state.captured s) was) comes.0))
+
+    -- what a plan answers
+    pub plan-answers : (answer : Step) (new : Stacks) → StacksComeBy undo old.stored time nonce answer now new → (s : State) → ToldStandsFor old s → state.IsStepAnswer answer (state.turn_on undo time nonce s)
+    plan-answers (Done given) new comes s st = let t = turn-of given new comes s st in (t.0, t.1, sym t.2)
+    plan-answers Nothing new comes s st = none-of new comes s st
+
+  -- what the board is and stands for once it is put
+  pub turned-sound : (answer : Step) (new : Told) → HasTurned undo old time nonce answer new → IsSound new
+  turned-sound (Done given) new h =
       let was = noted-sound old sound h.entry h.stands in
       let stacks = noted h.entry old.stacks in
-      let ids = ids-stored old.stored given time nonce stacks.undo stacks.redo new.stacks.undo new.stacks.redo h.comes was.undo_ids was.redo_ids in
+      let ids = ids-stored old.stored given time nonce (side undo stacks) (side (not undo) stacks) (side undo new.stacks) (side (not undo) new.stacks) h.comes (side-ids undo old.stored stacks was.undo_ids was.redo_ids) (side-ids (not undo) old.stored stacks was.undo_ids was.redo_ids) in
+      let both = both-ids undo old.stored new.stacks ids.0 ids.1 in
       let same = sym (told-is new (taken_all given old.stored) (live_elements (taken_all given old.stored)) (taken_all given old.stored) new.stacks h.put.stored h.put.view h.put.snapshot refl) in
-      let turned = λ (s : State) (st : ToldStandsFor old s).
-      let from = noted-stands old sound h.entry h.stands s st in
-      step-done old.stored sound.stored_elements time nonce early small given stacks.undo stacks.redo new.stacks.undo new.stacks.redo (state.captured s).undo from.undo h.comes (state.captured s).redo from.redo in
-      let found = λ (s : State) (st : ToldStandsFor old s).
-      subst (λ es. step es time nonce (state.captured s).undo (state.captured s).redo ≡ Some (Ok (turned s st).0)) st.stored (turned s st).1 in
-      record {
-        is_sound = subst IsSound same (stepped-sound old sound h.entry h.stands given new.stacks h.put.elements ids.0 ids.1);
-        answers = λ s st. ((turned s st).0, found s st, sym (turned s st).2);
-        stands = λ s st.
-            let t = turned s st in
-            let is : taken_all given old.stored ≡ taken_all t.0.given s.stored = λ i. taken_all (sym t.2 i) (st.stored i) in
-            subst (λ o. ToldStandsFor new (state.after_undo_of o s)) (sym (found s st))
-            (subst (λ (u : Told). ToldStandsFor u (state.after_undo_of (Some (Ok t.0)) s)) same (record { stored = is; snapshot = is; undo = t.3; redo = t.4 }));
-      }
-
-  undo-nothing : (new : Told) (h : HasTurned true old time nonce Nothing new) → IsTurned undo_answer (state.after_undo time nonce) Nothing new
-  undo-nothing new h =
-      let was = noted-sound old sound h.entry h.stands in
+      subst IsSound same (stepped-sound old sound h.entry h.stands given new.stacks h.put.elements both.0 both.1)
+  turned-sound Nothing new h =
       let same = sym (told-is new old.stored old.view old.stored (noted h.entry old.stacks) h.put.stored (h.put.view ∙ sym sound.view) h.put.snapshot h.comes.1) in
-      let found = λ (s : State) (st : ToldStandsFor old s).
-      let from = noted-stands old sound h.entry h.stands s st in
-      subst (λ es. step es time nonce (state.captured s).undo (state.captured s).redo ≡ None) st.stored
-      (step-nothing old.stored sound.stored_elements time nonce (noted h.entry old.stacks).undo (state.captured s).undo (state.captured s).redo from.undo h.comes.0) in
-      record {
-        is_sound = subst IsSound same was;
-        answers = found;
-        stands = λ s st.
-            subst (λ o. ToldStandsFor new (state.after_undo_of o s)) (sym (found s st))
-            (subst (λ (u : Told). ToldStandsFor u (state.captured s)) same (noted-stands old sound h.entry h.stands s st));
-      }
+      subst IsSound same (noted-sound old sound h.entry h.stands)
 
-  pub undone : (new : Told) (answer : Step) → HasTurned true old time nonce answer new → IsTurned undo_answer (state.after_undo time nonce) answer new
-  undone new (Done given) h = undo-done new given h
-  undone new Nothing h = undo-nothing new h
+  pub turned-stands : (answer : Step) (new : Told) → HasTurned undo old time nonce answer new → (s : State) → ToldStandsFor old s → ToldStandsFor new (state.after_turn undo time nonce s)
+  turned-stands (Done given) new h s st =
+      let t = turn-of h.entry h.stands given new.stacks h.comes s st in
+      let is : taken_all given old.stored ≡ taken_all t.0.given s.stored = λ i. taken_all (sym t.2 i) (st.stored i) in
+      after-done undo time nonce new s t.0 t.1 (h.put.stored ∙ is) (h.put.snapshot ∙ is) t.3 t.4
+  turned-stands Nothing new h s st =
+      let same = sym (told-is new old.stored old.view old.stored (noted h.entry old.stacks) h.put.stored (h.put.view ∙ sym sound.view) h.put.snapshot h.comes.1) in
+      after-none undo time nonce new s (none-of h.entry h.stands new.stacks h.comes s st)
+      (subst (λ (u : Told). ToldStandsFor u (state.captured s)) same (noted-stands old sound h.entry h.stands s st))
 
-  pub undo-full : (id : List ℕ) → HasStopped true old id → (s : State) → ToldStandsFor old s → state.undo_on time nonce s ≡ Some (Err id)
-  undo-full id h s st =
-      let from = noted-stands old sound h.entry h.stands s st in
-      subst (λ es. step es time nonce (state.captured s).undo (state.captured s).redo ≡ Some (Err id)) st.stored
-      (step-full old.stored sound.stored_elements time nonce (noted h.entry old.stacks).undo (noted h.entry old.stacks).redo (state.captured s).undo (state.captured s).redo id from.undo from.redo h.stops)
-
-  -- ---- redo
-  redo-done : (new : Told) (given : List ElementValue) (h : HasTurned false old time nonce (Done given) new) → IsTurned redo_answer (state.after_redo time nonce) (Done given) new
-  redo-done new given h =
-      let was = noted-sound old sound h.entry h.stands in
+  pub turn-full : (id : List ℕ) → HasStopped undo old id → (s : State) → ToldStandsFor old s → state.turn_on undo time nonce s ≡ Some (Err id)
+  turn-full id h s st =
+      let was = noted-stands old sound h.entry h.stands s st in
       let stacks = noted h.entry old.stacks in
-      let ids = ids-stored old.stored given time nonce stacks.redo stacks.undo new.stacks.redo new.stacks.undo h.comes was.redo_ids was.undo_ids in
-      let same = sym (told-is new (taken_all given old.stored) (live_elements (taken_all given old.stored)) (taken_all given old.stored) new.stacks h.put.stored h.put.view h.put.snapshot refl) in
-      let turned = λ (s : State) (st : ToldStandsFor old s).
-      let from = noted-stands old sound h.entry h.stands s st in
-      step-done old.stored sound.stored_elements time nonce early small given stacks.redo stacks.undo new.stacks.redo new.stacks.undo (state.captured s).redo from.redo h.comes (state.captured s).undo from.undo in
-      let found = λ (s : State) (st : ToldStandsFor old s).
-      subst (λ es. step es time nonce (state.captured s).redo (state.captured s).undo ≡ Some (Ok (turned s st).0)) st.stored (turned s st).1 in
-      record {
-        is_sound = subst IsSound same (stepped-sound old sound h.entry h.stands given new.stacks h.put.elements ids.1 ids.0);
-        answers = λ s st. ((turned s st).0, found s st, sym (turned s st).2);
-        stands = λ s st.
-            let t = turned s st in
-            let is : taken_all given old.stored ≡ taken_all t.0.given s.stored = λ i. taken_all (sym t.2 i) (st.stored i) in
-            subst (λ o. ToldStandsFor new (state.after_redo_of o s)) (sym (found s st))
-            (subst (λ (u : Told). ToldStandsFor u (state.after_redo_of (Some (Ok t.0)) s)) same (record { stored = is; snapshot = is; undo = t.4; redo = t.3 }));
-      }
-
-  redo-nothing : (new : Told) (h : HasTurned false old time nonce Nothing new) → IsTurned redo_answer (state.after_redo time nonce) Nothing new
-  redo-nothing new h =
-      let was = noted-sound old sound h.entry h.stands in
-      let same = sym (told-is new old.stored old.view old.stored (noted h.entry old.stacks) h.put.stored (h.put.view ∙ sym sound.view) h.put.snapshot h.comes.1) in
-      let found = λ (s : State) (st : ToldStandsFor old s).
-      let from = noted-stands old sound h.entry h.stands s st in
-      subst (λ es. step es time nonce (state.captured s).redo (state.captured s).undo ≡ None) st.stored
-      (step-nothing old.stored sound.stored_elements time nonce (noted h.entry old.stacks).redo (state.captured s).redo (state.captured s).undo from.redo h.comes.0) in
-      record {
-        is_sound = subst IsSound same was;
-        answers = found;
-        stands = λ s st.
-            subst (λ o. ToldStandsFor new (state.after_redo_of o s)) (sym (found s st))
-            (subst (λ (u : Told). ToldStandsFor u (state.captured s)) same (noted-stands old sound h.entry h.stands s st));
-      }
-
-  pub redone : (new : Told) (answer : Step) → HasTurned false old time nonce answer new → IsTurned redo_answer (state.after_redo time nonce) answer new
-  redone new (Done given) h = redo-done new given h
-  redone new Nothing h = redo-nothing new h
-
-  pub redo-full : (id : List ℕ) → HasStopped false old id → (s : State) → ToldStandsFor old s → state.redo_on time nonce s ≡ Some (Err id)
-  redo-full id h s st =
-      let from = noted-stands old sound h.entry h.stands s st in
-      subst (λ es. step es time nonce (state.captured s).redo (state.captured s).undo ≡ Some (Err id)) st.stored
-      (step-full old.stored sound.stored_elements time nonce (noted h.entry old.stacks).redo (noted h.entry old.stacks).undo (state.captured s).redo (state.captured s).undo id from.redo from.undo h.stops)
+      let own = state.entries undo (state.captured s) in
+      let other = state.entries (not undo) (state.captured s) in
+      turn-is undo time nonce s (Some (Err id)) (subst (λ es. step es time nonce own other ≡ Some (Err id)) st.stored
+      (step-full old.stored sound.stored_elements time nonce (side undo stacks) (side (not undo) stacks) own other id (side-stands undo (captured_told h.entry old) (state.captured s) was) (side-stands (not undo) (captured_told h.entry old) (state.captured s) was) h.stops))

@@ -1,7 +1,8 @@
 -- The parts of a replica without their room, and what holds of them. This project's own.
-use Rattle.std.specs.Prelude.{◌≡◌, ℕ, List, Bool, true, not, All, IsSome}
+use Rattle.std.specs.Prelude.{◌≡◌, ℕ, ◌≤◌, List, Bool, true, not, All, IsSome}
 use Rattle.frac_keys.specs.Rising.{are_rising}
 use Rattle.elem.specs.ElementValue.{ElementValue}
+use Rattle.elem.specs.Facts.{greatest_whole}
 use Rattle.elem.specs.Said.{AreElements}
 use Rattle.elem_store.specs.Updates.{element_of, ids_of, is_taken, takings}
 use Rattle.delta.specs.Delta.{Delta}
@@ -10,13 +11,14 @@ use Rattle.view.specs.Shown.{live_elements}
 use Rattle.board_commands.specs.declared.command.Capture.{Capture}
 use Rattle.board_commands.specs.declared.command.Capture.TheVariants.{Now, Later, Never}
 use Rattle.history.specs.Pairs.{StackStandsFor}
-use Rattle.history.specs.Stacks.{Stacks, HaveStoredIds, HasStepped, AreUnseen, StopsAt, noted, side}
+use Rattle.history.specs.Stacks.{Stacks, FitsIn, HaveStoredIds, HasStepped, AreUnseen, StopsAt, noted, put_step, side}
 use Rattle.history.specs.declared.step.Step.{Step}
 use Rattle.history.specs.declared.step.Step.TheVariants.{Done, Nothing}
 use Rattle.undoing.specs.Carrying.{taken_all, carried_all}
 use Rattle.undoing.specs.Differing.{pending}
 use Rattle.snapshot.specs.Touched.{AreUntouched}
 use Rattle.replica.specs.declared.board.Board.{Board}
+use Rattle.replica.specs.declared.planned.PlannedStep.{PlannedStep}
 use Rattle.replica.specs.State.{State}
 
 -- what is stored and shown, the snapshot and the stacks
@@ -135,6 +137,22 @@ abbrev pub StacksComeBy : Bool → List ElementValue → ℕ → ℕ → Step �
 StacksComeBy undo stored time nonce (Done given) old new =
     HasStepped stored time nonce given (side undo old) (side (not undo) old) (side undo new) (side (not undo) new)
 StacksComeBy undo stored time nonce Nothing old new = AreUnseen stored (side undo old) × (new ≡ old)
+
+-- A step is planned, from what is pending on: its plan for the stacks fits in them, and they come by it.
+pub record IsPlannedStep (stored snapshot : List ElementValue) (stacks : Stacks) (plan : PlannedStep) : Type 0 where
+  pub time : plan.time ≤ greatest_whole
+  pub nonce : plan.nonce ≤ greatest_whole
+  pub entry : List Delta
+  pub stands : EntryStandsFor entry (pending snapshot stored)
+  pub fits : FitsIn plan.history stacks
+  pub comes : StacksComeBy plan.undo stored plan.time plan.nonce plan.step (noted entry stacks)
+      (put_step plan.history stacks)
+
+-- The plan is one for this call of undo, or of redo.
+pub record IsPlanOf (undo : Bool) (time nonce : ℕ) (plan : PlannedStep) : Type 0 where
+  pub of_undo : plan.undo ≡ undo
+  pub of_time : plan.time ≡ time
+  pub of_nonce : plan.nonce ≡ nonce
 
 -- One step of undo or redo, from what was pending on.
 pub record HasTurned (undo : Bool) (old : Told) (time nonce : ℕ) (step : Step)

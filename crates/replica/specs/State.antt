@@ -1,6 +1,6 @@
 -- What a replica is, and what each call makes of it, over whole elements. This project's own, after Excalidraw's store
 -- and history.
-use Rattle.std.specs.Prelude.{◌≡◌, ℕ, List, [], ◌∷◌, Option, Some, None, Result, Ok, Err}
+use Rattle.std.specs.Prelude.{◌≡◌, ℕ, List, [], ◌∷◌, Bool, true, false, Option, Some, None, Result, Ok, Err}
 use Rattle.elem.specs.ElementValue.{ElementValue}
 use Rattle.elem_store.specs.Updates.{takings}
 use Rattle.delta.specs.Pairs.{Pair}
@@ -66,6 +66,13 @@ abbrev pub after_change : Command → Capture → ℕ → ℕ → State → Stat
 after_change command capture time nonce s =
     after_outcome capture (outcome_on command time nonce s) s
 
+-- These are the changed elements of some command.
+pub record IsOutcome (stored given : List ElementValue) : Type 0 where
+  pub command : Command
+  pub time : ℕ
+  pub nonce : ℕ
+  pub is : outcome stored (shown (live_elements stored)) command time nonce ≡ Ok given
+
 -- ---- a delivery
 -- after a list was delivered: the elements whose ids aren't held are taken
 abbrev pub after_delivery : List ElementValue → State → State
@@ -99,6 +106,20 @@ after_undo time nonce s = after_undo_of (undo_on time nonce s) s
 
 abbrev pub after_redo : ℕ → ℕ → State → State
 after_redo time nonce s = after_redo_of (redo_on time nonce s) s
+
+-- the entries that can be undone, or redone
+abbrev pub entries : Bool → State → List (List Pair)
+entries true s = s.undo
+entries false s = s.redo
+
+-- undo, or redo: what it comes to, and the state after it
+abbrev pub turn_on : Bool → ℕ → ℕ → State → Option (Result Turn (List ℕ))
+turn_on true time nonce s = undo_on time nonce s
+turn_on false time nonce s = redo_on time nonce s
+
+abbrev pub after_turn : Bool → ℕ → ℕ → State → State
+after_turn true time nonce s = after_undo time nonce s
+after_turn false time nonce s = after_redo time nonce s
 
 -- what a step answers: it gives the elements, or nothing comes
 abbrev pub IsStepAnswer : Step → Option (Result Turn (List ℕ)) → Type 0

@@ -1,7 +1,7 @@
 //! What a replica stores, shows, and knows of its changes. Each call makes all that it needs first, in the order plans,
 //! copies and room, view, and then puts it in place, which takes no memory.
 
-ghost use Rattle.std.specs.Prelude.{◌≡◌, ◌≤◌, ◌<◌, [], true, false, length, Ok, Err, IfOk, IfErr, OnOk, OnErr};
+ghost use Rattle.std.specs.Prelude.{◌≡◌, ◌≢◌, ◌↔◌, ◌≤◌, ◌<◌, [], true, false, IsTrue, Ok, Err, IfOk, IfErr, OnOk, OnErr};
 ghost use Rattle.frac_keys.specs.Rising.{are_rising};
 ghost use Rattle.elem.specs.Facts.{greatest_whole};
 ghost use Rattle.elem.specs.Said.{AreElements};
@@ -11,9 +11,11 @@ ghost use Rattle.effects.specs.Changed.{outcome, OnFault};
 ghost use Rattle.board_commands.specs.Limits.{IsWithinLimits};
 ghost use Rattle.history.specs.Stacks as stacks;
 ghost use Rattle.history.specs.Stacks.{FitsIn, OnFull, noted};
-ghost use Rattle.undoing.specs.Carrying.{taken_all, with_all_put};
-ghost use Rattle.replica.specs.Boards.{told, BecomeStored, GivesElements, GivesTaken, HasCaptured, HasCarriedAll, HasPutStep, HasStopped, HasStoredGiven, HasTakenAll, HasTurned, IsBoard, IsUntouched, stored_by};
+ghost use Rattle.undoing.specs.Carrying.{taken_all};
+ghost use Rattle.undoing.specs.Differing.{pending};
+ghost use Rattle.replica.specs.Boards.{told, BecomeStored, GivesElements, GivesTaken, HasCaptured, HasCarriedAll, HasPutStep, HasStopped, HasStoredGiven, HasTakenAll, IsBoard, IsPlanOf, IsPlannedStep, IsUntouched, stored_by};
 
+use crate::planned::PlannedStep;
 use crate::telling::tell_all;
 use board_base::{List, Stop};
 use board_commands::{Capture, Command};
@@ -23,7 +25,7 @@ use elem::Element;
 use elem_store::Store;
 use history::{History, HistoryStep, Step};
 use live_view::LiveView;
-use snapshot::{Snapshot, SnapshotStep, Touched};
+use snapshot::{Snapshot, Touched};
 use std::alloc::{AllocError, Global};
 
 /// The stored elements, their view, the snapshot with the ids that were stored since it was taken, and the history.
@@ -161,88 +163,99 @@ impl Board {
         Ok(())
     }
 
-    /// Captures what is pending and takes one entry back.
-    pub(crate) fn undo(
+    /// Whether what is stored differs from the snapshot, outside the stamps.
+    pub(crate) fn is_pending(&mut self) -> Result<bool, AllocError>
+        requires board { IsBoard self.old }
+        ensures pending { IfOk result (λ is. IsTrue is
+            ↔ (pending self.old.snapshot.elements self.old.store.elements ≢ [])) }
+        ensures kept { told self.new ≡ told self.old }
+        ensures untouched { IsUntouched self.new }
+    {
+        let (_, entry) = self.snapshot.plan_capture(&self.store, &self.touched, &[])?;
+        Ok(has_parts(&entry))
+    }
+
+    /// Plans to capture what is pending and to take one entry back.
+    pub(crate) fn plan_undo(
         &mut self,
-        alloc: Global,
         time: u64,
         nonce: u64,
-    ) -> Result<Step, Stop<VersionFull>>
+    ) -> Result<PlannedStep, Stop<VersionFull>>
         requires board { IsBoard self.old }
         requires time { time ≤ greatest_whole }
         requires nonce { nonce ≤ greatest_whole }
-        ensures ok { IfOk result
-            (λ step. HasTurned true (told self.old) time nonce step (told self.new)) }
+        ensures planned { IfOk result (IsPlannedStep self.old.store.elements
+            self.old.snapshot.elements self.old.history.stacks) }
+        ensures call { IfOk result (IsPlanOf true time nonce) }
         ensures full { IfErr result (λ stop. OnFull stop (HasStopped true (told self.old))) }
-        ensures err { OnErr result (told self.new ≡ told self.old) }
+        ensures kept { told self.new ≡ told self.old }
         ensures untouched { IsUntouched self.new }
     {
-        let (captured, pending) = self.snapshot.plan_capture(&self.store, &self.touched, &[])?;
-        self.history.reserve()?;
-        let (planned, step) = self.history.plan_undo(pending, &self.store, time, nonce)?;
-        self.put_step(alloc, captured, planned, &step)?;
-        Ok(step)
+        let (_, pending) = self.snapshot.plan_capture(&self.store, &self.touched, &[])?;
+        let (history, step) = self.history.plan_undo(pending, &self.store, time, nonce)?;
+        Ok(PlannedStep {
+            undo: true,
+            time,
+            nonce,
+            history,
+            step,
+        })
     }
 
-    /// Captures what is pending and takes one undo back.
-    pub(crate) fn redo(
+    /// Plans to capture what is pending and to take one undo back.
+    pub(crate) fn plan_redo(
         &mut self,
-        alloc: Global,
         time: u64,
         nonce: u64,
-    ) -> Result<Step, Stop<VersionFull>>
+    ) -> Result<PlannedStep, Stop<VersionFull>>
         requires board { IsBoard self.old }
         requires time { time ≤ greatest_whole }
         requires nonce { nonce ≤ greatest_whole }
-        ensures ok { IfOk result
-            (λ step. HasTurned false (told self.old) time nonce step (told self.new)) }
+        ensures planned { IfOk result (IsPlannedStep self.old.store.elements
+            self.old.snapshot.elements self.old.history.stacks) }
+        ensures call { IfOk result (IsPlanOf false time nonce) }
         ensures full { IfErr result (λ stop. OnFull stop (HasStopped false (told self.old))) }
-        ensures err { OnErr result (told self.new ≡ told self.old) }
+        ensures kept { told self.new ≡ told self.old }
         ensures untouched { IsUntouched self.new }
     {
-        let (captured, pending) = self.snapshot.plan_capture(&self.store, &self.touched, &[])?;
-        self.history.reserve()?;
-        let (planned, step) = self.history.plan_redo(pending, &self.store, time, nonce)?;
-        self.put_step(alloc, captured, planned, &step)?;
-        Ok(step)
+        let (_, pending) = self.snapshot.plan_capture(&self.store, &self.touched, &[])?;
+        let (history, step) = self.history.plan_redo(pending, &self.store, time, nonce)?;
+        Ok(PlannedStep {
+            undo: false,
+            time,
+            nonce,
+            history,
+            step,
+        })
     }
 
-    /// Puts a planned step in place: stores what it gives, of which the snapshot is then.
-    fn put_step(
+    /// Puts a planned step in place: captures what is pending, and stores what the step gives, of which the snapshot is
+    /// then.
+    pub(crate) fn put_step(
         &mut self,
         alloc: Global,
-        captured: SnapshotStep,
-        planned: HistoryStep,
+        history: HistoryStep,
         step: &Step,
     ) -> Result<(), AllocError>
         requires board { IsBoard self.old }
         requires given { GivesTaken self.old.store.elements step.now }
-        requires captured { with_all_put captured self.old.snapshot.elements ≡ self.old.store.elements }
-        requires room { length captured ≤ self.old.snapshot.spare }
-        requires spare { 0 < self.old.history.spare }
-        requires fits { FitsIn planned self.old.history.stacks }
+        requires fits { FitsIn history self.old.history.stacks }
         ensures ok { OnOk result
-            (HasPutStep (told self.old) step.now (stacks.put_step planned self.old.history.stacks)
+            (HasPutStep (told self.old) step.now (stacks.put_step history self.old.history.stacks)
             (told self.new)) }
         ensures err { OnErr result (told self.new ≡ told self.old) }
         ensures untouched { IsUntouched self.new }
     {
-        self.put_elements(alloc, captured, step)?;
-        self.history.put(planned);
+        self.history.reserve()?;
+        self.put_elements(alloc, step)?;
+        self.history.put(history);
         Ok(())
     }
 
     /// Puts the elements of a planned step in place.
-    fn put_elements(
-        &mut self,
-        alloc: Global,
-        captured: SnapshotStep,
-        step: &Step,
-    ) -> Result<(), AllocError>
+    fn put_elements(&mut self, alloc: Global, step: &Step) -> Result<(), AllocError>
         requires board { IsBoard self.old }
         requires given { GivesTaken self.old.store.elements step.now }
-        requires captured { with_all_put captured self.old.snapshot.elements ≡ self.old.store.elements }
-        requires room { length captured ≤ self.old.snapshot.spare }
         ensures elements { OnOk result (GivesElements step.now) }
         ensures stored { OnOk result
             (self.new.store.elements ≡ stored_by step.now self.old.store.elements) }
@@ -256,11 +269,7 @@ impl Board {
     {
         match step {
             Step::Done(given) => self.store_step(alloc, given.as_slice()),
-            Step::Nothing => {
-                self.snapshot.put(captured);
-                self.touched.clear();
-                Ok(())
-            }
+            Step::Nothing => self.store_step(alloc, &[]),
         }
     }
 
@@ -332,4 +341,12 @@ fn note(history: &mut History, entry: Entry)
         Ok(()) => {}
         Err(AllocError) => unreachable!(),
     }
+}
+
+/// Whether an entry has a part.
+fn has_parts(entry: &Entry) -> bool
+    ensures some { result ≡ true → entry.now ≢ [] }
+    ensures none { result ≡ false → entry.now ≡ [] }
+{
+    !entry.parts.as_slice().is_empty()
 }

@@ -4,9 +4,11 @@
 
 mod board;
 pub mod laws;
+mod planned;
 mod replica;
 mod telling;
 
 pub use board_commands::{Capture, Command, Side, Spot};
 pub use effects::Refusal;
+pub use planned::PlannedStep;
 pub use replica::Replica;

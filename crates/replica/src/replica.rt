@@ -1,17 +1,20 @@
 //! A replica.
 
-ghost use Rattle.std.specs.Prelude.{◌≡◌, ◌≤◌, Some, Ok, Err, length, IsOk, IsTrue, IfOk, IfErr, OnOk, OnErr};
+ghost use Rattle.std.specs.Prelude.{◌≡◌, ◌≢◌, ◌↔◌, ◌≤◌, [], true, false, Some, Ok, Err, length, IsOk, IsTrue, IfOk, IfErr, OnOk, OnErr};
 ghost use Rattle.elem.specs.Facts.{greatest_whole};
 ghost use Rattle.view.specs.Shown.{live_elements, shown};
 ghost use Rattle.effects.specs.Changed.{OnFault, outcome};
 ghost use Rattle.board_commands.specs.Limits.{IsWithinLimits};
 ghost use Rattle.history.specs.Stacks.{OnFull};
 ghost use Rattle.reconcile.specs.Ids.{free_elements, is_held, HasAdded, HasDropped};
+ghost use Rattle.replica.specs.Boards.{IsPlanOf, IsPlannedStep};
 ghost use Rattle.replica.specs.Standing.{ReplicaStandsFor};
 ghost use Rattle.replica.specs.State as state;
-ghost use Rattle.replica.specs.State.{State};
+ghost use Rattle.replica.specs.State.{IsOutcome, State};
+ghost use Rattle.undoing.specs.Differing.{pending};
 
 use crate::board::Board;
+use crate::planned::PlannedStep;
 use board_base::{List, Stop};
 use board_commands::{Capture, Command};
 use delta::VersionFull;
@@ -98,10 +101,42 @@ impl Replica {
             → ReplicaStandsFor self.new (state.after_change command.now capture time nonce s)) }
         ensures err { OnErr result (self.new ≡ self.old) }
     {
-        let given = self.board.given(self.alloc, command, time, nonce)?;
-        self.board
-            .store_given(self.alloc, capture, given.as_slice())?;
+        let given = self.given(command, time, nonce)?;
+        self.store_given(capture, &given)?;
         Ok(given)
+    }
+
+    /// The elements that a command changes, as they become, in the order of their ids; or the refusal. Each that changes
+    /// is stamped with the time and the nonce.
+    pub fn given(
+        &self,
+        command: &Command,
+        time: u64,
+        nonce: u64,
+    ) -> Result<List<Element>, Stop<Refusal>>
+        requires time { time ≤ greatest_whole }
+        requires nonce { nonce ≤ greatest_whole }
+        requires limits { IsWithinLimits command.now }
+        ensures given { IfOk result
+            (λ given. outcome self.now.stored
+            (shown (live_elements self.now.stored)) command.now time nonce ≡ Ok given) }
+        ensures refused { IfErr result
+            (λ stop. OnFault stop
+            (λ refusal. outcome self.now.stored
+            (shown (live_elements self.now.stored)) command.now time nonce ≡ Err refusal)) }
+    {
+        self.board.given(self.alloc, command, time, nonce)
+    }
+
+    /// Stores what a command changes, captured as asked.
+    pub fn store_given(&mut self, capture: Capture, given: &List<Element>) -> Result<(), AllocError>
+        requires given { IsOutcome self.old.stored given.now }
+        ensures after { OnOk result ((s : State) → ReplicaStandsFor self.old s
+            → ReplicaStandsFor self.new (state.after_given capture given.now s)) }
+        ensures err { OnErr result (self.new ≡ self.old) }
+    {
+        self.board
+            .store_given(self.alloc, capture, given.as_slice())
     }
 
     /// Takes the elements of a list whose ids aren't held, carries those that become stored into the snapshot, and
@@ -151,7 +186,8 @@ impl Replica {
             → ReplicaStandsFor self.new (state.after_undo time nonce s)) }
         ensures err { OnErr result (self.new ≡ self.old) }
     {
-        self.board.undo(self.alloc, time, nonce)
+        let plan = self.plan_undo(time, nonce)?;
+        Ok(self.put_step(plan)?)
     }
 
     /// Captures what is pending, and then takes the topmost undo that is seen back, as `undo` does with the stacks
@@ -167,7 +203,68 @@ impl Replica {
             → ReplicaStandsFor self.new (state.after_redo time nonce s)) }
         ensures err { OnErr result (self.new ≡ self.old) }
     {
-        self.board.redo(self.alloc, time, nonce)
+        let plan = self.plan_redo(time, nonce)?;
+        Ok(self.put_step(plan)?)
+    }
+
+    /// Plans what `undo` makes: `put_step` then puts it in place. Nothing is changed.
+    pub fn plan_undo(&mut self, time: u64, nonce: u64) -> Result<PlannedStep, Stop<VersionFull>>
+        requires time { time ≤ greatest_whole }
+        requires nonce { nonce ≤ greatest_whole }
+        ensures planned { IfOk result
+            (IsPlannedStep self.old.stored self.old.snapshot self.old.stacks) }
+        ensures call { IfOk result (IsPlanOf true time nonce) }
+        ensures step { IfOk result (λ plan. (s : State) → ReplicaStandsFor self.old s
+            → state.IsStepAnswer plan.step (state.undo_on time nonce s)) }
+        ensures full { IfErr result (λ stop. OnFull stop (λ id. (s : State)
+            → ReplicaStandsFor self.old s → state.undo_on time nonce s ≡ Some (Err id))) }
+        ensures kept { self.new ≡ self.old }
+    {
+        self.board.plan_undo(time, nonce)
+    }
+
+    /// Plans what `redo` makes, as `plan_undo` does.
+    pub fn plan_redo(&mut self, time: u64, nonce: u64) -> Result<PlannedStep, Stop<VersionFull>>
+        requires time { time ≤ greatest_whole }
+        requires nonce { nonce ≤ greatest_whole }
+        ensures planned { IfOk result
+            (IsPlannedStep self.old.stored self.old.snapshot self.old.stacks) }
+        ensures call { IfOk result (IsPlanOf false time nonce) }
+        ensures step { IfOk result (λ plan. (s : State) → ReplicaStandsFor self.old s
+            → state.IsStepAnswer plan.step (state.redo_on time nonce s)) }
+        ensures full { IfErr result (λ stop. OnFull stop (λ id. (s : State)
+            → ReplicaStandsFor self.old s → state.redo_on time nonce s ≡ Some (Err id))) }
+        ensures kept { self.new ≡ self.old }
+    {
+        self.board.plan_redo(time, nonce)
+    }
+
+    /// Puts a planned step in place, and gives what it says. It must have been planned on what the replica is.
+    pub fn put_step(&mut self, plan: PlannedStep) -> Result<Step, AllocError>
+        requires planned { IsPlannedStep self.old.stored self.old.snapshot self.old.stacks plan }
+        ensures step { IfOk result (λ step. step ≡ plan.step) }
+        ensures after { OnOk result ((s : State) → ReplicaStandsFor self.old s
+            → ReplicaStandsFor self.new (state.after_turn plan.undo plan.time plan.nonce s)) }
+        ensures err { OnErr result (self.new ≡ self.old) }
+    {
+        let PlannedStep {
+            undo: _,
+            time: _,
+            nonce: _,
+            history,
+            step,
+        } = plan;
+        self.board.put_step(self.alloc, history, &step)?;
+        Ok(step)
+    }
+
+    /// Whether changes are stored that are in no entry yet.
+    pub fn is_pending(&mut self) -> Result<bool, AllocError>
+        ensures pending { IfOk result (λ is. (s : State) → ReplicaStandsFor self.old s
+            → (IsTrue is ↔ (pending s.snapshot s.stored ≢ []))) }
+        ensures kept { self.new ≡ self.old }
+    {
+        self.board.is_pending()
     }
 
     /// What it stores. It takes no memory.

@@ -1,22 +1,14 @@
 -- What a journal takes, call by call, and how much of it is safe.
-use Rattle.std.proofs.Common.{◌≡◌, ℕ, ◌+◌, ◌≤◌, List, [], ◌∷◌, ◌++◌, length, take, drop, Option, Some, None, IfSome, Result, Ok, Err, OnErr, refl, sym, ap, subst, ◌∙◌, append_assoc, append-nil, arith}
+use Rattle.std.proofs.Common.{◌≡◌, ℕ, ◌+◌, ◌≤◌, List, [], ◌∷◌, ◌++◌, length, take, drop, Option, Some, None, IfSome, refl, sym, ap, subst, ◌∙◌, append_assoc, append-nil, arith}
 use Rattle.std.specs.Option.{option_map}
 use Rattle.std.proofs.lemmas.List.{length-append, take-append-drop}
 use Rattle.board_ends.specs.Ends.{SinkEnd, Took, KeepsSafe, IsSynced}
+use Rattle.intake.proofs.CallerLemmas.{took-more}
 use Rattle.room_disk.specs.Records.{bytes_of, record_of}
 use Rattle.room_disk.specs.Keeping.{HasGained, IsLeft}
 use Rattle.room_disk.specs.inner.KeptSteps.{IsSafeBy}
 
 -- ---- of contents alone
-took_more : (first middle last : Option (List ℕ)) (x y : List ℕ) → middle ≡ option_map (λ held. held ++ x) first → last ≡ option_map (λ held. held ++ y) middle
-    → last ≡ option_map (λ held. held ++ (x ++ y)) first
-took_more None middle last x y taken more = more ∙ ap (option_map (λ held. held ++ y)) taken
-took_more (Some before) middle last x y taken more = more ∙ ap (option_map (λ held. held ++ y)) taken ∙ ap Some (append_assoc before x y)
-
-took_none : (held : Option (List ℕ)) → held ≡ option_map (λ bytes. bytes ++ []) held
-took_none None = refl
-took_none (Some held) = ap Some (sym (append-nil held))
-
 safe_more : (first middle last : Option ℕ) → IfSome first (λ least. (safe : ℕ) × (middle ≡ Some safe) × (least ≤ safe)) → IfSome middle (λ least. (safe : ℕ) × (last ≡ Some safe) × (least ≤ safe))
     → IfSome first (λ least. (safe : ℕ) × (last ≡ Some safe) × (least ≤ safe))
 safe_more None middle last kept more = tt
@@ -29,12 +21,6 @@ safe_same None = tt
 safe_same (Some least) = (least, refl, omega arith)
 
 -- ---- of journals
-pub took-more : (a b c : SinkEnd) (x y : List ℕ) → Took a b x → Took b c y → Took a c (x ++ y)
-took-more a b c x y taken more = took_more a.held b.held c.held x y taken more
-
-pub took-none : (a : SinkEnd) → Took a a []
-took-none a = took_none a.held
-
 pub keeps-more : (a b c : SinkEnd) → KeepsSafe a b → KeepsSafe b c → KeepsSafe a c
 keeps-more a b c kept more = safe_more a.safe b.safe c.safe kept more
 
@@ -86,10 +72,6 @@ part-whole text a b c d taken more same = record {
   parts = refl;
   took = same ∙ took-more a b c text (10 ∷ []) taken more;
 }
-
-pub err-made : {A E P : Type 0} (r : Result A E) → P → OnErr r P
-err-made (Ok a) p = tt
-err-made (Err e) p = p
 
 -- ---- what is safe
 safe_part : (held : Option (List ℕ)) (safe after : Option ℕ) → safe ≡ option_map length held → IfSome safe (λ least. (more : ℕ) × (after ≡ Some more) × (least ≤ more))

@@ -1,5 +1,3 @@
-pub mod Feeds
-pub mod LineLaws
 pub mod Cuts
 pub mod Stretches
 pub mod Written
@@ -20,3 +18,4 @@ pub mod KeptRooms
 pub mod ChainLaws
 pub mod KeptRounds
 pub mod LayerLaws
+pub mod CallerLemmas

@@ -1,19 +1,13 @@
 -- Lines that are faultless are read as one head and one store, and have no first fault.
-use Rattle.std.proofs.Common.{◌≡◌, ℕ, ◌<◌, ◌≤◌, List, [], ◌∷◌, ◌++◌, length, drop, flat_map, Result, Ok, Err, true, inl, inr, refl, sym, ap, ap₂, ◌∙◌, subst, arith, length-drop}
-use Rattle.std.specs.List.{prefix_len}
-use Rattle.std.proofs.lemmas.Bool.{both_ways, cases_Bool, and_from}
-use Rattle.std.proofs.lemmas.List.Folds.{list_all_at}
-use Rattle.std.proofs.lemmas.List.Sums.{prefix_len_stops}
-use Rattle.json_text.specs.Characters.{is_blank, is_space}
-use Rattle.json_text.proofs.CallerLemmas.{Stands-once}
+use Rattle.std.proofs.Common.{◌≡◌, ℕ, List, [], ◌∷◌, ◌++◌, length, drop, flat_map, Result, Ok, Err, inl, inr, refl, sym, ap, ap₂, ◌∙◌, subst}
 use Rattle.elem.specs.ElementValue.{ElementValue}
 use Rattle.elem_store.specs.Updates.{AreStored}
 use Rattle.elem_store.proofs.CallerLemmas.{store-unique}
-use Rattle.room_msg.specs.Messages.{StandsAlone, HasMore, IsReadAs}
+use Rattle.room_msg.specs.Messages.{IsReadAs}
 use Rattle.room_msg.specs.declared.fault.MsgFault.{MsgFault}
 use Rattle.room_msg.specs.declared.message.Message.{Message}
 use Rattle.room_msg.specs.declared.message.Message.TheVariants.{Update}
-use Rattle.room_msg.proofs.CallerLemmas.{answer-once}
+use Rattle.room_msg.proofs.CallerLemmas.{answer-once, more-alone}
 use Rattle.scene_file.specs.Heads.{Heading}
 use Rattle.scene_file.specs.Reading.{IsSceneAt}
 use Rattle.scene_file.specs.declared.fault.SceneFault.{SceneFault}
@@ -42,21 +36,6 @@ scene-at line scene is = (is.1.rest, record { text = is.0; stands = is.1.stands;
 
 pub scene-read-once : (line : List ℕ) (scene other : Scene) → IsSceneReadAs line (Ok scene) → IsSceneReadAs line (Ok other) → scene ≡ other
 scene-read-once line scene other one two = (scene-once (scene-at line scene one).1 (scene-at line other two).1).0
-
-pub run-blank : (xs : List ℕ) → length xs ≤ prefix_len is_space xs → is_blank xs ≡ true
-run-blank [] all = refl
-run-blank (x ∷ xs) all = elim (cases_Bool (is_space x)) [
-  | inl t ↦ and_from (is_space x) (is_blank xs) t (run-blank xs (let more = rw t at all in omega arith))
-  | inr f ↦ absurd (let none = rw f at all in omega arith)
-]
-
-blank-run : (xs : List ℕ) → is_blank xs ≡ true → prefix_len is_space xs < length xs → ⊥
-blank-run xs blank less = both_ways (is_blank xs) (list_all_at is_space xs (prefix_len is_space xs) 0 less (prefix_len_stops is_space xs 0 less)) blank
-
-more-alone : (bytes text : List ℕ) (at : ℕ) → HasMore bytes at → StandsAlone bytes text → ⊥
-more-alone bytes text at one two =
-    let rest = (Stands-once one.stands two.stands).1 in
-    blank-run (drop one.after bytes) (ap is_blank rest ∙ two.space) (omega (arith, one.within, one.behind, one.more, length-drop one.after bytes))
 
 scene-sound : (line : List ℕ) (scene : Scene) (fault : SceneFault) → IsSceneReadAs line (Ok scene) → IsSceneReadAs line (Err fault) → ⊥
 scene-sound line scene (Json fault) is (inl first) = first.faulty is.0 is.1.rest is.1.stands

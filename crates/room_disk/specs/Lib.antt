@@ -1,7 +1,6 @@
 pub mod Chains
 pub mod Faults
 pub mod Keeping
-pub mod Lines
 pub mod Records
 pub mod Recovering
 pub mod Resuming

@@ -18,17 +18,11 @@ ghost use Rattle.scene_file.specs.Heads.{Heading};
 ghost use Rattle.scene_file.specs.Whole.{IsWholeHead, HaveKeys};
 ghost use Rattle.room_disk.specs.Chains.{Run, AreChained, IsKeptIn, kept_in};
 ghost use Rattle.room_disk.specs.Keeping.{AreKeptRounds, messages_of};
-ghost use Rattle.room_disk.specs.Lines.{lines_of, begun_of, AreLines};
 ghost use Rattle.room_disk.specs.Records.{records_of, bytes_of};
 ghost use Rattle.room_disk.specs.Recovering.{Recovered, IsRecoveredAs};
 ghost use Rattle.room_disk.specs.Resuming.{greatest_key, resumed, keyless_count, new_keys, AreFilled, IsAtMost};
 ghost use Rattle.room_disk.specs.Stops.{IsOpening, IsAnswerAfter};
 ghost use Rattle.room_disk.specs.declared.fault.KeepFault.{KeepFault};
-
-/// Bytes are their lines, one after the other, and what stands behind the last one.
-pub fn bytes_are_lines()
-    ensures { (bytes : List ℕ) → AreLines bytes (lines_of bytes) (begun_of bytes) }
-{}
 
 /// What is recovered of bytes is one head and one store, where it is any.
 pub fn recovered_is_unique()

@@ -1,10 +1,8 @@
 //! What a source gives is read as a journal.
 
-ghost use Rattle.std.specs.Prelude.{◌≡◌, ◌≢◌, ℕ, ◌<◌, ◌≤◌, List as Items, ◌++◌, length, take, vec_len, Ok, Err, IfOk, OnOk, OnErr};
-ghost use Rattle.std.specs.List.{prefix_len};
+ghost use Rattle.std.specs.Prelude.{◌≡◌, ◌≢◌, ℕ, ◌<◌, ◌≤◌, List as Items, ◌++◌, length, take, Ok, Err, IfOk, OnOk, OnErr};
 ghost use Rattle.board_ends.specs.Counts.{Rose};
 ghost use Rattle.board_ends.specs.Ends.{Gave, IsAtEnd};
-ghost use Rattle.room_disk.specs.Lines.{is_within_line};
 ghost use Rattle.room_disk.specs.Recovering.{Recovered, IsRecoveredAs};
 ghost use Rattle.room_disk.specs.inner.UnderWay.{StandsIn};
 ghost use Rattle.room_disk.specs.declared.fault.KeepFault.{KeepFault};
@@ -15,11 +13,9 @@ use crate::recovery::Recovery;
 use board_base::Stop;
 use board_ends::{Failed, Source};
 use elem_store::Store;
+use intake::{empty_piece, line_end};
 use scene_file::Head;
 use std::alloc::{AllocError, Global};
-
-/// How many bytes are asked of a source at once.
-const PIECE: usize = 65536;
 
 /// The head and the store of the journal that the source gives, up to its end. It holds one line at a
 /// time. A faulty line is the answer once the source is read to its end. `Failed` comes only where the
@@ -120,23 +116,4 @@ fn take_stretch(
     recovery.take_line(alloc, begun.as_slice())?;
     begun.clear();
     Ok(front + 1)
-}
-
-/// The offset of the first line feed, or the length.
-fn line_end(piece: &[u8]) -> usize
-    ensures { result ≡ prefix_len is_within_line piece.now }
-{
-    for i in 0..piece.len() {
-        if piece[i] == b'\n' {
-            return i;
-        }
-    }
-    piece.len()
-}
-
-/// A buffer for the bytes that are asked for at once.
-fn empty_piece(alloc: Global) -> Result<Vec<u8>, AllocError>
-    ensures { IfOk result (λ piece. vec_len piece ≡ PIECE) }
-{
-    vec![in alloc; 0; PIECE]
 }

@@ -129,13 +129,13 @@ data OfBytes (bytes : List ℕ) (answer : Answer) : Type 0 where
   more : (at : ℕ) → answer ≡ Err (Json (Syntax at)) → HasMore bytes at → OfBytes bytes answer
   alone : (text : List ℕ) → StandsAlone bytes text → OfValue text answer → OfBytes bytes answer
 
-more-once : (bytes : List ℕ) (at other : ℕ) → HasMore bytes at → HasMore bytes other → at ≡ other
+pub more-once : (bytes : List ℕ) (at other : ℕ) → HasMore bytes at → HasMore bytes other → at ≡ other
 more-once bytes at other one two =
     let rest = (Stands-once one.stands two.stands).1 in
     let run = ap (prefix_len is_space) rest in
     omega (arith, one.within, two.within, one.behind, two.behind, run, ap length rest, length-drop one.after bytes, length-drop two.after bytes)
 
-more-alone : (bytes text : List ℕ) (at : ℕ) → HasMore bytes at → StandsAlone bytes text → ⊥
+pub more-alone : (bytes text : List ℕ) (at : ℕ) → HasMore bytes at → StandsAlone bytes text → ⊥
 more-alone bytes text at one two =
     let rest = (Stands-once one.stands two.stands).1 in
     blank-run (drop one.after bytes) (ap is_blank rest ∙ two.space)

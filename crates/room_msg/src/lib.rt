@@ -9,5 +9,5 @@ mod reading;
 
 pub use fault::MsgFault;
 pub use message::Message;
-pub use printing::message_text;
+pub use printing::{message_text, update_text};
 pub use reading::read_message;

@@ -17,9 +17,16 @@ pub fn message_text(alloc: Global, message: &Message) -> Result<Bytes, AllocErro
 {
     match message {
         Message::Init(elements) => tagged_text(alloc, "SCENE_INIT", elements),
-        Message::Update(elements) => tagged_text(alloc, "SCENE_UPDATE", elements),
+        Message::Update(elements) => update_text(alloc, elements),
         Message::Presence(value) => Bytes::from_slice(alloc, value.as_bytes()),
     }
+}
+
+/// The text of an update with these elements. Fails only for want of memory.
+pub fn update_text(alloc: Global, elements: &List<Element>) -> Result<Bytes, AllocError>
+    ensures { IfOk result (λ text. text ≡ texts.message_text (Message.Update elements.now)) }
+{
+    tagged_text(alloc, "SCENE_UPDATE", elements)
 }
 
 /// The text of a message of this type with these elements.

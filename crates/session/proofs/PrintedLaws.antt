@@ -1,5 +1,5 @@
 -- The text of a report is that of its world; each session has one.
-use Rattle.std.proofs.Common.{◌≡◌, ◌≢◌, ◌⊎◌, inl, inr, ℕ, ◌+◌, List, [], ◌∷◌, ◌++◌, Option, Some, None, map, length, codes, decimal, refl, sym, ap, ap₂, ◌∙◌}
+use Rattle.std.proofs.Common.{◌≡◌, ◌⊎◌, inl, inr, ℕ, ◌+◌, List, [], ◌∷◌, ◌++◌, Option, Some, None, map, length, codes, decimal, refl, sym, ap, ap₂, ◌∙◌}
 use Rattle.json_text.specs.Compact.{object_text, array_text}
 use Rattle.elem.specs.ElementValue.{ElementValue}
 use Rattle.clash.specs.Firsts.{first_tied, HasClash, IsLikeFirst}

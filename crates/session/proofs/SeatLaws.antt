@@ -1,5 +1,5 @@
 -- What a replica holds and stores after each call, and what its seat then stands for.
-use Rattle.std.proofs.Common.{◌≡◌, ℕ, ◌+◌, List, [], ◌∷◌, ◌++◌, length, Option, Some, None, Result, Ok, Err, refl, sym, ap, ◌∙◌, subst, add-zero, length-append}
+use Rattle.std.proofs.Common.{◌≡◌, ℕ, ◌+◌, List, [], ◌∷◌, length, Option, Some, None, Result, Ok, Err, refl, sym, ap, ◌∙◌, subst, add-zero, length-append}
 use Rattle.elem.specs.ElementValue.{ElementValue}
 use Rattle.delta.specs.Pairs.{Pair}
 use Rattle.view.specs.Shown.{live_elements, shown}
@@ -19,7 +19,7 @@ use Rattle.session.specs.declared.seat.Seat.{Seat as KeptSeat}
 use Rattle.session.specs.declared.outcome.Outcome.{Outcome}
 use Rattle.session.specs.declared.outcome.Outcome.TheVariants.{Given, Refused}
 use Rattle.session.specs.inner.Standing.{SeatStandsFor, IsActed}
-use Rattle.session.specs.Worlds.{Seat, Act, acted, change_on, delivered, given_of, holding, of_command, of_step, redo_of, undo_of}
+use Rattle.session.specs.Worlds.{Seat, Act, change_on, delivered, given_of, holding, of_command, of_step, redo_of, undo_of}
 
 -- ---- what stays over a call, and what is stored then
 noted-held : (pairs : List Pair) (s : State) → (noted pairs s).held ≡ s.held

@@ -45,30 +45,30 @@ module _ (P : Seat → Type 0) where
   each-contained seats s all among = All-contains P seats s (All-from_recursion P seats all) among
 
 -- ---- what is stored
-abbrev StoresTaken : Seat → Type 0
+abbrev pub StoresTaken : Seat → Type 0
 StoresTaken s = AreStored s.taken s.state.stored
 
-acted-stores : (s : Seat) (act : Act) → act.state.stored ≡ taken_all (given_of act.outcome) s.state.stored → StoresTaken s → StoresTaken (acted act s)
+pub acted-stores : (s : Seat) (act : Act) → act.state.stored ≡ taken_all (given_of act.outcome) s.state.stored → StoresTaken s → StoresTaken (acted act s)
 acted-stores s act is stores =
     subst (λ es. AreStored (s.taken ++ given_of act.outcome) es) (sym is) (taken_all-stored s.taken s.state.stored (given_of act.outcome) stores)
 
-delivered-stores : (list : List ElementValue) (s : Seat) → StoresTaken s → StoresTaken (delivered list s)
+pub delivered-stores : (list : List ElementValue) (s : Seat) → StoresTaken s → StoresTaken (delivered list s)
 unfolding delivered
 delivered-stores list s stores = taken_all-stored s.taken s.state.stored (free_elements s.state.held list) stores
 
-change-stored : (command : Command) (capture : Capture) (time nonce : ℕ) (s : State) → (change_on command capture time nonce s).state.stored ≡ taken_all (given_of (change_on command capture time nonce s).outcome) s.stored
+pub change-stored : (command : Command) (capture : Capture) (time nonce : ℕ) (s : State) → (change_on command capture time nonce s).state.stored ≡ taken_all (given_of (change_on command capture time nonce s).outcome) s.stored
 unfolding change_on
 change-stored command capture time nonce s = outcome-stored capture (outcome_on command time nonce s) s
 
-undo_of-stored : (time nonce : ℕ) (s : State) → (undo_of time nonce s).state.stored ≡ taken_all (given_of (undo_of time nonce s).outcome) s.stored
+pub undo_of-stored : (time nonce : ℕ) (s : State) → (undo_of time nonce s).state.stored ≡ taken_all (given_of (undo_of time nonce s).outcome) s.stored
 unfolding undo_of
 undo_of-stored time nonce s = undo-stored (undo_on time nonce s) s
 
-redo_of-stored : (time nonce : ℕ) (s : State) → (redo_of time nonce s).state.stored ≡ taken_all (given_of (redo_of time nonce s).outcome) s.stored
+pub redo_of-stored : (time nonce : ℕ) (s : State) → (redo_of time nonce s).state.stored ≡ taken_all (given_of (redo_of time nonce s).outcome) s.stored
 unfolding redo_of
 redo_of-stored time nonce s = redo-stored (redo_on time nonce s) s
 
-fresh-stores : StoresTaken fresh
+pub fresh-stores : StoresTaken fresh
 unfolding stored_of
 fresh-stores = record { ordered = refl; each = λ id. refl }
 

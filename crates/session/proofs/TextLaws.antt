@@ -1,18 +1,16 @@
 -- The parts of a report's text, appended one after the other.
-use Rattle.std.proofs.Common.{◌≡◌, ℕ, List, [], ◌∷◌, ◌++◌, map, codes, decimal, refl, sym, ap, ◌∙◌, append_assoc}
+use Rattle.std.proofs.Common.{◌≡◌, ℕ, List, [], ◌∷◌, ◌++◌, Option, map, codes, decimal, refl, sym, ap, ◌∙◌, append_assoc}
 use Rattle.std.specs.List.{join_with_byte}
 use Rattle.json_text.specs.Characters.{quote}
 use Rattle.json_text.specs.Compact.{member_text, array_text, object_text}
+use Rattle.effects.specs.declared.refusal.Refusal.{Refusal}
 use Rattle.session.specs.declared.report.Report.{Report}
 use Rattle.session.specs.declared.report.ReplicaReport.{ReplicaReport}
 use Rattle.session.specs.declared.report.RefusedEvent.{RefusedEvent}
-use Rattle.session.specs.Texts.{refusal_words, refusal_name, refused_text, replica_text, report_text}
+use Rattle.session.specs.Texts.{refusal_members, refusal_words, refusal_name, refused_text, replica_text, report_text}
 
 abbrev number : List ℕ → ℕ → List ℕ
 number name n = 44 ∷ member_text (name, decimal n)
-
-joined3 : (a b c : List ℕ) → 123 ∷ (join_with_byte 44 (a ∷ b ∷ c ∷ []) ++ 125 ∷ []) ≡ (123 ∷ a) ++ ((44 ∷ b) ++ ((44 ∷ c) ++ 125 ∷ []))
-joined3 a b c = simp append_assoc
 
 joined4 : (a b c d : List ℕ) → 123 ∷ (join_with_byte 44 (a ∷ b ∷ c ∷ d ∷ []) ++ 125 ∷ []) ≡ (123 ∷ a) ++ ((44 ∷ b) ++ ((44 ∷ c) ++ ((44 ∷ d) ++ 125 ∷ [])))
 joined4 a b c d = simp append_assoc
@@ -60,40 +58,63 @@ event-first : (value : List ℕ) → 123 ∷ member_text (codes "event", value) 
 unfolding quote
 event-first value = refl
 
-refusal-next : (value : List ℕ) → 44 ∷ member_text (codes "refusal", value) ≡ codes ",\"refusal\":" ++ value
+-- ---- a refusal
+abbrev why_text : Option Refusal → List ℕ
+why_text why = join_with_byte 44 (map member_text (refusal_members why))
+
+refusal-first : (value : List ℕ) → member_text (codes "refusal", value) ≡ codes "\"refusal\":" ++ value
 unfolding quote
-refusal-next value = refl
+refusal-first value = refl
 
 name-next : (value : List ℕ) → 44 ∷ member_text (codes "name", value) ≡ codes ",\"name\":" ++ value
 unfolding quote
 name-next value = refl
 
-parts3 : (f a g b h c k : List ℕ) → (f ++ a) ++ ((g ++ b) ++ ((h ++ c) ++ k)) ≡ f ++ (a ++ (g ++ (b ++ (h ++ (c ++ k)))))
-parts3 f a g b h c k = simp append_assoc
+regrouped-why : (o a b c d : List ℕ) → (((o ++ a) ++ b) ++ c) ++ d ≡ o ++ ((a ++ b) ++ (c ++ d))
+regrouped-why o a b c d = simp append_assoc
 
-event-parts : (event : RefusedEvent) → refused_text event
-    ≡ codes "{\"event\":" ++ (decimal event.event ++ (codes ",\"refusal\":" ++ (quote (refusal_words event.why) ++ (codes ",\"name\":" ++ (refusal_name event.why ++ 125 ∷ [])))))
+pub why-written : (why : Option Refusal) (o a b c d words : List ℕ) → a ≡ o ++ codes "\"refusal\":" → b ≡ a ++ quote words → words ≡ refusal_words why → c ≡ b ++ codes ",\"name\":"
+    → d ≡ c ++ refusal_name why → d ≡ o ++ why_text why
+why-written why o a b c d words one two is three four =
+    four
+    ∙ ap (λ x. x ++ refusal_name why)
+    (three ∙ ap (λ x. x ++ codes ",\"name\":")
+    (two ∙ ap (λ x. a ++ quote x) is ∙ ap (λ x. x ++ quote (refusal_words why)) one))
+    ∙ regrouped-why o (codes "\"refusal\":") (quote (refusal_words why)) (codes ",\"name\":") (refusal_name why)
+    ∙ sym (λ i. o ++ (refusal-first (quote (refusal_words why)) i ++ name-next (refusal_name why) i))
+
+regrouped-object : (o a : List ℕ) → ((o ++ 123 ∷ []) ++ a) ++ 125 ∷ [] ≡ o ++ 123 ∷ (a ++ 125 ∷ [])
+regrouped-object o a = simp append_assoc
+
+pub refusal-written : (why : Option Refusal) (o a b c : List ℕ) → a ≡ o ++ 123 ∷ [] → b ≡ a ++ why_text why → c ≡ b ++ 125 ∷ [] → c ≡ o ++ object_text (refusal_members why)
+unfolding object_text
+refusal-written why o a b c one two three =
+    three ∙ ap (λ x. x ++ 125 ∷ []) (two ∙ ap (λ x. x ++ why_text why) one) ∙ regrouped-object o (why_text why)
+
+joined-front : (a b : List ℕ) → 123 ∷ ((a ++ 44 ∷ b) ++ 125 ∷ []) ≡ (123 ∷ a) ++ (44 ∷ (b ++ 125 ∷ []))
+joined-front a b = simp append_assoc
+
+event-parts : (event : RefusedEvent) → refused_text event ≡ codes "{\"event\":" ++ (decimal event.event ++ (44 ∷ (why_text event.why ++ 125 ∷ [])))
 unfolding refused_text object_text
 event-parts event =
-    joined3 (member_text (codes "event", decimal event.event)) (member_text (codes "refusal", quote (refusal_words event.why))) (member_text (codes "name", refusal_name event.why))
-    ∙ (λ i. event-first (decimal event.event) i ++ (refusal-next (quote (refusal_words event.why)) i ++ (name-next (refusal_name event.why) i ++ 125 ∷ [])))
-    ∙ parts3 (codes "{\"event\":") (decimal event.event) (codes ",\"refusal\":") (quote (refusal_words event.why)) (codes ",\"name\":") (refusal_name event.why) (125 ∷ [])
+    let rest = 44 ∷ (why_text event.why ++ 125 ∷ []) in
+    joined-front (member_text (codes "event", decimal event.event)) (why_text event.why)
+    ∙ ap (λ x. x ++ rest) (event-first (decimal event.event))
+    ∙ append_assoc (codes "{\"event\":") (decimal event.event) rest
 
-pub event-written : (event : RefusedEvent) (o a b c d e f g words : List ℕ) → a ≡ o ++ codes "{\"event\":" → b ≡ a ++ decimal event.event → c ≡ b ++ codes ",\"refusal\":"
-    → d ≡ c ++ quote words → words ≡ refusal_words event.why → e ≡ d ++ codes ",\"name\":" → f ≡ e ++ refusal_name event.why → g ≡ f ++ 125 ∷ [] → g ≡ o ++ refused_text event
-event-written event o a b c d e f g words one two three four is five six seven =
-    seven
+regrouped-event : (o a b c : List ℕ) → ((((o ++ a) ++ b) ++ 44 ∷ []) ++ c) ++ 125 ∷ [] ≡ o ++ (a ++ (b ++ (44 ∷ (c ++ 125 ∷ []))))
+regrouped-event o a b c = simp append_assoc
+
+pub event-written : (event : RefusedEvent) (o a b c d e : List ℕ) → a ≡ o ++ codes "{\"event\":" → b ≡ a ++ decimal event.event → c ≡ b ++ 44 ∷ [] → d ≡ c ++ why_text event.why → e ≡ d ++ 125 ∷ []
+    → e ≡ o ++ refused_text event
+event-written event o a b c d e one two three four five =
+    five
     ∙ ap (λ x. x ++ 125 ∷ [])
-    (six ∙ ap (λ x. x ++ refusal_name event.why)
-    (five ∙ ap (λ x. x ++ codes ",\"name\":")
-    (four ∙ ap (λ x. c ++ quote x) is ∙ ap (λ x. x ++ quote (refusal_words event.why))
-    (three ∙ ap (λ x. x ++ codes ",\"refusal\":")
-    (two ∙ ap (λ x. x ++ decimal event.event) one)))))
-    ∙ regrouped-event o (codes "{\"event\":") (decimal event.event) (codes ",\"refusal\":") (quote (refusal_words event.why)) (codes ",\"name\":") (refusal_name event.why) (125 ∷ [])
+    (four ∙ ap (λ x. x ++ why_text event.why)
+    (three ∙ ap (λ x. x ++ 44 ∷ [])
+    (two ∙ ap (λ x. x ++ decimal event.event) one)))
+    ∙ regrouped-event o (codes "{\"event\":") (decimal event.event) (why_text event.why)
     ∙ ap (λ x. o ++ x) (sym (event-parts event))
-  where
-    regrouped-event : (o a b c d e f g : List ℕ) → ((((((o ++ a) ++ b) ++ c) ++ d) ++ e) ++ f) ++ g ≡ o ++ (a ++ (b ++ (c ++ (d ++ (e ++ (f ++ g))))))
-    regrouped-event o a b c d e f g = simp append_assoc
 
 replicas-first : (items : List ℕ) → 123 ∷ member_text (codes "replicas", 91 ∷ items) ≡ codes "{\"replicas\":[" ++ items
 unfolding quote

@@ -26,9 +26,12 @@ refusal_name (Some (WrongKind name)) = quote name
 refusal_name (Some (Protected name)) = quote name
 refusal_name (Some (VersionFull name)) = quote name
 
+-- the members that tell a refusal, and those that tell of the event which it is of
+abbrev pub refusal_members : Option Refusal → List Pair
+refusal_members why = (codes "refusal", quote (refusal_words why)) ∷ (codes "name", refusal_name why) ∷ []
+
 abbrev pub refused_members : RefusedEvent → List Pair
-refused_members refused =
-    (codes "event", decimal refused.event) ∷ (codes "refusal", quote (refusal_words refused.why)) ∷ (codes "name", refusal_name refused.why) ∷ []
+refused_members refused = (codes "event", decimal refused.event) ∷ refusal_members refused.why
 
 abbrev pub replica_members : ReplicaReport → List Pair
 replica_members report =

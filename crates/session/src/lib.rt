@@ -15,4 +15,4 @@ mod world;
 
 pub use replaying::replay;
 pub use report::{RefusedEvent, ReplicaReport, Report};
-pub use text::report_text;
+pub use text::{push_refusal, report_text};

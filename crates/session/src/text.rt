@@ -2,7 +2,7 @@
 
 ghost use Rattle.std.specs.Prelude.{◌≡◌, ◌∷◌, ◌++◌, decimal, map, IfOk, OnOk};
 ghost use Rattle.std.specs.List.{join_with_byte};
-ghost use Rattle.json_text.specs.Compact.{member_text};
+ghost use Rattle.json_text.specs.Compact.{member_text, object_text};
 ghost use Rattle.session.specs.Texts as texts;
 
 use crate::report::{RefusedEvent, ReplicaReport, Report};
@@ -85,11 +85,33 @@ fn push_event(out: &mut Vec<u8>, event: &RefusedEvent) -> Result<(), AllocError>
 {
     out.extend_from_slice(b"{\"event\":")?;
     push_whole(out, event.event)?;
-    out.extend_from_slice(b",\"refusal\":")?;
-    push_quoted(out, words_of(&event.why))?;
-    out.extend_from_slice(b",\"name\":")?;
-    push_name(out, &event.why)?;
+    out.push(b',')?;
+    push_why(out, &event.why)?;
     out.push(b'}')?;
+    Ok(())
+}
+
+/// Appends the text of a refusal: what it is called, and the name that it holds, or null; where nothing is given, that
+/// there was nothing to undo or to redo. Fails only for want of memory.
+pub fn push_refusal(out: &mut Vec<u8>, why: &Option<Refusal>) -> Result<(), AllocError>
+    ensures { OnOk result
+        (out.new.items ≡ out.old.items ++ object_text (texts.refusal_members why.now)) }
+{
+    out.push(b'{')?;
+    push_why(out, why)?;
+    out.push(b'}')?;
+    Ok(())
+}
+
+/// Appends the members that tell a refusal.
+fn push_why(out: &mut Vec<u8>, why: &Option<Refusal>) -> Result<(), AllocError>
+    ensures { OnOk result (out.new.items ≡ out.old.items ++
+        join_with_byte 44 (map member_text (texts.refusal_members why.now))) }
+{
+    out.extend_from_slice(b"\"refusal\":")?;
+    push_quoted(out, words_of(why))?;
+    out.extend_from_slice(b",\"name\":")?;
+    push_name(out, why)?;
     Ok(())
 }
 

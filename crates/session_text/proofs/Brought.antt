@@ -47,7 +47,7 @@ whole-elements elements all =
     All-weaker IsWholeElement (λ e. IsElement e × HasValidTexts e)
     (λ e whole. let sound = IsSound-read (element_text e) e whole in (sound.is_element, sound.written)) elements all
 
-read-elements : (values : List (List ℕ)) (elements : List ElementValue) → AreRead values elements → AreElements elements
+pub read-elements : (values : List (List ℕ)) (elements : List ElementValue) → AreRead values elements → AreElements elements
 read-elements values elements read = whole-elements elements (All-whole values elements read)
 
 loaded-elements : (elements : List ElementValue) → AreElements elements → AreElements (loaded elements)
@@ -145,7 +145,7 @@ named-written members asked.Paste command says =
     let (value, there, says_clip) = then-ok _ _ clip is in
     subst IsWrittenCommand (sym (gives-ok _ command last)) (whole-elements clip.elements (clip-whole value clip says_clip), also.0)
 
-command-written : (members : List Pair) (command : Command) → CommandIn members (Ok command) → IsWrittenCommand command
+pub command-written : (members : List Pair) (command : Command) → CommandIn members (Ok command) → IsWrittenCommand command
 command-written members command says =
     let (members_in, is, inner) = then-ok _ _ command says in
     let (name, asks, rest) = then-ok _ _ command inner in
@@ -191,7 +191,7 @@ events-bring replicas made bytes rest (event ∷ more) (next, (text, stands, say
     (event-brings replicas made text event says, events-bring replicas (made + messages_of event) next rest more lead)
 
 -- ---- the header
-scene-elements : (found : Option (List ℕ)) (scene : Option Board) → SceneOf found (Ok scene) → IfSome scene (λ (board : Board). AreElements board.elements)
+pub scene-elements : (found : Option (List ℕ)) (scene : Option Board) → SceneOf found (Ok scene) → IfSome scene (λ (board : Board). AreElements board.elements)
 scene-elements None scene is = subst (λ (s : Option Board). IfSome s (λ (board : Board). AreElements board.elements)) (sym (gives-ok None scene is)) tt
 scene-elements (Some value) None is = absurd is
 scene-elements (Some value) (Some board) is = subst AreElements (sym is.are_loaded) (loaded-elements is.elements (read-elements is.values is.elements is.read))

@@ -116,7 +116,7 @@ named-limits members asked.Paste command says =
     let (value, there, says_clip) = then-ok _ _ clip is in
     subst IsWithinLimits (sym (gives-ok _ command last)) (clip-distinct value clip says_clip)
 
-command-limits : (members : List Pair) (command : Command) → CommandIn members (Ok command) → IsWithinLimits command
+pub command-limits : (members : List Pair) (command : Command) → CommandIn members (Ok command) → IsWithinLimits command
 command-limits members command says =
     let (members_in, is, inner) = then-ok _ _ command says in
     let (name, asks, named) = then-ok _ _ command inner in
@@ -200,7 +200,7 @@ events-kept replicas made bytes rest (event ∷ more) (next, (text, stands, says
     record { places = (first.place, others.places); limits = (first.limits, others.limits); picks = (first.picks, others.picks) }
 
 -- ---- the header
-scene-keys : (found : Option (List ℕ)) (scene : Option Board) → SceneOf found (Ok scene) → IfSome scene (λ (board : Board). HaveKeys board.elements)
+pub scene-keys : (found : Option (List ℕ)) (scene : Option Board) → SceneOf found (Ok scene) → IfSome scene (λ (board : Board). HaveKeys board.elements)
 scene-keys None scene is = subst (λ (s : Option Board). IfSome s (λ (board : Board). HaveKeys board.elements)) (sym (gives-ok None scene is)) tt
 scene-keys (Some value) None is = absurd is
 scene-keys (Some value) (Some board) is = subst HaveKeys (sym is.are_loaded) (loaded-keys is.elements)

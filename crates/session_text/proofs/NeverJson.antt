@@ -10,6 +10,7 @@ use Rattle.clips.specs.declared.fault.ClipFault.{ClipFault}
 use Rattle.session_text.specs.Commands.{IsAsked, IsClipIn, IsDrawnAs, TextOf, ElementOf, ClipOf, IdsOf, IdsAnd, EndOf, CommandNamed}
 use Rattle.session_text.specs.Events.{SceneOf, HeaderOf, IsHappening, AreDrawnAs, TimeOf, HeldOf, CommandIn, EventNamed, EventOf, HeaderText, EventText}
 use Rattle.session_text.specs.Forms.{IsFrom, IsThere, IsArray, HasObject, IsShallow, AreIds, IsCapture, IsSide, IsSpot, IsRest, HasPicks}
+use Rattle.session_text.specs.Lines.{OpeningOf, OpeningText, IsLineName, LineNamed, LineOf, LineText}
 use Rattle.session_text.specs.Reads.{Or, MemberOf, Gives, Then}
 use Rattle.session_text.specs.Reads.Then.{goes_on, ends}
 use Rattle.session_text.specs.declared.command.Asked.{Asked}
@@ -19,6 +20,8 @@ use Rattle.session_text.specs.declared.fault.TextFault.TheVariants as faults
 use Rattle.session_text.specs.declared.fault.TextFault.TheVariants.{Json}
 use Rattle.session_text.specs.declared.happening.Happening.{Happening}
 use Rattle.session_text.specs.declared.happening.Happening.TheVariants as happenings
+use Rattle.session_text.specs.declared.lines.LineName.{LineName}
+use Rattle.session_text.specs.declared.lines.LineName.TheVariants as named
 use Rattle.session_text.specs.declared.name.MemberName.{MemberName}
 use Rattle.session_text.specs.declared.name.MemberName.TheVariants as names
 use Rattle.session_text.proofs.Readings.{refused-same, apart}
@@ -141,6 +144,32 @@ happening-form replicas made members happenings.Redo = then-form _ _ (time-form 
 event-form : (replicas made : ℕ) (members : List Pair) → HasForm (EventOf replicas made members)
 event-form replicas made members = then-form _ _ (member-form IsHappening members names.Do) (happening-form replicas made members)
 
+-- ---- the lines of a living replica
+opening-form : (members : List Pair) → HasForm (OpeningOf members)
+opening-form members =
+    then-form _ _ (member-form (IsFrom 1 2) members names.Replica) (λ version.
+    then-form _ _ (member-form (IsFrom 0 64) members names.Number) (λ number.
+    then-form _ _ (member-form IsWholeNumber members names.Seed) (λ seed.
+    then-form _ _ (scene-form (value_unless_null (codes "scene") members)) (λ scene. gives-form _))))
+
+line_named-form : (members : List Pair) (name : LineName) → HasForm (LineNamed members name)
+line_named-form members named.Change =
+    then-form _ _ (member-form IsWholeNumber members names.Time) (λ time. then-form _ _ (member-form IsCapture members names.Capture) (λ capture. then-form _ _ (command-form members) (λ command. gives-form _)))
+line_named-form members named.Undo = then-form _ _ (member-form IsWholeNumber members names.Time) (λ time. gives-form _)
+line_named-form members named.Redo = then-form _ _ (member-form IsWholeNumber members names.Time) (λ time. gives-form _)
+line_named-form members named.Take = then-form _ _ (then-form _ _ (member-form IsArray members names.Elements) drawings-form) (λ elements. gives-form _)
+line_named-form members named.Receive = then-form _ _ (text-form members names.Message) (λ text. gives-form _)
+line_named-form members named.Hold = then-form _ _ (text-form members names.Id) (λ id. gives-form _)
+line_named-form members named.Release = then-form _ _ (text-form members names.Id) (λ id. gives-form _)
+line_named-form members named.Scene = gives-form _
+line_named-form members named.State = gives-form _
+line_named-form members named.Stored = then-form _ _ (text-form members names.Id) (λ id. gives-form _)
+line_named-form members named.Lengths = gives-form _
+line_named-form members named.Pending = gives-form _
+
+line-form : (members : List Pair) → HasForm (LineOf members)
+line-form members = then-form _ _ (member-form IsLineName members names.Do) (line_named-form members)
+
 -- ---- texts
 object-form : (text : List ℕ) → HasForm (Or (IsObject text) faults.NotObject)
 object-form text = record { never = λ found is. other found is.1 }
@@ -153,3 +182,9 @@ header_text-form text = (then-form _ _ (object-form text) header-form).never
 
 pub event_text-form : (replicas made : ℕ) (text : List ℕ) (found : JsonFault) → EventText replicas made text (Err (Json found)) → ⊥
 event_text-form replicas made text = (then-form _ _ (object-form text) (event-form replicas made)).never
+
+pub opening_text-form : (text : List ℕ) (found : JsonFault) → OpeningText text (Err (Json found)) → ⊥
+opening_text-form text = (then-form _ _ (object-form text) opening-form).never
+
+pub line_text-form : (text : List ℕ) (found : JsonFault) → LineText text (Err (Json found)) → ⊥
+line_text-form text = (then-form _ _ (object-form text) line-form).never

@@ -1,5 +1,5 @@
 -- What is read, or the first fault, of one reading after the other.
-use Rattle.std.proofs.Common.{◌≡◌, inl, inr, Result, Ok, Err, refl, sym, ap, subst, ◌∙◌}
+use Rattle.std.proofs.Common.{◌≡◌, inl, inr, Result, Ok, Err, IfOk, refl, sym, ap, subst, ◌∙◌}
 use Rattle.board_base.specs.declared.stop.Stop.{Stop}
 use Rattle.board_base.specs.declared.stop.Stop.TheVariants.{Fault, Memory}
 use Rattle.elem_read.proofs.CallerLemmas.{Decided}
@@ -93,6 +93,17 @@ wanting = record { read = tt }
 
 pub told : {A : Type 0} (Reads : Result A TextFault → Type 0) (stop : Stop TextFault) (fault : TextFault) → IsReadResult Reads (Err stop) → stop ≡ Fault fault → Reads (Err fault)
 told Reads stop fault is same = by (subst (λ (s : Stop TextFault). IsReadResult Reads (Err s)) same is)
+  where
+    by : IsReadResult Reads (Err (Fault fault)) → Reads (Err fault)
+    by is = is.read
+
+-- what holds of all that is read, where something is
+pub ok-told : {A : Type 0} (Reads : Result A TextFault → Type 0) (P : A → Type 0) (result : Result A (Stop TextFault)) → IsReadResult Reads result → ((x : A) → Reads (Ok x) → P x) → IfOk result P
+ok-told Reads P (Ok x) is holds = holds x is.read
+ok-told Reads P (Err stop) is holds = tt
+
+pub fault-told : {A : Type 0} (Reads : Result A TextFault → Type 0) (result : Result A (Stop TextFault)) (fault : TextFault) → IsReadResult Reads result → result ≡ Err (Fault fault) → Reads (Err fault)
+fault-told Reads result fault is same = by (subst (IsReadResult Reads) same is)
   where
     by : IsReadResult Reads (Err (Fault fault)) → Reads (Err fault)
     by is = is.read

@@ -30,14 +30,14 @@ fits : (members : List Pair) → AreMembers 127 members → (name : MemberName) 
 fits members are name = fits-in 127 members (lit≤ tt) are (word_of name)
 
 -- ---- members
-whole-one : (members : List Pair) (name : MemberName) → IsOne (MemberOf name IsWholeNumber members)
+pub whole-one : (members : List Pair) (name : MemberName) → IsOne (MemberOf name IsWholeNumber members)
 whole-one members name = or-one _ _ (whole-or-not (value_at (word_of name) members)) (whole-once (value_at (word_of name) members))
 
-from-one : (least limit : ℕ) (members : List Pair) (name : MemberName) → IsOne (MemberOf name (IsFrom least limit) members)
+pub from-one : (least limit : ℕ) (members : List Pair) (name : MemberName) → IsOne (MemberOf name (IsFrom least limit) members)
 from-one least limit members name =
     or-one _ _ (from-or-not least limit (value_at (word_of name) members)) (from-once least limit (value_at (word_of name) members))
 
-text-one : (members : List Pair) → AreMembers 127 members → (name : MemberName) → IsOne (TextOf name members)
+pub text-one : (members : List Pair) → AreMembers 127 members → (name : MemberName) → IsOne (TextOf name members)
 text-one members are name = or-one _ _ (text-or-not (value_at (word_of name) members) (fits members are name)) (text-once (value_at (word_of name) members))
 
 ids-one : (members : List Pair) → AreMembers 127 members → IsOne (IdsOf members)
@@ -55,7 +55,7 @@ rest-one members are = or-one _ _ (rest-decided (value_at (codes "binding") memb
 side-one : (members : List Pair) → IsOne (MemberOf names.End IsSide members)
 side-one members = or-one _ _ (side-decided (value_at (codes "end") members)) (told-once side_text all_sides sides-told (value_at (codes "end") members))
 
-capture-one : (members : List Pair) → IsOne (MemberOf names.Capture IsCapture members)
+pub capture-one : (members : List Pair) → IsOne (MemberOf names.Capture IsCapture members)
 capture-one members = or-one _ _ (capture-decided (value_at (codes "capture") members)) (capture-once (value_at (codes "capture") members))
 
 picks-one : (made : ℕ) (members : List Pair) → AreMembers 127 members → IsOne (MemberOf names.Picks (HasPicks made) members)
@@ -71,7 +71,7 @@ happening-one members =
     or-one _ _ (told-decided happening_text all_happenings happenings-told (value_at (codes "do") members))
     (told-once happening_text all_happenings happenings-told (value_at (codes "do") members))
 
-object-one : (text : List ℕ) → IsCompact 128 text → IsOne (Or (IsObject text) faults.NotObject)
+pub object-one : (text : List ℕ) → IsCompact 128 text → IsOne (Or (IsObject text) faults.NotObject)
 object-one text compact = or-one _ _ (object-decided text compact) (members-once text)
 
 -- ---- members that several have
@@ -133,12 +133,12 @@ header-one members are =
     then-one _ _ (whole-one members names.Seed) (λ seed too.
     then-one _ _ (scene-one (scene_reading.value_unless_null (codes "scene") members) (fits-given (codes "scene") members are)) (λ scene last. gives-one _))))
 
-command_in-one : (members : List Pair) → AreMembers 127 members → IsOne (CommandIn members)
+pub command_in-one : (members : List Pair) → AreMembers 127 members → IsOne (CommandIn members)
 command_in-one members are =
     then-one _ _ (or-one _ _ (has-decided (value_at (codes "command") members) (fits members are names.Command)) (has-once (value_at (codes "command") members)))
     (λ inner is. command-one inner is.2.are_members)
 
-elements_in-one : (members : List Pair) → AreMembers 127 members → IsOne (ElementsIn members)
+pub elements_in-one : (members : List Pair) → AreMembers 127 members → IsOne (ElementsIn members)
 elements_in-one members are =
     then-one _ _ (or-one _ _ (array-decided (value_at (codes "elements") members) (fits members are names.Elements)) (array-alike (value_at (codes "elements") members)))
     (λ values is. drawings-one values is.0)

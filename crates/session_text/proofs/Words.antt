@@ -9,12 +9,15 @@ use Rattle.elem_read.proofs.CallerLemmas.{Decided}
 use Rattle.session_text.specs.Commands.{asked_text}
 use Rattle.session_text.specs.Events.{happening_text}
 use Rattle.session_text.specs.Forms.{capture_text, side_text}
+use Rattle.session_text.specs.Lines.{line_name_text}
 use Rattle.session_text.specs.declared.command.Asked.{Asked}
 use Rattle.session_text.specs.declared.command.Asked.TheVariants as asked
 use Rattle.board_commands.specs.declared.command.Capture.{Capture}
 use Rattle.board_commands.specs.declared.command.Capture.TheVariants as captures
 use Rattle.session_text.specs.declared.happening.Happening.{Happening}
 use Rattle.session_text.specs.declared.happening.Happening.TheVariants as happenings
+use Rattle.session_text.specs.declared.lines.LineName.{LineName}
+use Rattle.session_text.specs.declared.lines.LineName.TheVariants as named
 
 -- the first of these with this word
 abbrev pub seek : {A : Type 0} → (A → List ℕ) → List A → List ℕ → Option A
@@ -95,3 +98,23 @@ happenings-told happenings.Hold = refl
 happenings-told happenings.Release = refl
 happenings-told happenings.Undo = refl
 happenings-told happenings.Redo = refl
+
+pub all_line_names : List LineName
+all_line_names =
+    named.Change ∷ named.Undo ∷ named.Redo ∷ named.Take ∷ named.Receive ∷ named.Hold ∷ named.Release ∷ named.Scene
+    ∷ named.State ∷ named.Stored ∷ named.Lengths ∷ named.Pending ∷ []
+
+pub line_names-told : AreTold line_name_text all_line_names
+unfolding all_line_names quote
+line_names-told named.Change = refl
+line_names-told named.Undo = refl
+line_names-told named.Redo = refl
+line_names-told named.Take = refl
+line_names-told named.Receive = refl
+line_names-told named.Hold = refl
+line_names-told named.Release = refl
+line_names-told named.Scene = refl
+line_names-told named.State = refl
+line_names-told named.Stored = refl
+line_names-told named.Lengths = refl
+line_names-told named.Pending = refl

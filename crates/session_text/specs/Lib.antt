@@ -3,6 +3,7 @@ pub mod Events
 pub mod Facts
 pub mod Faults
 pub mod Forms
+pub mod Lines
 pub mod Names
 pub mod Reads
 pub mod Sessions

@@ -1,4 +1,4 @@
--- The names of the members of a session's texts. This project's own.
+-- The names of the members of a session's texts, and of a living replica's lines. This project's own.
 use Rattle.std.specs.Prelude.{ℕ, List, codes}
 use Rattle.session_text.specs.declared.name.MemberName.{MemberName}
 use Rattle.session_text.specs.declared.name.MemberName.TheVariants as names
@@ -32,3 +32,6 @@ word_of names.Frame = codes "frame"
 word_of names.Group = codes "group"
 word_of names.Prefix = codes "prefix"
 word_of names.Clip = codes "clip"
+word_of names.Replica = codes "replica"
+word_of names.Number = codes "number"
+word_of names.Message = codes "message"

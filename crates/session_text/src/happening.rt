@@ -175,7 +175,7 @@ fn held(
 }
 
 /// The command of a change.
-fn command_in(alloc: Global, from: &List<Member>) -> Result<Command, Stop<TextFault>>
+pub(crate) fn command_in(alloc: Global, from: &List<Member>) -> Result<Command, Stop<TextFault>>
     ensures { IsReadResult (CommandIn (pairs from.now)) result }
 {
     let Some(value) = value_named(from, "command") else {
@@ -188,7 +188,10 @@ fn command_in(alloc: Global, from: &List<Member>) -> Result<Command, Stop<TextFa
 }
 
 /// The elements of an update.
-fn elements_in(alloc: Global, members: &List<Member>) -> Result<List<Element>, Stop<TextFault>>
+pub(crate) fn elements_in(
+    alloc: Global,
+    members: &List<Member>,
+) -> Result<List<Element>, Stop<TextFault>>
     ensures { IsReadResult (ElementsIn (pairs members.now)) result }
 {
     let values = array(alloc, members, MemberName::Elements)?;

@@ -27,7 +27,7 @@ pub(crate) struct Header {
 const VERSION: u64 = 1;
 
 /// The greatest number of replicas.
-const MOST_REPLICAS: u64 = 64;
+pub(crate) const MOST_REPLICAS: u64 = 64;
 
 /// The header that a text is.
 pub(crate) fn read_header(alloc: Global, value: &Raw) -> Result<Header, Stop<TextFault>>
@@ -55,7 +55,7 @@ fn header_of(alloc: Global, members: &List<Member>) -> Result<Header, Stop<TextF
 }
 
 /// The scene among these members, if one is given.
-fn scene(alloc: Global, members: &List<Member>) -> Result<Option<Scene>, Stop<TextFault>>
+pub(crate) fn scene(alloc: Global, members: &List<Member>) -> Result<Option<Scene>, Stop<TextFault>>
     ensures { IsReadResult (SceneOf (value_unless_null (codes "scene") (pairs members.now))) result }
 {
     match given(members, "scene") {

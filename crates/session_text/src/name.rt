@@ -1,6 +1,6 @@
 //! The names of members.
 
-/// A member that a text of a session may lack.
+/// A member that a text of a session, or a line of a living replica, may lack.
 #[derive(Clone, Copy, Debug, PartialEq, Eq)]
 pub enum MemberName {
     Session,
@@ -31,6 +31,9 @@ pub enum MemberName {
     Group,
     Prefix,
     Clip,
+    Replica,
+    Number,
+    Message,
 }
 
 impl MemberName {
@@ -70,6 +73,9 @@ impl MemberName {
             MemberName::Group => "group",
             MemberName::Prefix => "prefix",
             MemberName::Clip => "clip",
+            MemberName::Replica => "replica",
+            MemberName::Number => "number",
+            MemberName::Message => "message",
         }
     }
 }

@@ -1,5 +1,6 @@
 -- What was written of a record before a failure is a first part of it.
-use Rattle.room_disk.proofs.Gains.{err-made, part-first, part-last, part-whole}
+use Rattle.intake.proofs.CallerLemmas.{err-made}
+use Rattle.room_disk.proofs.Gains.{part-first, part-last, part-whole}
 use Rattle.room_disk.proofs.appending.append.Goals as goal
 
 pub returns-in_err-write_all-clause-part : goal.returns-in_err-write_all-clause-part

@@ -2,7 +2,7 @@
 use Rattle.std.proofs.Common.{◌≡◌, ◌++◌, [], subst, sym, ap, ◌∙◌}
 use Rattle.room_core.specs.Planned.{texts_told}
 use Rattle.room_core.specs.Told.{HaveTried}
-use Rattle.room_disk.proofs.Gains.{err-made}
+use Rattle.intake.proofs.CallerLemmas.{err-made}
 use Rattle.room_disk.proofs.KeptEvents.{tried-first, tried-twice}
 use Rattle.room_disk.proofs.kept.tell.Goals as goal
 

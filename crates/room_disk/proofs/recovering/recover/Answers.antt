@@ -3,7 +3,7 @@ use Rattle.board_ends.specs.Ends.{Gave}
 use Rattle.board_ends.proofs.CallerLemmas.{Gave-more}
 use Rattle.elem_store.specs.Stock.{Held}
 use Rattle.scene_file.specs.Heads.{Heading}
-use Rattle.room_disk.specs.Lines.{lines_of}
+use Rattle.intake.specs.Lines.{lines_of}
 use Rattle.room_disk.specs.Recovering.{AreReadAs, AreKept}
 use Rattle.room_disk.specs.inner.UnderWay.{IsReadTo}
 use Rattle.room_disk.proofs.Taking.{if-then}

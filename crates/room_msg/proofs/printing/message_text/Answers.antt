@@ -6,8 +6,7 @@ unfolding message_text
 returns-in-Init c = rw c.in-Init.is c.tagged_text.ensures
 
 pub returns-in-Update : goal.returns-in-Update
-unfolding message_text
-returns-in-Update c = rw c.in-Update.is c.tagged_text-in-Update.ensures
+returns-in-Update c = rw c.in-Update.is c.update_text.ensures
 
 pub returns-in-Presence : goal.returns-in-Presence
 unfolding message_text

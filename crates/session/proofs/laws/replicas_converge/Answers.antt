@@ -1,5 +1,4 @@
 use Rattle.std.proofs.Common.{ap}
-use Rattle.elem.specs.ElementValue.{ElementValue}
 use Rattle.view.specs.Shown.{live_elements, shown}
 use Rattle.scene_file.specs.Scenes.{scene_text}
 use Rattle.session.specs.Worlds.{head_of}

@@ -1,7 +1,5 @@
-use Rattle.std.proofs.Common.{◌≡◌, ◌+◌, ◌<◌, ◌≤◌, length, get_or, sym, ap, ◌∙◌, subst, arith}
-use Rattle.session_text.specs.declared.event.Event.{Event}
+use Rattle.std.proofs.Common.{◌+◌, ◌<◌, ◌≤◌, length, get_or, sym, ap, ◌∙◌, subst, arith}
 use Rattle.session_text.specs.Facts.{IsAmong, IsEventWithinLimits}
-use Rattle.session.specs.declared.report.Report.{Report}
 use Rattle.session.specs.Reports.{IsReportOf}
 use Rattle.session.specs.inner.Standing.{WorldStandsFor}
 use Rattle.session.specs.Worlds.{World, last_world, world_after}

@@ -1,5 +1,5 @@
 -- The world stands for that after the first events.
-use Rattle.std.proofs.Common.{◌≡◌, length, vec_len}
+use Rattle.std.proofs.Common.{◌≡◌, vec_len}
 use Rattle.session.specs.inner.Standing.{WorldStandsFor}
 use Rattle.session.specs.Worlds.{world_after}
 use Rattle.session.proofs.replaying.replay.Given as goal

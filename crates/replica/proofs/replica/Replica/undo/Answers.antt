@@ -1,22 +1,15 @@
--- The replica stands for what the step makes of its state.
-use Rattle.replica.specs.Boards.{told}
-use Rattle.replica.proofs.ReplicaLaws.{undo-told, undo-answers, undo-faults, undo-after}
+-- The planned step is put.
+use Rattle.std.proofs.Common.{Bool, ℕ, sym, subst}
+use Rattle.replica.specs.Standing.{Kept, ReplicaStandsFor}
+use Rattle.replica.specs.State as state
+use Rattle.replica.specs.State.{State}
 use Rattle.replica.proofs.replica.Replica.undo.Goals as goal
-
-pub invariant_of-self : goal.invariant_of-self
-invariant_of-self c = (
-  undo-told (told c.self.inside.board) (told c.undo.new.self) c.self.inside.held c.args.self.now c.self.view_is c.self.invariant.0 c.args.time c.args.nonce c.requires.time c.requires.nonce c.undo.result c.undo.ensures.ok c.undo.ensures.err,
-  c.undo.ensures.untouched,
-)
-
-pub returns-clause-step : goal.returns-clause-step
-returns-clause-step c =
-    undo-answers (told c.self.inside.board) (told c.undo.new.self) c.self.inside.held c.args.self.now c.self.view_is c.self.invariant.0 c.args.time c.args.nonce c.requires.time c.requires.nonce c.undo.result c.undo.ensures.ok
-
-pub returns-clause-full : goal.returns-clause-full
-returns-clause-full c =
-    undo-faults (told c.self.inside.board) (told c.undo.new.self) c.self.inside.held c.args.self.now c.self.view_is c.self.invariant.0 c.args.time c.args.nonce c.requires.time c.requires.nonce c.undo.result c.undo.ensures.full
 
 pub returns-clause-after : goal.returns-clause-after
 returns-clause-after c =
-    undo-after (told c.self.inside.board) (told c.undo.new.self) c.self.inside.held c.args.self.now c.self.view_is c.self.invariant.0 c.args.time c.args.nonce c.requires.time c.requires.nonce c.undo.result c.undo.ensures.ok
+    let call = c.in_ok-plan.ensures.call in
+    let new = c.put_step.new.self in
+    λ (s : State) st.
+    subst (λ (u : Bool). ReplicaStandsFor new (state.after_turn u c.args.time c.args.nonce s)) call.of_undo
+    (subst (λ (t : ℕ). ReplicaStandsFor new (state.after_turn c.in_ok-plan.plan.undo t c.args.nonce s)) call.of_time
+    (subst (λ (n : ℕ). ReplicaStandsFor new (state.after_turn c.in_ok-plan.plan.undo c.in_ok-plan.plan.time n s)) call.of_nonce (c.in_ok-put_step.ensures.after s (subst (λ (k : Kept). ReplicaStandsFor k s) (sym c.plan_undo.ensures.kept) st))))

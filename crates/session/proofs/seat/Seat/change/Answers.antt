@@ -1,9 +1,8 @@
 use Rattle.std.proofs.Common.{◌≡◌, ◌+◌, Some, Err, length, sym, ap, subst}
 use Rattle.view.specs.Shown.{live_elements, shown}
 use Rattle.effects.specs.Changed.{OnFault, outcome}
-use Rattle.effects.specs.declared.refusal.Refusal.{Refusal}
 use Rattle.session.specs.declared.seat.Seat.{Seat as KeptSeat}
-use Rattle.session.specs.declared.outcome.Outcome.TheVariants.{Given, Refused}
+use Rattle.session.specs.declared.outcome.Outcome.TheVariants.{Given}
 use Rattle.session.specs.inner.Standing.{IsActed}
 use Rattle.session.specs.Worlds.{change_on}
 use Rattle.session.proofs.SeatLaws.{acted-stands, refused-stands, change-given, change-refused, change-left, change-held, change-state}

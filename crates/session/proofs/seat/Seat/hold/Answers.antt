@@ -1,4 +1,4 @@
-use Rattle.std.proofs.Common.{sym, subst}
+use Rattle.std.proofs.Common.{subst}
 use Rattle.reconcile.specs.Ids.{HasAdded}
 use Rattle.session.specs.Worlds.{with_id}
 use Rattle.session.proofs.HeldLaws.{added-is}

@@ -1,4 +1,4 @@
-use Rattle.std.proofs.Common.{sym, subst}
+use Rattle.std.proofs.Common.{subst}
 use Rattle.reconcile.specs.Ids.{HasDropped}
 use Rattle.session.specs.Worlds.{without_id}
 use Rattle.session.proofs.HeldLaws.{dropped-is}

@@ -1,0 +1,11 @@
+pub mod ActingLaws
+pub mod Asked
+pub mod Exists
+pub mod InSession
+pub mod LivingLaws
+pub mod Once
+pub mod SessionKept
+pub mod Sound
+pub mod Stores
+pub mod Talking
+pub mod Turned

@@ -1,0 +1,20 @@
+-- The plan stands for what redo makes of the replica's state.
+use Rattle.std.proofs.Common.{false, subst, sym}
+use Rattle.replica.specs.Boards.{IsTold, told}
+use Rattle.replica.proofs.ReplicaLaws.{planned-seen, planned-answers, plan-stops}
+use Rattle.replica.proofs.replica.Replica.plan_redo.Goals as goal
+
+pub invariant_of-self : goal.invariant_of-self
+invariant_of-self c = (subst IsTold (sym c.plan_redo.ensures.kept) c.self.invariant.0, c.plan_redo.ensures.untouched)
+
+pub returns-clause-planned : goal.returns-clause-planned
+returns-clause-planned c =
+    planned-seen (told c.self.inside.board) (told c.plan_redo.new.self) c.self.inside.held c.args.self.now c.self.view_is c.self.invariant.0 c.plan_redo.result c.plan_redo.ensures.planned
+
+pub returns-clause-step : goal.returns-clause-step
+returns-clause-step c =
+    planned-answers (told c.self.inside.board) (told c.plan_redo.new.self) c.self.inside.held c.args.self.now c.self.view_is c.self.invariant.0 false c.args.time c.args.nonce c.plan_redo.result c.plan_redo.ensures.planned c.plan_redo.ensures.call
+
+pub returns-clause-full : goal.returns-clause-full
+returns-clause-full c =
+    plan-stops (told c.self.inside.board) (told c.plan_redo.new.self) c.self.inside.held c.args.self.now c.self.view_is c.self.invariant.0 false c.args.time c.args.nonce c.requires.time c.requires.nonce c.plan_redo.result c.plan_redo.ensures.full
