@@ -14,6 +14,7 @@ pub mod InsertExists
 pub mod InsertOnce
 pub mod JournalExists
 pub mod JournalOnce
+pub mod Joining
 pub mod Judging
 pub mod Kept
 pub mod Lawful

@@ -12,10 +12,9 @@ use Rattle.intake.specs.declared.reading.Stopped.{Stopped}
 use Rattle.intake.specs.declared.reading.Stopped.TheVariants.{Faulty, Refused, Extra}
 use Rattle.elem.specs.ElementValue.{ElementValue}
 use Rattle.elem_store.specs.Updates.{AreStored, stored_of}
-use Rattle.file_table.proofs.CallerLemmas.{AreLeastEntries-none}
 use Rattle.commands.specs.Answers.{IsOneRefusal, IsRefusal}
 use Rattle.commands.specs.Boards.{IsBoardOf, heads_of, updates_of}
-use Rattle.commands.specs.Readers.{SayScenes, SayBoard, BoardSoFar, board_seen, one_seen, listed, refusal_of}
+use Rattle.commands.specs.Readers.{SayScenes, SayBoard, AreJoined, BoardSoFar, HeadsSoFar, board_seen, one_seen, listed, refusal_of}
 use Rattle.commands.specs.Input.{ScenesLead, HasScenes}
 use Rattle.scene_file.specs.Heads.{Heading, IsJoinedHead}
 use Rattle.scene_file.specs.Reading.{IsSceneOf, IsSceneFault, IsSceneAt, IsSceneFaultAt}
@@ -37,19 +36,17 @@ scenes-lead bytes rest (text ∷ texts) (scene ∷ scenes) (is, say) (next, stan
     (next, record { text = text; stands = stands; says = is }, scenes-lead next rest texts scenes say lead)
 
 -- ---- the board so far
-pub nothing-joined : IsJoinedHead [] (record { source = None; app_state = []; files = [] })
-nothing-joined = record { source = refl; app_state = AreLeastEntries-none; files = AreLeastEntries-none }
-
 nothing-stored : AreStored [] []
 unfolding stored_of
 nothing-stored = record { ordered = refl; each = λ id. refl }
 
-pub nothing-said : (head : Heading) (stored : List ElementValue) → head ≡ record { source = None; app_state = []; files = [] } → stored ≡ []
-    → SayBoard [] (record { head = head; stored = stored; next = 1 })
-nothing-said head stored none empty = record {
+pub nothing-said : (heads : HeadsSoFar) (stored : List ElementValue) → AreJoined [] heads → stored ≡ []
+    → SayBoard [] (record { heads = heads; stored = stored; next = 1 })
+nothing-said heads stored none empty = record {
   scenes = [];
   say = tt;
-  board = record { joined = subst (IsJoinedHead []) (sym none) nothing-joined; stores = subst (AreStored []) (sym empty) nothing-stored };
+  joined = none;
+  stores = subst (AreStored []) (sym empty) nothing-stored;
   counted = refl;
 }
 
@@ -61,16 +58,14 @@ updates-more scenes scene =
     flat_map-append (λ (s : Scene). s.elements) scenes (scene ∷ []) ∙ ap (λ es. updates_of scenes ++ es) (append-nil scene.elements)
 
 pub board-more : (texts : List (List ℕ)) (text : List ℕ) (scene : Scene) (old new : BoardSoFar) → SayBoard texts old → IsSceneOf text scene
-    → ((heads : List Heading) → IsJoinedHead heads old.head → IsJoinedHead (heads ++ scene.head ∷ []) new.head)
+    → ((heads : List Heading) → AreJoined heads old.heads → AreJoined (heads ++ scene.head ∷ []) new.heads)
     → ((updates : List ElementValue) → AreStored updates old.stored → AreStored (updates ++ scene.elements) new.stored)
     → new.next ≡ old.next + 1 → SayBoard (texts ++ text ∷ []) new
 board-more texts text scene old new read is joins stores counted = record {
   scenes = read.scenes ++ scene ∷ [];
   say = say-more texts read.scenes text scene read.say is;
-  board = record {
-    joined = subst (λ hs. IsJoinedHead hs new.head) (sym (heads-more read.scenes scene)) (joins (heads_of read.scenes) read.board.joined);
-    stores = subst (λ us. AreStored us new.stored) (sym (updates-more read.scenes scene)) (stores (updates_of read.scenes) read.board.stores);
-  };
+  joined = subst (λ hs. AreJoined hs new.heads) (sym (heads-more read.scenes scene)) (joins (heads_of read.scenes) read.joined);
+  stores = subst (λ us. AreStored us new.stored) (sym (updates-more read.scenes scene)) (stores (updates_of read.scenes) read.stores);
   counted = omega (arith, counted, read.counted, length-append read.scenes (scene ∷ []));
 }
 
@@ -102,9 +97,10 @@ one-open None (text ∷ texts) takes say = absurd say
 one-open (Some scene) texts takes say = absurd (false≢true (sym takes))
 
 -- ---- the board of scenes, one at least
-pub board-read : (bytes : List ℕ) (so_far : BoardSoFar) → HasTexts bytes (board_seen so_far)
-    → (scenes : List Scene) × HasScenes bytes scenes × IsBoardOf scenes so_far.head so_far.stored
-board-read bytes so_far h =
+pub board-read : (bytes : List ℕ) (so_far : BoardSoFar) (head : Heading) → HasTexts bytes (board_seen so_far)
+    → ((heads : List Heading) → AreJoined heads so_far.heads → IsJoinedHead heads head)
+    → (scenes : List Scene) × HasScenes bytes scenes × IsBoardOf scenes head so_far.stored
+board-read bytes so_far head h is =
     let read = h.behind.read in (
       read.scenes,
       record {
@@ -113,7 +109,7 @@ board-read bytes so_far h =
         lead = scenes-lead bytes (drop h.start bytes) h.texts read.scenes read.say h.behind.lead;
         space = h.space;
       },
-      read.board,
+      record { joined = is (heads_of read.scenes) read.joined; stores = read.stores },
     )
 
 begun-at : (bytes : List ℕ) (scenes : List Scene) (next start : ℕ) → next ≡ length scenes + 1 → ((next == 1) ≡ true) ⊎ (is_blank (drop start bytes) ≡ false)

@@ -1,12 +1,15 @@
 -- What the readers of an input's scenes have read. This project's own.
 use Rattle.std.specs.Prelude.{◌≡◌, ℕ, ◌+◌, ◌==◌, List, [], ◌∷◌, false, Option, Some, None, is_some, is_none, length}
+use Rattle.json_text.specs.Compact.{Member as Pair}
 use Rattle.elem.specs.ElementValue.{ElementValue}
+use Rattle.elem_store.specs.Updates.{AreStored}
+use Rattle.file_table.specs.Table.{AreLeastEntries}
 use Rattle.intake.specs.Texts.{Reading}
 use Rattle.intake.specs.declared.reading.Stopped.{Stopped}
 use Rattle.intake.specs.declared.reading.Stopped.TheVariants.{Faulty, Refused, Extra}
-use Rattle.scene_file.specs.Heads.{Heading}
+use Rattle.scene_file.specs.Heads.{Heading, least_source, settings_of, files_of}
 use Rattle.scene_file.specs.Reading.{IsSceneOf, IsSceneFault}
-use Rattle.commands.specs.Boards.{IsBoardOf}
+use Rattle.commands.specs.Boards.{heads_of, updates_of}
 use Rattle.commands.specs.declared.status.Refusal.{Refusal}
 use Rattle.commands.specs.declared.status.Refusal.TheVariants as refusal
 use Rattle.scene_file.specs.declared.scene.Scene.{Scene}
@@ -20,17 +23,30 @@ SayScenes [] (scene ∷ scenes) = ⊥
 SayScenes (text ∷ texts) [] = ⊥
 SayScenes (text ∷ texts) (scene ∷ scenes) = IsSceneOf text scene × SayScenes texts scenes
 
+-- What heads are joined to so far: a source, and settings and files in the order of their names and ids.
+pub record HeadsSoFar : Type 0 where
+  pub source : Option (List ℕ)
+  pub settings : List Pair
+  pub files : List Pair
+
+-- These heads are joined to this: the least source, and of each name and each id the least setting and file's entry.
+pub record AreJoined (heads : List Heading) (so_far : HeadsSoFar) : Type 0 where
+  pub source : so_far.source ≡ least_source heads
+  pub settings : AreLeastEntries (settings_of heads) so_far.settings
+  pub files : AreLeastEntries (files_of heads) so_far.files
+
 -- The board of the scenes so far, and the number of the next text, counted from 1.
 pub record BoardSoFar : Type 0 where
-  pub head : Heading
+  pub heads : HeadsSoFar
   pub stored : List ElementValue
   pub next : ℕ
 
--- The texts are those of scenes, of which this is the board.
+-- The texts are those of scenes, whose heads are joined and whose updates are stored so.
 pub record SayBoard (texts : List (List ℕ)) (so_far : BoardSoFar) : Type 0 where
   pub scenes : List Scene
   pub say : SayScenes texts scenes
-  pub board : IsBoardOf scenes so_far.head so_far.stored
+  pub joined : AreJoined (heads_of scenes) so_far.heads
+  pub stores : AreStored (updates_of scenes) so_far.stored
   pub counted : so_far.next ≡ length scenes + 1
 
 -- what is seen of a reader of a board: it needs one scene at least

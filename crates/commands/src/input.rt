@@ -61,11 +61,12 @@ pub(crate) fn some_board<S: Source>(alloc: Global, input: &mut S) -> Result<(Hea
 {
     let mut gathered = Gathered::new(alloc);
     let found = read_input(alloc, input, &mut gathered)?;
-    let Gathered { head, store, next } = gathered;
-    match found {
-        None => Ok((head, store)),
-        Some(stopped) => Err(Fault::Refused(refused(next, stopped))),
+    let Gathered { heads, store, next } = gathered;
+    if let Some(stopped) = found {
+        return Err(Fault::Refused(refused(next, stopped)));
     }
+    let head = heads.finish()?;
+    Ok((head, store))
 }
 
 /// The best items of the libraries that the input is, one at least.

@@ -5,6 +5,7 @@ mod answer;
 mod drilling;
 mod front;
 mod headline;
+mod heads;
 mod input;
 mod keeping;
 pub mod laws;

@@ -7,12 +7,13 @@ ghost use Rattle.commands.specs.Readers.{SayBoard, board_seen, one_seen};
 ghost use Rattle.commands.specs.Shelves.{SayShelf, shelf_seen};
 ghost use Rattle.commands.specs.SessionTexts.{session_seen};
 
+use crate::heads::Heads;
 use board_base::{List, Stop};
 use elem_store::Store;
 use intake::Reader;
 use json_text::Raw;
 use library::{Item, LibFault, Shelf, read_library};
-use scene_file::{Head, Scene, SceneFault, join, scene_of};
+use scene_file::{Scene, SceneFault, scene_of};
 use session_text::{SessionFeed, TextFault};
 use std::alloc::{AllocError, Global};
 use std::marker::Model;
@@ -21,7 +22,7 @@ use std::marker::Model;
 /// number of the next text, counted from 1.
 #[derive(Drop)]
 pub(crate) struct Gathered {
-    pub(crate) head: Head,
+    pub(crate) heads: Heads,
     pub(crate) store: Store,
     pub(crate) next: usize,
 }
@@ -32,7 +33,7 @@ impl Model for Gathered {
 
     ghost Value = { BoardSoFar };
 
-    ghost view = { λ g. record { head = g.head; stored = g.store.elements; next = g.next } };
+    ghost view = { λ g. record { heads = g.heads; stored = g.store.elements; next = g.next } };
 
     ghost invariant = { λ g. 1 ≤ g.next };
 }
@@ -43,7 +44,7 @@ impl Gathered {
         ensures { SayBoard [] result }
     {
         Gathered {
-            head: Head::new(alloc),
+            heads: Heads::new(alloc),
             store: Store::new(alloc),
             next: 1,
         }
@@ -67,7 +68,7 @@ impl Reader for Gathered {
     fn read(&mut self, alloc: Global, text: &Raw) -> Result<(), Stop<SceneFault>> {
         let Scene { head, elements } = scene_of(alloc, text)?;
         let next = number_after(self.next)?;
-        join(alloc, &mut self.head, &head)?;
+        self.heads.take(alloc, &head)?;
         self.store.reserve(elements.as_slice().len())?;
         self.store.take_all(elements);
         self.next = next;

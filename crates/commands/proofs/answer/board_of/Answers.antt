@@ -1,7 +1,7 @@
 use Rattle.std.proofs.Common.{[], sym, subst, append-nil}
 use Rattle.elem_store.specs.Updates.{AreStored}
 use Rattle.scene_file.specs.Heads.{IsJoinedHead}
-use Rattle.commands.proofs.Readers.{nothing-joined}
+use Rattle.commands.proofs.Joining.{nothing-joined}
 use Rattle.commands.proofs.answer.board_of.Goals as goal
 
 pub returns : goal.returns

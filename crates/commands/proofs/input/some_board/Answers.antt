@@ -4,21 +4,23 @@ use Rattle.intake.specs.Texts.{AreRead}
 use Rattle.commands.specs.Answers.{IsRefusal}
 use Rattle.commands.specs.Boards.{IsBoardOf}
 use Rattle.commands.specs.Input.{HasScenes}
-use Rattle.commands.specs.Readers.{BoardSoFar, board_seen, refusal_of}
+use Rattle.commands.specs.Readers.{AreJoined, BoardSoFar, board_seen, refusal_of}
+use Rattle.scene_file.specs.Heads.{Heading, IsJoinedHead}
 use Rattle.commands.specs.Ends.{limit}
 use Rattle.commands.proofs.Given.{unread}
 use Rattle.commands.proofs.Readers.{board-read, board-refused}
 use Rattle.scene_file.specs.declared.scene.Scene.{Scene}
 use Rattle.commands.proofs.input.some_board.Goals as goal
 
-pub returns-in-None-clause-board : goal.returns-in-None-clause-board
-returns-in-None-clause-board g c =
+pub returns-clause-board : goal.returns-clause-board
+returns-clause-board g c =
     let read = c.in_ok-found.ensures.read in
     let so_far = c.read_input.new.reader in (
       read.0,
       read.1,
-      subst (λ (seen : BoardSoFar). (scenes : List Scene) × HasScenes read.0 scenes × IsBoardOf scenes seen.head seen.stored) (sym c.gathered.view_is)
-          (board-read read.0 so_far (subst (AreRead read.0 (board_seen so_far)) c.in-None.is read.2)),
+      subst (λ (seen : BoardSoFar). (scenes : List Scene) × HasScenes read.0 scenes × IsBoardOf scenes c.in_ok-head.head seen.stored) (sym c.gathered.view_is)
+          (board-read read.0 so_far c.in_ok-head.head (subst (AreRead read.0 (board_seen so_far)) c.in_default.is read.2)
+          (subst (λ (seen : BoardSoFar). (heads : List Heading) → AreJoined heads seen.heads → IsJoinedHead heads c.in_ok-head.head) c.gathered.view_is c.in_ok-head.ensures)),
     )
 
 pub returns-in_err-found-clause-fault : goal.returns-in_err-found-clause-fault
