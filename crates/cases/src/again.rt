@@ -8,7 +8,7 @@ use board_base::{List, Stop};
 use board_commands::{Capture, Command, Spot};
 use elem::Element;
 use json_text::{Raw, Text};
-use replica::Replica;
+use replica::{Direction, Replica};
 use scene_json::{members, push_comma, push_whole, shaped, value_named};
 use std::alloc::{AllocError, Global};
 
@@ -110,8 +110,8 @@ fn done(replica: &mut Replica, act: &Act) -> Result<Option<()>, AllocError> {
             Ok(Some(()))
         }
         Act::Create(list, capture) => create_all(replica, list.as_slice(), *capture),
-        Act::Undo => undo(replica),
-        Act::Redo => redo(replica),
+        Act::Undo => turn(replica, Direction::Undo),
+        Act::Redo => turn(replica, Direction::Redo),
     }
 }
 
@@ -146,25 +146,11 @@ fn create(replica: &mut Replica, e: &Element, capture: Capture) -> Result<Option
     }
 }
 
-/// Undoes an entry, if that isn't refused.
-fn undo(replica: &mut Replica) -> Result<Option<()>, AllocError> {
-    let first = replica.undo(TIME, NONCE);
+/// Undoes an entry, or an undo, if that isn't refused.
+fn turn(replica: &mut Replica, direction: Direction) -> Result<Option<()>, AllocError> {
+    let first = replica.turn(direction, TIME, NONCE);
     let step = match first {
-        Err(Stop::Memory) => replica.undo(TIME, NONCE),
-        other => other,
-    };
-    match step {
-        Ok(_step) => Ok(Some(())),
-        Err(Stop::Fault(_)) => Ok(None),
-        Err(Stop::Memory) => Err(AllocError),
-    }
-}
-
-/// Undoes an undo, if that isn't refused.
-fn redo(replica: &mut Replica) -> Result<Option<()>, AllocError> {
-    let first = replica.redo(TIME, NONCE);
-    let step = match first {
-        Err(Stop::Memory) => replica.redo(TIME, NONCE),
+        Err(Stop::Memory) => replica.turn(direction, TIME, NONCE),
         other => other,
     };
     match step {

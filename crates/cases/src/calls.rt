@@ -1,6 +1,7 @@
 //! Calls below the top one, each asked for by a member of its name.
 
 use crate::again::push_again;
+use crate::asked::push_asked;
 use crate::deliver::push_delivered;
 use crate::elements::{push_applied, push_clashes, push_compared, push_element_of, push_message};
 use crate::fed::{push_cut, push_fed};
@@ -86,6 +87,8 @@ fn push_board_call(
 ) -> Result<(), Stop<Text>> {
     if let Some(value) = value_named(case, "follow") {
         push_followed(alloc, line, value)
+    } else if let Some(value) = value_named(case, "ask") {
+        push_asked(alloc, line, value)
     } else if let Some(value) = value_named(case, "update") {
         push_kept(alloc, line, value)
     } else if let Some(value) = value_named(case, "take") {

@@ -14,11 +14,12 @@ use scene_json::{members, shaped};
 use std::alloc::{AllocError, Global};
 use view::view_of;
 
-/// What is drawn for an element: its version, and how many ids there are.
+/// What is drawn for an element: its version, how many ids there are, and how many of them are named by others.
 #[derive(Clone, Copy)]
-struct Drawing {
-    version: u64,
-    ids: u64,
+pub struct Drawing {
+    pub version: u64,
+    pub ids: u64,
+    pub named: u64,
 }
 
 /// Appends whether the view of a replica is the view of its store made anew, after each of so many deliveries that are
@@ -28,18 +29,30 @@ pub fn push_followed(alloc: Global, line: &mut Vec<u8>, value: &Raw) -> Result<(
     let seed = given(number_or(&told, "seed", 0), "member seed")?;
     let changes = given(count_of(&told, "changes"), "member changes")?;
     let ids = given(number_or(&told, "ids", 1), "member ids")?.max(1);
-    let equal = given(follow(alloc, seed, changes, ids)?, "member follow")?;
+    let named = given(number_or(&told, "named", ids), "member named")?;
+    let equal = given(follow(alloc, seed, changes, ids, named)?, "member follow")?;
     push_truth(line, "equal", equal)?;
     Ok(())
 }
 
 /// Whether the view is the one made anew after each delivery, or nothing where a drawn text is no element.
-fn follow(alloc: Global, seed: u64, changes: usize, ids: u64) -> Result<Option<bool>, AllocError> {
+fn follow(
+    alloc: Global,
+    seed: u64,
+    changes: usize,
+    ids: u64,
+    named: u64,
+) -> Result<Option<bool>, AllocError> {
     let mut generator = generator_of(seed);
     let mut replica = Replica::new(alloc);
     for i in 0..changes {
         let version = i as u64 + 1;
-        let Some(elements) = draw_elements(alloc, &mut generator, Drawing { version, ids })? else {
+        let drawing = Drawing {
+            version,
+            ids,
+            named,
+        };
+        let Some(elements) = draw_elements(alloc, &mut generator, drawing)? else {
             return Ok(None);
         };
         replica.deliver(elements.as_slice())?;
@@ -70,7 +83,7 @@ pub fn are_same(elements: &[Element], others: &[Element]) -> bool {
 }
 
 /// Draws what is delivered at once: mostly one element, now and then five or forty.
-fn draw_elements(
+pub fn draw_elements(
     alloc: Global,
     generator: &mut Pcg32,
     drawing: Drawing,
@@ -95,8 +108,13 @@ fn draw_elements(
 fn draw_element(
     alloc: Global,
     generator: &mut Pcg32,
-    Drawing { version, ids }: Drawing,
+    drawing: Drawing,
 ) -> Result<Option<Element>, AllocError> {
+    let Drawing {
+        version,
+        ids,
+        named,
+    } = drawing;
     let number = draw(generator, ids);
     let version = if draw(generator, 8) == 0 {
         version / 2
@@ -105,12 +123,12 @@ fn draw_element(
     };
     let deleted = draw(generator, 6) == 0;
     let index = draw_index(alloc, generator)?;
-    let frame = draw_id(alloc, generator, ids)?;
+    let frame = draw_id(alloc, generator, named)?;
     let listed = draw_listed(alloc, generator, ids)?;
-    let named = draw_named(alloc, generator, number, ids)?;
+    let further = draw_named(alloc, generator, number, named)?;
     let kind = kind_of(number);
     let text = format!(in alloc;
-        "{{\"id\":\"e{number}\",\"type\":\"{kind}\",\"version\":{version},\"isDeleted\":{deleted},\"index\":{index},\"frameId\":{frame},\"groupIds\":[\"g\",\"e{number}\",\"g\"],\"boundElements\":{listed}{named}}}"
+        "{{\"id\":\"e{number}\",\"type\":\"{kind}\",\"version\":{version},\"isDeleted\":{deleted},\"index\":{index},\"frameId\":{frame},\"groupIds\":[\"g\",\"e{number}\",\"g\"],\"boundElements\":{listed}{further}}}"
     )?;
     element_of_text(alloc, text.as_str())
 }
@@ -173,7 +191,7 @@ fn draw_named(
 }
 
 /// Draws a number below the limit.
-fn draw(generator: &mut Pcg32, limit: u64) -> u64 {
+pub fn draw(generator: &mut Pcg32, limit: u64) -> u64 {
     draw_word(generator) % limit.max(1)
 }
 

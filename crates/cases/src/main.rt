@@ -3,6 +3,7 @@
 #![tactic(auto)]
 
 mod again;
+mod asked;
 mod calls;
 mod deliver;
 mod elements;

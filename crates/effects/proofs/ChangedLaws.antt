@@ -1,14 +1,15 @@
 -- What a command comes to, by what was found of it.
-use Rattle.std.proofs.Common.{◌≡◌, ℕ, Bool, true, false, List, [], ◌∷◌, Option, Some, None, Result, Ok, Err, Contains, filter, find, map, length, bytes_eq, inl, inr, refl, sym, ap, ◌∙◌, subst}
-use Rattle.std.specs.List.{AllByRecursion, IsDistinct}
+use Rattle.std.proofs.Common.{◌≡◌, ℕ, Bool, true, false, ◌&&◌, ◌==◌, List, [], ◌∷◌, Option, Some, None, Result, Ok, Err, Contains, filter, find, map, length, bytes_eq, if◌then◌else◌, inl, inr, refl, sym, ap, ◌∙◌, subst}
+use Rattle.std.specs.List.{AllByRecursion, IsDistinct, cons_option, filter_map}
 use Rattle.std.specs.Option.{option_map, option_or}
 use Rattle.std.proofs.lemmas.Bool.{cases_Bool}
 use Rattle.std.proofs.lemmas.Option.{cond_some, same_Some}
 use Rattle.frac_keys.specs.Rising.{are_rising}
 use Rattle.elem.specs.ElementValue.{ElementValue}
+use Rattle.elem.specs.Facts.{greatest_whole}
 use Rattle.elem.specs.Order.{has_id, HaveDistinctIds}
 use Rattle.elem_store.specs.Updates.{ids_of}
-use Rattle.elem_store.proofs.CallerLemmas.{find-None}
+use Rattle.elem_store.proofs.CallerLemmas.{Contains-cons, Contains-head, find-None}
 use Rattle.index_repair.specs.Keyed.{keyed}
 use Rattle.copies.specs.Copies.{copies_of}
 use Rattle.copies.proofs.CallerLemmas.{copies-distinct}
@@ -20,12 +21,27 @@ use Rattle.effects.specs.declared.refusal.Refusal.{Refusal}
 use Rattle.effects.specs.declared.effect.Effect.{Effect}
 use Rattle.effects.specs.Changed.{stamped, is_changed, is_full, change_of, changes_of, created, created_at, with_created, outcome, outcome_from, outcome_unless, refusal_at}
 use Rattle.effects.specs.Copying.{as_new, copies_at, shown_among}
+use Rattle.effects.specs.Differing.{differs}
+use Rattle.effects.specs.Effects.{effect}
 use Rattle.effects.specs.Naming.{is_among}
+use Rattle.view.specs.Shown.{is_live}
 use Rattle.effects.specs.Placing.{keys_at}
 use Rattle.effects.specs.Prepared.{made_by, Prepares}
 use Rattle.effects.specs.Refusals.{existing, refusal_of}
 use Rattle.effects.proofs.CreatedLaws.{AreApart, absent, created-unknown, distinct-one}
 use Rattle.effects.proofs.OutcomeLaws.{mapped-cases, mapped-rises}
+
+-- what agrees on each element agrees on all
+find-same : (p q : ElementValue → Bool) (es : List ElementValue) → ((e : ElementValue) → Contains es e → p e ≡ q e) → find p es ≡ find q es
+find-same p q [] same = refl
+find-same p q (e ∷ es) same =
+    ap (λ b. if b then Some e else find p es) (same e (Contains-head e es))
+    ∙ ap (λ o. if q e then Some e else o) (find-same p q es (λ d c. same d (Contains-cons e es d c)))
+
+mapped-same : (f g : ElementValue → Option ElementValue) (es : List ElementValue) → ((e : ElementValue) → Contains es e → f e ≡ g e) → filter_map f es ≡ filter_map g es
+mapped-same f g [] same = refl
+mapped-same f g (e ∷ es) same =
+    ap (λ o. cons_option o (filter_map f es)) (same e (Contains-head e es)) ∙ ap (cons_option (g e)) (mapped-same f g es (λ d c. same d (Contains-cons e es d c)))
 
 module _ (stored shown : List ElementValue) (command : Command) (time nonce : ℕ) where
   pub outcome-refused : (refusal : Refusal) → refusal_of stored shown command ≡ Some refusal → outcome stored shown command time nonce ≡ Err refusal
@@ -36,7 +52,21 @@ module _ (stored shown : List ElementValue) (command : Command) (time nonce : �
 
   open-outcome : (prepared : Effect) → refusal_of stored shown command ≡ None → Prepares stored shown command prepared → outcome stored shown command time nonce ≡ found (made_by prepared)
   open-outcome prepared none prepares =
-      ap (λ o. outcome_unless o stored shown command time nonce) none ∙ sym (ap found (λ i e. prepares.exact e i))
+      ap (λ o. outcome_unless o stored shown command time nonce) none
+      ∙ ap (λ o. outcome_from o (created shown command time nonce) (changes_of (effect stored shown command) time nonce stored)) (find-same (is_full (effect stored shown command)) (is_full (made_by prepared)) stored (λ e c. same-full e c))
+      ∙ ap (outcome_from (find (is_full (made_by prepared)) stored) (created shown command time nonce)) (mapped-same (change_of (effect stored shown command) time nonce) (change_of (made_by prepared) time nonce) stored (λ e c. same-change e c))
+    where
+      same-full : (e : ElementValue) → Contains stored e → is_full (effect stored shown command) e ≡ is_full (made_by prepared) e
+      same-full e c = elim (cases_Bool (is_live e)) [
+        | inl live ↦ ap (λ (d : ElementValue). (is_live e && differs e d) && e.version == greatest_whole) (sym (prepares.exact e c live))
+        | inr dead ↦ rw dead refl
+      ]
+
+      same-change : (e : ElementValue) → Contains stored e → change_of (effect stored shown command) time nonce e ≡ change_of (made_by prepared) time nonce e
+      same-change e c = elim (cases_Bool (is_live e)) [
+        | inl live ↦ ap (λ (d : ElementValue). if is_live e && differs e d then Some (stamped time nonce d) else None) (sym (prepares.exact e c live))
+        | inr dead ↦ rw dead refl
+      ]
 
   full-from : (o : Option ElementValue) (new changes : List ElementValue) (refusal : Refusal) → option_map refusal_at o ≡ Some refusal → outcome_from o new changes ≡ Err refusal
   full-from None new changes refusal h = absurd (subst (λ (o : Option Refusal). elim o as (λ _. Type 0) [ None ↦ Unit {0} | Some _ ↦ ⊥ ]) h tt)

@@ -1,7 +1,7 @@
 -- What copies leave stored: themselves at their spot, and all else but for its key.
-use Rattle.std.proofs.Common.{◌≡◌, ℕ, Bool, true, false, not, List, [], ◌∷◌, Option, Some, None, Ok, Contains, IsSomeAnd, length, map, inl, inr, refl, sym, ap, ap₂, ◌∙◌, subst, arith}
+use Rattle.std.proofs.Common.{◌≡◌, ℕ, Bool, true, false, not, List, [], ◌∷◌, Option, Some, None, Ok, Contains, IsSomeAnd, length, map, inl, inr, refl, sym, ap, ap₂, ◌∙◌, arith}
 use Rattle.std.proofs.lemmas.Bool.{both_ways, cases_Bool, false≢true}
-use Rattle.frac_keys.specs.Rising.{are_rising, rise_between}
+use Rattle.frac_keys.specs.Rising.{are_rising}
 use Rattle.frac_keys.proofs.CallerLemmas.{AreBetween, keys_between-law}
 use Rattle.elem.specs.ElementValue.{ElementValue}
 use Rattle.elem.specs.Order.{unstamped, HaveDistinctIds}
@@ -21,7 +21,7 @@ use Rattle.effects.specs.Effects.{effect}
 use Rattle.effects.specs.Given.{stored_after, Stays}
 use Rattle.effects.specs.Placing.{gap_of, keys_at, settled_key, with_view_key}
 use Rattle.effects.proofs.ChangedLaws.{copies-at-distinct, duplicates-distinct}
-use Rattle.effects.proofs.CommandLaws.{IsOpen, spot-open}
+use Rattle.effects.proofs.CommandLaws.{spot-open}
 use Rattle.effects.proofs.CreatedLaws.{created-unknown}
 use Rattle.effects.proofs.DifferingLaws.{differs-not}
 use Rattle.effects.proofs.NamedLaws.{of-live, stays}

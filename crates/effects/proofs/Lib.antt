@@ -1,7 +1,10 @@
 pub mod ChangedLaws
+pub mod ChosenLaws
+pub mod ConcerningLaws
 pub mod CreatedLaws
 pub mod DeletingLaws
 pub mod DifferingLaws
+pub mod FindingLaws
 pub mod FirstLaws
 pub mod KeepingLaws
 pub mod PlacingLaws

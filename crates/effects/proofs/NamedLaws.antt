@@ -1,6 +1,6 @@
 -- What a command leaves as it is stays, and what it names becomes what the command makes of it.
-use Rattle.std.proofs.Common.{◌≡◌, ℕ, true, false, not, List, [], Option, Some, None, is_some, Ok, Contains, IsSomeAnd, find, if◌then◌else◌, inl, inr, refl, sym, ap, ◌∙◌, subst}
-use Rattle.std.specs.Option.{option_map, option_map_or}
+use Rattle.std.proofs.Common.{◌≡◌, ℕ, true, false, not, List, [], Option, Some, is_some, Ok, Contains, IsSomeAnd, find, if◌then◌else◌, inl, inr, sym, ap, ◌∙◌, subst}
+use Rattle.std.specs.Option.{option_map_or}
 use Rattle.std.proofs.lemmas.Bool.{cases_Bool, false≢true, both_ways, not-false, cond-true, cond-false}
 use Rattle.std.proofs.lemmas.Map.Views.{Contains-from_any}
 use Rattle.std.proofs.lemmas.Option.{none-some, same_Some}
@@ -38,7 +38,7 @@ chosen ids id own x y is h = cond-true (is_among ids own) x y (subst (λ i. is_a
 pub passed : (ids : List (List ℕ)) (id own : List ℕ) (x y : ElementValue) → id ≡ own → is_among ids id ≡ false → (if is_among ids own then x else y) ≡ y
 passed ids id own x y is h = cond-false (is_among ids own) x y (subst (λ i. is_among ids i ≡ false) is h)
 
-live-found : (stored : List ElementValue) (id : List ℕ) → is_live_id stored id ≡ true → (old : ElementValue) × (element_of stored id ≡ Some old) × (is_live old ≡ true)
+pub live-found : (stored : List ElementValue) (id : List ℕ) → is_live_id stored id ≡ true → (old : ElementValue) × (element_of stored id ≡ Some old) × (is_live old ≡ true)
 live-found stored id h = elim (some-or-none (element_of stored id)) [
   | inl none ↦ absurd (false≢true (sym (ap (λ (o : Option ElementValue). option_map_or is_live o false) none) ∙ h))
   | inr some ↦ (some.0, some.1, sym (ap (λ (o : Option ElementValue). option_map_or is_live o false) some.1) ∙ h)

@@ -1,5 +1,5 @@
 -- What a command gives, told of its outcome: each element is what it makes of a live stored one, stamped, or the new one.
-use Rattle.std.proofs.Common.{◌≡◌, ℕ, ◌+◌, ◌<◌, Bool, true, false, not, ◌&&◌, ◌⊎◌, List, [], ◌∷◌, Option, Some, None, is_some, Result, Ok, Err, Contains, IsSomeAnd, find, bytes_eq, inl, inr, refl, sym, ap, ◌∙◌, subst, arith}
+use Rattle.std.proofs.Common.{◌≡◌, ℕ, ◌+◌, ◌<◌, true, false, not, ◌&&◌, ◌⊎◌, List, [], ◌∷◌, Option, Some, None, Result, Ok, Err, Contains, IsSomeAnd, find, bytes_eq, inl, inr, refl, sym, ap, ◌∙◌, subst, arith}
 use Rattle.std.specs.List.{cons_option, filter_map}
 use Rattle.std.specs.Option.{option_or}
 use Rattle.std.proofs.lemmas.Bool.{cases_Bool, false≢true, both_ways, and_parts, and_from, cond-true, lt-ltb}
@@ -8,20 +8,17 @@ use Rattle.frac_keys.specs.Keys.{bytes_less}
 use Rattle.frac_keys.specs.Rising.{ends_rise, rise_between, are_rising}
 use Rattle.elem.specs.ElementValue.{ElementValue}
 use Rattle.elem.specs.Order.{beats, unstamped, has_id, HaveDistinctIds}
-use Rattle.elem.proofs.CallerLemmas.{bytes_less-turned}
 use Rattle.elem_store.specs.Updates.{element_of, ids_of, is_newer, is_taken}
-use Rattle.elem_store.proofs.CallerLemmas.{same_id, Contains-head, Contains-cons, Contains-cases, find-Some, find-None, is_some-find, list_any-false, member}
+use Rattle.elem_store.proofs.CallerLemmas.{same_id, Contains-head, Contains-cons, Contains-cases, find-Some, find-None, member}
 use Rattle.delta.specs.Pairs.{pair_with, IsChanged}
 use Rattle.view.specs.Shown.{is_live}
 use Rattle.board_commands.specs.declared.command.Command.{Command}
-use Rattle.board_commands.specs.declared.command.Command.TheVariants as commands
 use Rattle.effects.specs.declared.refusal.Refusal.{Refusal}
-use Rattle.effects.specs.declared.refusal.Refusal.TheVariants.{Exists}
-use Rattle.effects.specs.Changed.{stamped, is_changed, is_full, change_of, changes_of, created, created_at, with_created, outcome, outcome_from, outcome_unless, refusal_at}
+use Rattle.effects.specs.Changed.{stamped, is_changed, is_full, change_of, changes_of, created, with_created, outcome, outcome_from, outcome_unless, refusal_at}
 use Rattle.effects.specs.Differing.{differs}
 use Rattle.effects.specs.Effects.{effect}
 use Rattle.effects.specs.Given.{stored_after, ChangesStored, IsNew}
-use Rattle.effects.specs.Refusals.{refusal_of, refusal_if, existing, missing, misfit, guarded}
+use Rattle.effects.specs.Refusals.{refusal_of, existing, missing, misfit, guarded}
 use Rattle.effects.proofs.CreatedLaws.{absent, created-cases, created-fresh, created-kept, created-rises, created-there, created-unknown, some-or-none}
 use Rattle.effects.proofs.DifferingLaws.{same-where-not, differs-not}
 use Rattle.effects.proofs.KeepingLaws.{Self, effect-keeps}
@@ -40,7 +37,7 @@ pub stored_after-kept : (stored given : List ElementValue) (id : List ℕ) → e
 stored_after-kept stored given id none = ap (λ o. option_or o (element_of stored id)) none
 
 -- ---- what a function of elements gives of them
-rises-from : (a : Option (List ℕ)) (k : List ℕ) (es : List ElementValue) → ends_rise a (Some k) ≡ true → rise_between (Some k) None (ids_of es) ≡ true → rise_between a None (ids_of es) ≡ true
+pub rises-from : (a : Option (List ℕ)) (k : List ℕ) (es : List ElementValue) → ends_rise a (Some k) ≡ true → rise_between (Some k) None (ids_of es) ≡ true → rise_between a None (ids_of es) ≡ true
 rises-from a k [] less h = ends_rise-none a
 rises-from a k (e ∷ es) less h =
     let parts = and_parts (bytes_less k e.id) (rise_between (Some e.id) None (ids_of es)) h in

@@ -1,20 +1,33 @@
 -- What was looked up serves the command's effect.
-use Rattle.std.proofs.Common.{◌≡◌, ℕ, Bool, true, false, cond, ◌||◌, List, [], ◌∷◌, ◌++◌, Option, Some, None, Result, Ok, Err, IfOk, bytes_eq, if◌then◌else◌, nat_cmp, refl, sym, ap, ◌∙◌, subst}
+use Rattle.std.proofs.Common.{◌≡◌, ℕ, Bool, true, false, cond, not, ◌||◌, List, [], ◌∷◌, ◌++◌, Option, Some, None, is_some, Result, Ok, Err, Contains, IfOk, find, bytes_eq, if◌then◌else◌, nat_cmp, inl, inr, refl, sym, ap, ◌∙◌, subst}
 use Rattle.std.specs.BTreeMap.{BTreeMap, get}
 use Rattle.std.specs.BTreeSet.{BTreeSet, contains, Updates}
 use Rattle.std.specs.Cmp.Lexicographic.{slice_cmp, nat_list_eq_equiv, texts_ties}
-use Rattle.std.specs.Option.{option_map, option_map_or, option_and_then, option_flatten, unwrap_or}
+use Rattle.std.specs.Option.{option_map, option_map_or, unwrap_or}
+use Rattle.std.proofs.lemmas.Bool.{cases_Bool, cond-false, cond-true, not-false}
 use Rattle.std.proofs.lemmas.List.Folds.{list_any-append}
 use Rattle.elem.specs.ElementValue.{ElementValue}
 use Rattle.elem_store.specs.Updates.{element_of}
+use Rattle.elem_store.proofs.CallerLemmas.{is_some-find, list_any-false}
+use Rattle.view.specs.Shown.{is_live}
 use Rattle.index_repair.specs.Keyed.{index_of}
+use Rattle.effects.specs.Concerning.{DeletesLive}
+use Rattle.effects.specs.Copying.{settled_for}
 use Rattle.effects.specs.Deleting.{deleted_from}
+use Rattle.effects.specs.Lookups.{IsLookup}
 use Rattle.effects.specs.Naming.{is_among}
-use Rattle.effects.specs.Placing.{with_view_key, key_in}
+use Rattle.effects.specs.Placing.{with_view_key}
 use Rattle.effects.specs.Effects.{effect}
-use Rattle.effects.specs.Prepared.{made_by, HasKeys, HasIds, settled_in, IsSoundEffect, Prepares}
+use Rattle.effects.specs.Prepared.{elements_among, made_by, HasKeys, HasIds, settled_in, IsSoundEffect, Prepares}
+use Rattle.effects.specs.Refusals.{first_missing, is_live_id}
 use Rattle.board_commands.specs.declared.command.Command.{Command}
 use Rattle.effects.specs.declared.effect.Effect.{Effect}
+use Rattle.effects.specs.declared.lookup.Lookup.{Lookup}
+use Rattle.effects.specs.declared.refusal.Refusal.TheVariants.{NoElement}
+use Rattle.effects.proofs.ChosenLaws.{filtered-of}
+use Rattle.effects.proofs.CreatedLaws.{unmapped}
+use Rattle.effects.proofs.FindingLaws.{seen-as-stored}
+use Rattle.effects.proofs.NamedLaws.{among-Contains}
 
 pub HasIds-more : (old new : BTreeSet (List ℕ)) (ids : List (List ℕ)) (id copy : List ℕ) → HasIds old ids → copy ≡ id → Updates (slice_cmp nat_cmp) old new copy true → HasIds new (ids ++ id ∷ [])
 HasIds-more old new ids id copy has is updates other =
@@ -35,16 +48,28 @@ or-default : {X Y : Type 0} (f : X → Y) (o : Option X) (d : Y) → unwrap_or (
 or-default f None d = refl
 or-default f (Some x) d = refl
 
-pub with_view_key-in : (keys : BTreeMap (List ℕ) (Option (List ℕ))) (shown : List ElementValue) (e : ElementValue) → HasKeys keys shown → settled_in keys e ≡ with_view_key shown e
-with_view_key-in keys shown e has =
-    ap (λ index. record e { index = index }) (ap (λ o. unwrap_or o e.index) (has e.id) ∙ or-default index_of (element_of shown e.id) e.index)
+with_view_key-at : (keys : BTreeMap (List ℕ) (Option (List ℕ))) (shown : List ElementValue) (e : ElementValue) → get (slice_cmp nat_cmp) keys e.id ≡ option_map index_of (element_of shown e.id) → settled_in keys e ≡ with_view_key shown e
+with_view_key-at keys shown e has =
+    ap (λ index. record e { index = index }) (ap (λ o. unwrap_or o e.index) has ∙ or-default index_of (element_of shown e.id) e.index)
 
-pub key-in : (keys : BTreeMap (List ℕ) (Option (List ℕ))) (shown : List ElementValue) (id : List ℕ) → HasKeys keys shown → option_flatten (get (slice_cmp nat_cmp) keys id) ≡ key_in shown id
-key-in keys shown id has = ap option_flatten (has id) ∙ flat (element_of shown id)
-  where
-    flat : (o : Option ElementValue) → option_flatten (option_map index_of o) ≡ option_and_then (λ (e : ElementValue). e.index) o
-    flat None = refl
-    flat (Some e) = refl
+-- ---- where keys are settled
+module _ (lookup : Lookup) (is : IsLookup lookup) (keys : BTreeMap (List ℕ) (Option (List ℕ))) where
+  -- the keys of what may be unsettled settle each live element
+  pub settled-view : HasKeys keys (elements_among lookup.unsettled.now lookup.shown.now) → (e : ElementValue) → Contains lookup.store.now.elements e → is_live e ≡ true → settled_in keys e ≡ with_view_key lookup.shown.now e
+  settled-view has e c live =
+      let found = filtered-of (contains (slice_cmp nat_cmp) lookup.unsettled.now) lookup.shown.now e.id in
+      elim (cases_Bool (contains (slice_cmp nat_cmp) lookup.unsettled.now e.id)) [
+        | inl among ↦ with_view_key-at keys lookup.shown.now e (has e.id ∙ ap (option_map index_of) (found ∙ cond-true (contains (slice_cmp nat_cmp) lookup.unsettled.now e.id) (element_of lookup.shown.now e.id) None among))
+        | inr other ↦
+            ap (λ (o : Option (Option (List ℕ))). record e { index = unwrap_or o e.index }) (has e.id ∙ ap (option_map index_of) (found ∙ cond-false (contains (slice_cmp nat_cmp) lookup.unsettled.now e.id) (element_of lookup.shown.now e.id) None other))
+            ∙ sym (ap (λ (o : Option ElementValue). record e { index = option_map_or index_of o e.index }) (seen-as-stored lookup is e c live other))
+      ]
+
+  -- and none are needed where nothing is copied
+  pub settled-for : (originals : List ElementValue) → HasKeys keys (settled_for originals (elements_among lookup.unsettled.now lookup.shown.now))
+      → (e : ElementValue) → Contains lookup.store.now.elements e → is_live e ≡ true → settled_in keys e ≡ with_view_key (settled_for originals lookup.shown.now) e
+  settled-for [] has e c live = with_view_key-at keys [] e (has e.id)
+  settled-for (o ∷ originals) has e c live = settled-view has e c live
 
 pub deleted-among : (set : BTreeSet (List ℕ)) (ids : List (List ℕ)) (e : ElementValue) → HasIds set ids → deleted_from (contains (slice_cmp nat_cmp) set) e ≡ deleted_from (is_among ids) e
 deleted-among set ids e has = ap (λ is_gone. deleted_from is_gone e) (λ i id. has id i)
@@ -52,9 +77,16 @@ deleted-among set ids e has = ap (λ is_gone. deleted_from is_gone e) (λ i id. 
 pub changed-among : (set : BTreeSet (List ℕ)) (ids : List (List ℕ)) (e new : ElementValue) → HasIds set ids → (if contains (slice_cmp nat_cmp) set e.id then new else e) ≡ (if is_among ids e.id then new else e)
 changed-among set ids e new has = ap (λ b. if b then new else e) (has e.id)
 
+-- none of the ids that become deleted is missing
+pub deleted-live : (set : BTreeSet (List ℕ)) (ids : List (List ℕ)) (stored : List ElementValue) → HasIds set ids → first_missing stored ids ≡ None → (id : List ℕ) → contains (slice_cmp nat_cmp) set id ≡ true → is_live_id stored id ≡ true
+deleted-live set ids stored has none id among =
+    let missing' = (λ (id : List ℕ). not (is_live_id stored id)) in
+    not-false (is_live_id stored id)
+    (list_any-false missing' ids id (sym (is_some-find missing' ids) ∙ ap is_some (unmapped NoElement (find missing' ids) none)) (among-Contains ids id (sym (has id) ∙ among)))
+
 -- ---- the command that was given is the one that was prepared for
 module _ {E : Type 0} (r : Result Effect E) (stored view : List ElementValue) (command given : Command) (is : given ≡ command) where
-  as-given : IfOk r (Prepares stored view command) → IfOk r (Prepares stored view given)
+  pub as-given : IfOk r (Prepares stored view command) → IfOk r (Prepares stored view given)
   as-given h = subst (λ c. IfOk r (Prepares stored view c)) (sym is) h
 
   pub for-stored : IfOk r (λ made. (view : List ElementValue) → Prepares stored view command made) → IfOk r (Prepares stored view given)
@@ -64,13 +96,6 @@ module _ {E : Type 0} (r : Result Effect E) (stored view : List ElementValue) (c
       at (Ok made) h = h view
       at (Err e) h = tt
 
-  pub for-view : IfOk r (λ made. (stored : List ElementValue) → Prepares stored view command made) → IfOk r (Prepares stored view given)
-  for-view h = as-given (at r h)
-    where
-      at : (r : Result Effect E) → IfOk r (λ made. (stored : List ElementValue) → Prepares stored view command made) → IfOk r (Prepares stored view command)
-      at (Ok made) h = h stored
-      at (Err e) h = tt
-
   pub for-all : IfOk r (λ made. (stored view : List ElementValue) → Prepares stored view command made) → IfOk r (Prepares stored view given)
   for-all h = as-given (at r h)
     where
@@ -78,9 +103,9 @@ module _ {E : Type 0} (r : Result Effect E) (stored view : List ElementValue) (c
       at (Ok made) h = h stored view
       at (Err e) h = tt
 
-  pub from-parts : IfOk r (λ made. (e : ElementValue) → made_by made e ≡ effect stored view command e) → IfOk r IsSoundEffect → IfOk r (Prepares stored view given)
-  from-parts exact sound = as-given (at r exact sound)
+  pub from-parts : IfOk r (λ made. (e : ElementValue) → Contains stored e → is_live e ≡ true → made_by made e ≡ effect stored view command e) → IfOk r IsSoundEffect → IfOk r (λ made. DeletesLive made stored) → IfOk r (Prepares stored view given)
+  from-parts exact sound live = as-given (at r exact sound live)
     where
-      at : (r : Result Effect E) → IfOk r (λ made. (e : ElementValue) → made_by made e ≡ effect stored view command e) → IfOk r IsSoundEffect → IfOk r (Prepares stored view command)
-      at (Ok made) exact sound = record { exact = exact; sound = sound }
-      at (Err e) exact sound = tt
+      at : (r : Result Effect E) → IfOk r (λ made. (e : ElementValue) → Contains stored e → is_live e ≡ true → made_by made e ≡ effect stored view command e) → IfOk r IsSoundEffect → IfOk r (λ made. DeletesLive made stored) → IfOk r (Prepares stored view command)
+      at (Ok made) exact sound live = record { exact = exact; sound = sound; live = live }
+      at (Err e) exact sound live = tt

@@ -1,10 +1,9 @@
 -- What an effect changes, element by element.
-use Rattle.std.proofs.Common.{◌≡◌, ◌≢◌, ℕ, zero, suc, ◌+◌, ◌<◌, Bool, true, false, ◌==◌, List, [], ◌∷◌, ◌++◌, length, get_or, take, Option, Some, None, find, slice_get, if◌then◌else◌, inl, inr, refl, sym, ap, ◌∙◌, subst, arith}
-use Rattle.std.specs.List.{cons_option}
-use Rattle.std.specs.Option.{option_map, unwrap_or}
+use Rattle.std.proofs.Common.{◌≡◌, ◌≢◌, ℕ, Bool, true, false, ◌==◌, List, [], ◌∷◌, ◌++◌, append_assoc, Option, Some, None, Result, Ok, Err, IfErr, find, if◌then◌else◌, inl, inr, refl, sym, ap, ◌∙◌, subst}
+use Rattle.std.specs.List.{cons_option, filter_map}
+use Rattle.std.specs.Option.{option_map_or, unwrap_or}
+use Rattle.board_base.specs.declared.stop.Stop.{Stop}
 use Rattle.std.proofs.lemmas.Bool.{cases_Bool, eqb-true, eq-eqb}
-use Rattle.std.proofs.lemmas.List.{take_more}
-use Rattle.std.proofs.lemmas.List.Elements.{filter_map-append}
 use Rattle.std.proofs.lemmas.Option.{same_Some}
 use Rattle.elem.specs.ElementValue.{ElementValue}
 use Rattle.elem.specs.Facts.{greatest_whole}
@@ -12,12 +11,16 @@ use Rattle.elem.specs.Order.{unstamped}
 use Rattle.view.specs.Shown.{is_live}
 use Rattle.effects.specs.declared.refusal.Refusal.{Refusal}
 use Rattle.effects.specs.declared.effect.Effect.{Effect}
-use Rattle.effects.specs.Changed.{stamped, is_full, change_of, changes_of, refusal_at}
+use Rattle.effects.specs.Changed.{OnFault, stamped, is_full, change_of, refusal_at}
+use Rattle.effects.specs.Concerning.{is_full_at}
+use Rattle.effects.specs.declared.refusal.Refusal.TheVariants.{VersionFull}
+use Rattle.elem_store.specs.Updates.{element_of}
 use Rattle.effects.specs.Differing.{differs}
 use Rattle.effects.specs.Prepared.{made_by}
 use Rattle.effects.proofs.DifferingLaws.{same-where-not, differs-not}
-use Rattle.effects.proofs.FirstLaws.{first-more, first-found}
+use Rattle.effects.proofs.FirstLaws.{OnFault-weaker}
 use Rattle.effects.proofs.KeepingLaws.{Self, made_by-keeps}
+use Rattle.effects.proofs.NamedLaws.{own-id}
 
 -- what was made of an element, if it differs
 abbrev pub told : ElementValue → ElementValue → Option ElementValue
@@ -75,34 +78,29 @@ module _ (effect : Effect) (e : ElementValue) (live : is_live e ≡ true) (diffe
       elim-id : Self → Refusal
       elim-id s = refusal_at (record e { id = s.id })
 
--- ---- the elements so far, and one more
-pub at-index : {X : Type 0} (xs : List X) (i : ℕ) (x : X) → Some x ≡ slice_get xs i → (i < length xs) × (x ≡ get_or xs i x)
-at-index [] i x h = absurd (none-some (sym h))
-at-index (y ∷ xs) zero x h = (omega arith, same_Some x y h)
-at-index (y ∷ xs) (suc i) x h = let rest = at-index xs i x h in (omega (arith, rest.0), rest.1)
+-- the stored element of an id stands at the greatest version
+pub full-at : {T : Type 0} (r : Result T (Stop Refusal)) (stored : List ElementValue) (makes : ElementValue → ElementValue) (id : List ℕ) (e : ElementValue) → element_of stored id ≡ Some e
+    → IfErr r (λ stop. OnFault stop (λ refusal. (is_full makes e ≡ true) × (refusal ≡ refusal_at e))) → IfErr r (λ stop. OnFault stop (λ refusal. (is_full_at stored makes id ≡ true) × (refusal ≡ VersionFull id)))
+full-at (Ok x) stored makes id e found h = tt
+full-at (Err stop) stored makes id e found h =
+    OnFault-weaker (λ refusal. (is_full makes e ≡ true) × (refusal ≡ refusal_at e)) (λ refusal. (is_full_at stored makes id ≡ true) × (refusal ≡ VersionFull id)) stop
+    (λ refusal p. (ap (λ (o : Option ElementValue). option_map_or (is_full makes) o false) found ∙ p.0, p.1 ∙ ap VersionFull (sym (own-id stored id e found)))) h
 
-pub changes-more : (makes : ElementValue → ElementValue) (time nonce : ℕ) (stored changed : List ElementValue) (i : ℕ) (e : ElementValue) (new : Option ElementValue) → Some e ≡ slice_get stored i → new ≡ change_of makes time nonce e → changed ≡ changes_of makes time nonce (take i stored)
-    → changed ++ cons_option new [] ≡ changes_of makes time nonce (take (i + 1) stored)
-changes-more makes time nonce stored changed i e new found is so_far =
-    let here = at-index stored i e found in
-    ap (λ es. es ++ cons_option new []) so_far
-    ∙ ap (λ o. changes_of makes time nonce (take i stored) ++ cons_option o []) is
-    ∙ sym (filter_map-append (change_of makes time nonce) (take i stored) (e ∷ []))
-    ∙ ap (changes_of makes time nonce) (sym (take_more stored i e here.0 ∙ ap (λ x. take i stored ++ x ∷ []) (sym here.1)))
+-- ---- the ids that are left, of which one is next
+module _ (f : List ℕ → Option ElementValue) (p : List ℕ → Bool) (left rest : List (List ℕ)) (id : List ℕ) (next : left ≡ id ∷ rest) where
+  pub walked-made : (changed all : List ElementValue) (new : Option ElementValue) → new ≡ f id → changed ++ filter_map f left ≡ all → (changed ++ cons_option new []) ++ filter_map f rest ≡ all
+  walked-made changed all new is so_far =
+      append_assoc changed (cons_option new []) (filter_map f rest)
+      ∙ ap (λ es. changed ++ es) (first new (filter_map f rest) ∙ ap (λ o. cons_option o (filter_map f rest)) is)
+      ∙ ap (λ ids. changed ++ filter_map f ids) (sym next)
+      ∙ so_far
+    where
+      first : (o : Option ElementValue) (es : List ElementValue) → cons_option o [] ++ es ≡ cons_option o es
+      first None es = refl
+      first (Some e) es = refl
 
-not-found : (p : ElementValue → Bool) (xs : List ElementValue) → option_map refusal_at (find p xs) ≡ None → find p xs ≡ None
-not-found p xs h = by (find p xs) h
-  where
-    by : (o : Option ElementValue) → option_map refusal_at o ≡ None → o ≡ None
-    by None h = refl
-    by (Some x) h = absurd (none-some (sym h))
+  pub walked-free : (found : Option (List ℕ)) → p id ≡ false → find p left ≡ found → find p rest ≡ found
+  walked-free found none so_far = sym (ap (find p) next ∙ rw none refl) ∙ so_far
 
-pub full-more : (p : ElementValue → Bool) (stored : List ElementValue) (i : ℕ) (e : ElementValue) → Some e ≡ slice_get stored i → find p (take i stored) ≡ None → p e ≡ false → find p (take (i + 1) stored) ≡ None
-full-more p stored i e found none free =
-    let here = at-index stored i e found in
-    not-found p (take (i + 1) stored) (first-more p refusal_at stored i e here.0 here.1 (ap (option_map refusal_at) none) (rw free refl))
-
-pub full-found : (p : ElementValue → Bool) (stored : List ElementValue) (i : ℕ) (e : ElementValue) (refusal : Refusal) → Some e ≡ slice_get stored i → find p (take i stored) ≡ None → (p e ≡ true) × (refusal ≡ refusal_at e) → option_map refusal_at (find p stored) ≡ Some refusal
-full-found p stored i e refusal found none full =
-    let here = at-index stored i e found in
-    first-found p refusal_at stored i e refusal here.0 here.1 (ap (option_map refusal_at) none) (rw full.0 (ap Some (sym full.1)))
+  pub walked-full : (found : Option (List ℕ)) → p id ≡ true → find p left ≡ found → found ≡ Some id
+  walked-full found full so_far = sym so_far ∙ ap (find p) next ∙ rw full refl

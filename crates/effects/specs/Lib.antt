@@ -1,4 +1,5 @@
 pub mod Changed
+pub mod Concerning
 pub mod Copying
 pub mod Deleting
 pub mod Differing
@@ -6,6 +7,7 @@ pub mod Effects
 pub mod Given
 pub mod Keeping
 pub mod Linking
+pub mod Lookups
 pub mod Naming
 pub mod Placing
 pub mod Prepared

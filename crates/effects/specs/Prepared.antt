@@ -1,5 +1,5 @@
 -- Commands, with what they look up on the board. Only contracts of private functions cite this.
-use Rattle.std.specs.Prelude.{◌≡◌, ℕ, List, false, Option, IfSome, bytes_eq, if◌then◌else◌}
+use Rattle.std.specs.Prelude.{◌≡◌, ℕ, List, true, false, Option, IfSome, Contains, filter, bytes_eq, if◌then◌else◌}
 use Rattle.std.specs.BTreeMap.{BTreeMap, get}
 use Rattle.std.specs.BTreeSet.{BTreeSet, contains}
 use Rattle.std.specs.Cmp.Lexicographic.{slice_cmp}
@@ -17,6 +17,8 @@ use Rattle.effects.specs.declared.effect.Effect.{Effect}
 use Rattle.effects.specs.declared.effect.Effect.TheVariants as effects
 use Rattle.effects.specs.declared.linking.Link.{Link}
 use Rattle.effects.specs.declared.linking.Label.{Label}
+use Rattle.view.specs.Shown.{is_live}
+use Rattle.effects.specs.Concerning.{DeletesLive}
 use Rattle.effects.specs.Deleting.{deleted_from}
 use Rattle.board_commands.specs.declared.command.Command.{Command}
 use Rattle.effects.specs.Effects.{effect, with_group, without_group}
@@ -29,6 +31,10 @@ use Rattle.effects.specs.Settings.{with_set_member, is_protected}
 abbrev pub HasKeys : BTreeMap (List ℕ) (Option (List ℕ)) → List ElementValue → Type 0
 HasKeys keys elements =
     (id : List ℕ) → get (slice_cmp nat_cmp) keys id ≡ option_map index_of (element_of elements id)
+
+-- those of the elements that are of these ids
+abbrev pub elements_among : BTreeSet (List ℕ) → List ElementValue → List ElementValue
+elements_among ids elements = filter (λ (e : ElementValue). contains (slice_cmp nat_cmp) ids e.id) elements
 
 -- the element with its key among these
 abbrev pub settled_in : BTreeMap (List ℕ) (Option (List ℕ)) → ElementValue → ElementValue
@@ -77,8 +83,10 @@ IsSoundEffect (effects.Link link) = IfSome link.binding IsBinding
 IsSoundEffect (effects.Label label) = label.entry ≡ text_entry label.text
 IsSoundEffect _ = Unit {0}
 
--- It makes of each element what the command does, and is sound.
+-- It makes of each live stored element what the command does, is sound, and deletes what is live.
 pub record Prepares (stored shown : List ElementValue) (command : Command)
     (prepared : Effect) : Type 0 where
-  pub exact : (e : ElementValue) → made_by prepared e ≡ effect stored shown command e
+  pub exact : (e : ElementValue) → Contains stored e → is_live e ≡ true
+      → made_by prepared e ≡ effect stored shown command e
   pub sound : IsSoundEffect prepared
+  pub live : DeletesLive prepared stored

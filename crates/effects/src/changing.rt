@@ -8,12 +8,14 @@ ghost use Rattle.elem.specs.ElementValue.{ElementValue};
 ghost use Rattle.elem.specs.Facts.{greatest_whole};
 ghost use Rattle.elem.specs.Order.{HaveDistinctIds};
 ghost use Rattle.elem_store.specs.Updates.{element_of, ids_of};
-ghost use Rattle.index_repair.specs.Keyed.{HaveRisingKeys};
 ghost use Rattle.board_commands.specs.Limits.{IsWithinLimits};
 ghost use Rattle.effects.specs.Changed as changes;
 ghost use Rattle.effects.specs.Changed.{OnFault, outcome};
+ghost use Rattle.effects.specs.Lookups.{IsLookup};
 
+use crate::concerning::concerned;
 use crate::copying::{as_new, copies_at, shown_among};
+use crate::lookup::Lookup;
 use crate::placing::{key_at, with_index};
 use crate::preparing::prepared;
 use crate::refusal::Refusal;
@@ -22,17 +24,16 @@ use crate::walking::changes_of;
 use board_base::{List, Stop};
 use board_commands::{Command, Spot};
 use elem::Element;
-use elem_store::Store;
 use std::alloc::{AllocError, Global};
 use std::cmp::Ordering;
 
 /// The elements that a command changes on a board, as they become, in the order of their ids; or why it is refused.
-/// `shown` is what the board shows. Each that changes is stamped with the time and the nonce. The board itself stays:
-/// whoever calls stores the elements.
+/// Each that changes is stamped with the time and the nonce. The board itself stays: whoever calls stores the elements.
+/// It looks only at the elements that the command names, at those that name them or are named by them, and, where keys
+/// or names may be unsettled, at these.
 pub fn changed(
     alloc: Global,
-    store: &Store,
-    shown: &[Element],
+    lookup: &Lookup<'_>,
     command: &Command,
     time: u64,
     nonce: u64,
@@ -40,19 +41,17 @@ pub fn changed(
     requires time { time ≤ greatest_whole }
     requires nonce { nonce ≤ greatest_whole }
     requires limits { IsWithinLimits command.now }
-    requires keys { HaveRisingKeys shown.now }
-    requires stored { are_rising (ids_of store.now.elements) ≡ true }
-    requires shown { HaveDistinctIds shown.now }
-    ensures exact { IfOk result
-        (λ changed. outcome store.now.elements shown.now command.now time nonce ≡ Ok changed) }
-    ensures refused { IfErr result
-        (λ stop. OnFault stop
-        (λ refusal. outcome store.now.elements shown.now command.now time nonce ≡ Err refusal)) }
+    requires lookup { IsLookup lookup.now }
+    ensures exact { IfOk result (λ changed.
+        outcome lookup.now.store.now.elements lookup.now.shown.now command.now time nonce ≡ Ok changed) }
+    ensures refused { IfErr result (λ stop. OnFault stop (λ refusal.
+        outcome lookup.now.store.now.elements lookup.now.shown.now command.now time nonce ≡ Err refusal)) }
 {
-    check(alloc, store, shown, command)?;
-    let effect = prepared(alloc, store, shown, command)?;
-    let changed = changes_of(alloc, store, &effect, time, nonce)?;
-    let new = created(alloc, shown, command, time, nonce)?;
+    check(alloc, lookup, command)?;
+    let effect = prepared(alloc, lookup, command)?;
+    let ids = concerned(alloc, lookup, &effect)?;
+    let changed = changes_of(alloc, lookup.store, &effect, &ids, time, nonce)?;
+    let new = created(alloc, lookup, command, time, nonce)?;
     let all = with_created(changed, new)?;
     Ok(List::from_vec(all))
 }
@@ -60,27 +59,27 @@ pub fn changed(
 /// The new elements of a command.
 fn created(
     alloc: Global,
-    shown: &[Element],
+    lookup: &Lookup<'_>,
     command: &Command,
     time: u64,
     nonce: u64,
 ) -> Result<List<Element>, AllocError>
     requires time { time ≤ greatest_whole }
     requires nonce { nonce ≤ greatest_whole }
-    requires keys { HaveRisingKeys shown.now }
-    ensures { IfOk result (λ new. new ≡ changes.created shown.now command.now time nonce) }
+    requires lookup { IsLookup lookup.now }
+    ensures { IfOk result (λ new. new ≡ changes.created lookup.now.shown.now command.now time nonce) }
 {
     match command {
-        Command::Create { element, spot } => created_at(alloc, shown, element, spot, time, nonce),
+        Command::Create { element, spot } => created_at(alloc, lookup, element, spot, time, nonce),
         Command::Duplicate { ids, prefix, spot } => {
-            let originals = shown_among(alloc, ids, shown)?;
-            copies_at(alloc, shown, &originals, prefix, spot, time, nonce)
+            let originals = shown_among(alloc, ids, lookup.shown)?;
+            copies_at(alloc, lookup, &originals, prefix, spot, time, nonce)
         }
         Command::Paste {
             elements,
             prefix,
             spot,
-        } => copies_at(alloc, shown, elements, prefix, spot, time, nonce),
+        } => copies_at(alloc, lookup, elements, prefix, spot, time, nonce),
         _ => Ok(List::new(alloc)),
     }
 }
@@ -88,7 +87,7 @@ fn created(
 /// The new element alone, with a key at the spot.
 fn created_at(
     alloc: Global,
-    shown: &[Element],
+    lookup: &Lookup<'_>,
     e: &Element,
     spot: &Spot,
     time: u64,
@@ -96,11 +95,11 @@ fn created_at(
 ) -> Result<List<Element>, AllocError>
     requires time { time ≤ greatest_whole }
     requires nonce { nonce ≤ greatest_whole }
-    requires keys { HaveRisingKeys shown.now }
+    requires lookup { IsLookup lookup.now }
     ensures { IfOk result
-        (λ new. new ≡ changes.created_at shown.now e.now spot.now time nonce ∷ []) }
+        (λ new. new ≡ changes.created_at lookup.now.shown.now e.now spot.now time nonce ∷ []) }
 {
-    let key = key_at(alloc, shown, spot, None, &None)?;
+    let key = key_at(alloc, lookup, spot, None, &None)?;
     let new = with_index(as_new(e.try_clone()?, time, nonce), key);
     let mut list = Vec::new(alloc);
     list.push(new)?;

@@ -5,9 +5,10 @@ ghost use Rattle.std.specs.BTreeSet.{contains};
 ghost use Rattle.std.specs.Cmp.Lexicographic.{slice_cmp};
 ghost use Rattle.std.specs.Ordering.{nat_cmp};
 ghost use Rattle.elem.specs.Facts.{greatest_whole};
-ghost use Rattle.index_repair.specs.Keyed.{HaveRisingKeys};
 ghost use Rattle.effects.specs.Copying as copying;
+ghost use Rattle.effects.specs.Lookups.{IsLookup};
 
+use crate::lookup::Lookup;
 use crate::placing::gap_at;
 use crate::preparing::set_of;
 use board_base::List;
@@ -37,26 +38,16 @@ pub(crate) fn shown_among(
 }
 
 /// Whether the id of an element is one of these.
-fn has_id_among(ids: &BTreeSet<Text>, e: &Element) -> bool
+pub(crate) fn has_id_among(ids: &BTreeSet<Text>, e: &Element) -> bool
     ensures { result ≡ contains (slice_cmp nat_cmp) ids.now e.now.id }
 {
     ids.contains(&e.id)
 }
 
-/// The elements whose keys are settled where these are copied.
-pub(crate) fn settled_for<'a>(originals: &List<Element>, shown: &'a [Element]) -> &'a [Element]
-    ensures { result.now ≡ copying.settled_for originals.now shown.now }
-{
-    if originals.as_slice().is_empty() {
-        return &[];
-    }
-    shown
-}
-
 /// The copies of elements under a prefix, one above the other at a spot, as new ones.
 pub(crate) fn copies_at(
     alloc: Global,
-    shown: &[Element],
+    lookup: &Lookup<'_>,
     originals: &List<Element>,
     prefix: &Text,
     spot: &Spot,
@@ -65,11 +56,11 @@ pub(crate) fn copies_at(
 ) -> Result<List<Element>, AllocError>
     requires time { time ≤ greatest_whole }
     requires nonce { nonce ≤ greatest_whole }
-    requires keys { HaveRisingKeys shown.now }
+    requires lookup { IsLookup lookup.now }
     ensures { IfOk result
-        (λ new. new ≡ copying.copies_at shown.now originals.now prefix.now spot.now time nonce) }
+        (λ new. new ≡ copying.copies_at lookup.now.shown.now originals.now prefix.now spot.now time nonce) }
 {
-    let gap = gap_at(shown, spot, None);
+    let gap = gap_at(lookup, spot, None);
     let copies = copies(alloc, originals.as_slice(), prefix)?;
     let copies = keyed_between(alloc, copies, gap.low, gap.high)?;
     all_as_new(alloc, copies, time, nonce)

@@ -2,13 +2,16 @@
 #![tactic(auto)]
 
 mod changing;
+mod concerning;
 mod copying;
 mod deleting;
 mod effect;
+mod finding;
 mod framing;
 mod kinds;
 pub mod laws;
 mod linking;
+mod lookup;
 mod placing;
 mod preparing;
 mod refusal;
@@ -17,4 +20,5 @@ mod setting;
 mod walking;
 
 pub use changing::changed;
+pub use lookup::Lookup;
 pub use refusal::Refusal;

@@ -1,22 +1,27 @@
 //! Keys of the scene's order: settled ones, and those at a spot.
 
-ghost use Rattle.std.specs.Prelude.{◌≡◌, List as Items, [], ◌∷◌, ◌++◌, ◌↔◌, ◌&&◌, not, true, IsTrue, IfOk, IfSome, OnOk, option_copied, bytes_eq};
+ghost use Rattle.std.specs.Prelude.{◌≡◌, ◌+◌, ◌<◌, List as Items, [], ◌∷◌, ◌++◌, ◌↔◌, true, IsTrue, IfOk, IfSome, OnOk, Some, drop, length, option_copied, slice_get};
 ghost use Rattle.std.specs.Cmp.Lexicographic.{slice_cmp};
 ghost use Rattle.std.specs.Option.{unwrap_or};
 ghost use Rattle.std.specs.Ordering.{nat_cmp};
 ghost use Rattle.frac_keys.specs.Rising.{ends_rise, lies_between};
 ghost use Rattle.elem.specs.ElementValue.{ElementValue};
 ghost use Rattle.index_repair.specs.Keyed.{HaveRisingKeys};
+ghost use Rattle.links.specs.Names.{is_id};
 ghost use Rattle.effects.specs.Placing as placing;
 ghost use Rattle.effects.specs.Placing.{others, key_within, key_at, gap_of, with_key_of};
-ghost use Rattle.effects.specs.Prepared.{HasKeys, settled_in};
+ghost use Rattle.effects.specs.Lookups.{IsLookup};
+ghost use Rattle.effects.specs.Prepared.{HasKeys, elements_among, settled_in};
 
+use crate::copying::has_id_among;
+use crate::finding::shown_place;
+use crate::lookup::Lookup;
 use board_commands::Spot;
 use elem::Element;
 use frac_keys::{Key, between};
 use json_text::Text;
 use std::alloc::{AllocError, Global};
-use std::collections::BTreeMap;
+use std::collections::{BTreeMap, BTreeSet};
 
 /// The keys of elements by their ids.
 pub(crate) type Keys = BTreeMap<Text, Option<Key>>;
@@ -28,15 +33,34 @@ pub(crate) struct Gap<'a> {
     pub(crate) high: Option<&'a Key>,
 }
 
-/// The keys of the elements by their ids; of one id the first counts.
-pub(crate) fn keys_of(alloc: Global, elements: &[Element]) -> Result<Keys, AllocError>
-    ensures { IfOk result (λ keys. HasKeys keys elements.now) }
+/// The keys of those of the elements that are of these ids; of one id the first counts.
+pub(crate) fn keys_among(
+    alloc: Global,
+    ids: &BTreeSet<Text>,
+    elements: &[Element],
+) -> Result<Keys, AllocError>
+    ensures { IfOk result (λ keys. HasKeys keys (elements_among ids.now elements.now)) }
 {
     let mut keys = BTreeMap::new(alloc);
+    if ids.is_empty() {
+        return Ok(keys);
+    }
     for e in elements {
-        note_key(&mut keys, e)?;
+        note_among(&mut keys, ids, e)?;
     }
     Ok(keys)
+}
+
+/// Adds the key of one more element, if it is of these ids.
+fn note_among(keys: &mut Keys, ids: &BTreeSet<Text>, e: &Element) -> Result<(), AllocError>
+    ensures { OnOk result ((elements : Items ElementValue)
+        → HasKeys keys.old (elements_among ids.now elements)
+        → HasKeys keys.new (elements_among ids.now (elements ++ e.now ∷ []))) }
+{
+    if has_id_among(ids, e) {
+        note_key(keys, e)?;
+    }
+    Ok(())
 }
 
 /// Adds the key of one more element.
@@ -115,23 +139,23 @@ pub(crate) fn placed(
     settled(keys, e)
 }
 
-/// A key at a spot among the elements but the one of this id, if one is given: the old one if it stands there.
+/// A key at a spot among the shown elements but the one of this id, if one is given: the old one if it stands there.
 pub(crate) fn key_at(
     alloc: Global,
-    elements: &[Element],
+    lookup: &Lookup<'_>,
     spot: &Spot,
     except: Option<&Text>,
     old: &Option<Key>,
 ) -> Result<Option<Key>, AllocError>
-    requires { HaveRisingKeys elements.now }
+    requires { IsLookup lookup.now }
     ensures exact { IfOk result
-        (λ key. key ≡ key_at elements.now spot.now (option_copied except.entry) old.now) }
+        (λ key. key ≡ key_at lookup.now.shown.now spot.now (option_copied except.entry) old.now) }
     ensures inside { IfOk result
         (λ key. IfSome key
-        (λ k. lies_between (gap_of elements.now spot.now (option_copied except.entry)).low
-        (gap_of elements.now spot.now (option_copied except.entry)).high k ≡ true)) }
+        (λ k. lies_between (gap_of lookup.now.shown.now spot.now (option_copied except.entry)).low
+        (gap_of lookup.now.shown.now spot.now (option_copied except.entry)).high k ≡ true)) }
 {
-    let gap = gap_at(elements, spot, except);
+    let gap = gap_at(lookup, spot, except);
     key_within(alloc, gap.low, gap.high, old)
 }
 
@@ -177,23 +201,25 @@ fn rise(low: Option<&Key>, high: Option<&Key>) -> bool
     }
 }
 
-/// The keys beside a spot among the elements but the one of this id, if one is given.
-pub(crate) fn gap_at<'a>(elements: &'a [Element], spot: &Spot, except: Option<&Text>) -> Gap<'a>
-    requires { HaveRisingKeys elements.now }
-    ensures low { option_copied result.low ≡ (gap_of elements.now spot.now (option_copied except.entry)).low }
-    ensures high { option_copied result.high ≡ (gap_of elements.now spot.now (option_copied except.entry)).high }
+/// The keys beside a spot among the shown elements but the one of this id, if one is given.
+pub(crate) fn gap_at<'a>(lookup: &Lookup<'a>, spot: &Spot, except: Option<&Text>) -> Gap<'a>
+    requires { IsLookup lookup.now }
+    ensures low { option_copied result.low
+        ≡ (gap_of lookup.now.shown.now spot.now (option_copied except.entry)).low }
+    ensures high { option_copied result.high
+        ≡ (gap_of lookup.now.shown.now spot.now (option_copied except.entry)).high }
     ensures rises { ends_rise (option_copied result.low) (option_copied result.high) ≡ true }
 {
     match spot {
         Spot::Bottom => Gap {
             low: None,
-            high: first_key(elements, except),
+            high: first_key(lookup.shown, except),
         },
         Spot::Top => Gap {
-            low: last_key(elements, except),
+            low: last_key(lookup.shown, except),
             high: None,
         },
-        Spot::After(below) => gap_above(elements, below, except),
+        Spot::After(below) => gap_above(lookup, below, except),
     }
 }
 
@@ -215,47 +241,59 @@ fn first_key<'a>(elements: &'a [Element], except: Option<&Text>) -> Option<&'a K
 fn last_key<'a>(elements: &'a [Element], except: Option<&Text>) -> Option<&'a Key>
     ensures { option_copied result ≡ placing.last_key (others (option_copied except.entry) elements.now) }
 {
-    let mut last = None;
     let mut rest = elements;
-    while let Some((e, behind)) = rest.split_first() {
+    while let Some((e, before)) = rest.split_last() {
         if !is_of(e, except) {
-            last = e.index.as_ref();
+            return e.index.as_ref();
         }
-        rest = behind;
+        rest = before;
     }
-    last
+    None
 }
 
-/// The keys of an element and of the one above it, among the elements but the one of this id.
-fn gap_above<'a>(elements: &'a [Element], below: &Text, except: Option<&Text>) -> Gap<'a>
-    requires { HaveRisingKeys elements.now }
+/// The keys of a shown element and of the one above it, among the shown elements but the one of this id.
+fn gap_above<'a>(lookup: &Lookup<'a>, below: &Text, except: Option<&Text>) -> Gap<'a>
+    requires { IsLookup lookup.now }
     ensures low { option_copied result.low
-        ≡ (placing.gap_above below.now (others (option_copied except.entry) elements.now)).low }
+        ≡ (placing.gap_above below.now (others (option_copied except.entry) lookup.now.shown.now)).low }
     ensures high { option_copied result.high
-        ≡ (placing.gap_above below.now (others (option_copied except.entry) elements.now)).high }
+        ≡ (placing.gap_above below.now (others (option_copied except.entry) lookup.now.shown.now)).high }
     ensures rises { ends_rise (option_copied result.low) (option_copied result.high) ≡ true }
 {
-    let mut rest = elements;
-    while let Some((e, behind)) = rest.split_first() {
-        if is_other_of(e, below, except) {
-            return Gap {
-                low: e.index.as_ref(),
-                high: first_key(behind, except),
-            };
-        }
-        rest = behind;
-    }
-    Gap {
-        low: None,
-        high: None,
+    match shown_place(lookup, below) {
+        Some(i) if !is_excepted(below, except) => gap_over(lookup.shown, i, except),
+        _ => Gap {
+            low: None,
+            high: None,
+        },
     }
 }
 
-/// Whether an element is of one id and not of another, if one is given.
-fn is_other_of(e: &Element, id: &Text, except: Option<&Text>) -> bool
-    ensures { result ≡ (not (placing.is_of (option_copied except.entry) e.now) && bytes_eq id.now e.now.id) }
+/// Whether an id is this one, if one is given.
+fn is_excepted(id: &Text, except: Option<&Text>) -> bool
+    ensures { result ≡ is_id id.now (option_copied except.entry) }
 {
-    !is_of(e, except) && *id == e.id
+    match except {
+        Some(other) => *id == *other,
+        None => false,
+    }
+}
+
+/// The key of the element at a place, and that of the one above it, among the elements but the one of this id.
+fn gap_over<'a>(elements: &'a [Element], i: usize, except: Option<&Text>) -> Gap<'a>
+    requires keys { HaveRisingKeys elements.now }
+    requires within { i < length elements.now }
+    ensures low { (e : ElementValue) → slice_get elements.now i ≡ Some e → option_copied result.low ≡ e.index }
+    ensures high { option_copied result.high
+        ≡ placing.first_key (others (option_copied except.entry) (drop (i + 1) elements.now)) }
+    ensures rises { ends_rise (option_copied result.low) (option_copied result.high) ≡ true }
+{
+    let e = &elements[i];
+    let (_, above) = elements.split_at(i + 1);
+    Gap {
+        low: e.index.as_ref(),
+        high: first_key(above, except),
+    }
 }
 
 /// Whether an element is of this id, if one is given.

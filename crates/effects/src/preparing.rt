@@ -1,29 +1,29 @@
 //! What a command looks up on the board before its effect is made.
 
-ghost use Rattle.std.specs.Prelude.{◌≡◌, List as Items, Some, None, false, IfOk, IfSome};
-ghost use Rattle.std.specs.BTreeMap.{get};
-ghost use Rattle.std.specs.Cmp.Lexicographic.{slice_cmp};
-ghost use Rattle.std.specs.Option.{option_flatten};
-ghost use Rattle.std.specs.Ordering.{nat_cmp};
+ghost use Rattle.std.specs.Prelude.{◌≡◌, List as Items, Some, None, true, false, Contains, IfOk, IfSome};
 ghost use Rattle.json_text.specs.Value.{IsCompact};
 ghost use Rattle.elem.specs.ElementValue.{ElementValue};
 ghost use Rattle.elem.specs.Facts.{IsBinding};
 ghost use Rattle.links.specs.Names.{is_id, target_of};
-ghost use Rattle.index_repair.specs.Keyed.{HaveRisingKeys};
+ghost use Rattle.view.specs.Shown.{is_live};
 ghost use Rattle.board_commands.specs.Limits.{IsWithinLimits, IsRest};
+ghost use Rattle.effects.specs.Concerning.{DeletesLive};
 ghost use Rattle.effects.specs.Copying as copying;
 ghost use Rattle.effects.specs.Linking as linking;
+ghost use Rattle.effects.specs.Lookups.{IsLookup};
 ghost use Rattle.effects.specs.Naming.{apart_from};
-ghost use Rattle.effects.specs.Placing.{with_view_key};
-ghost use Rattle.effects.specs.Prepared.{made_by, HasIds, IsSoundEffect, Prepares};
-ghost use Rattle.effects.specs.Refusals.{guarded};
+ghost use Rattle.effects.specs.Placing.{key_in, with_view_key};
+ghost use Rattle.effects.specs.Prepared.{elements_among, made_by, HasIds, HasKeys, IsSoundEffect, Prepares};
+ghost use Rattle.effects.specs.Refusals.{first_missing, guarded, missing};
 ghost use Rattle.effects.specs.Settings.{is_protected};
 ghost use Rattle.board_commands.specs.declared.command.Command.TheVariants as commands;
 
-use crate::copying::{settled_for, shown_among};
+use crate::copying::shown_among;
 use crate::effect::Effect;
+use crate::finding::shown_element;
 use crate::linking::{Label, Link};
-use crate::placing::{Keys, key_at, keys_of};
+use crate::lookup::Lookup;
+use crate::placing::{Keys, key_at, keys_among};
 use board_base::List;
 use board_commands::{Command, Side, Spot};
 use elem::{Binding, BoundRef, Element, Role};
@@ -31,25 +31,26 @@ use elem_store::Store;
 use frac_keys::Key;
 use json_text::{Member, Raw, Text};
 use std::alloc::{AllocError, Global};
-use std::collections::BTreeSet;
+use std::collections::{BTreeMap, BTreeSet};
 
 /// What a command makes of the live elements.
 pub(crate) fn prepared(
     alloc: Global,
-    store: &Store,
-    shown: &[Element],
+    lookup: &Lookup<'_>,
     command: &Command,
 ) -> Result<Effect, AllocError>
+    requires live { missing lookup.now.store.now.elements command.now ≡ None }
     requires open { guarded command.now ≡ None }
     requires limits { IsWithinLimits command.now }
-    requires keys { HaveRisingKeys shown.now }
-    ensures { IfOk result (Prepares store.now.elements shown.now command.now) }
+    requires lookup { IsLookup lookup.now }
+    ensures { IfOk result (Prepares lookup.now.store.now.elements lookup.now.shown.now command.now) }
 {
+    let store = lookup.store;
     match command {
-        Command::Create { element, spot } => settle(alloc, shown, element, spot),
+        Command::Create { element, spot } => settle(alloc, lookup, element, spot),
         Command::Set { id, member, value } => set(id, member, value),
-        Command::Delete { ids } => delete(alloc, ids),
-        Command::Place { id, spot } => place(alloc, shown, id, spot),
+        Command::Delete { ids } => delete(alloc, store, ids),
+        Command::Place { id, spot } => place(alloc, lookup, id, spot),
         Command::Bind {
             arrow,
             side,
@@ -64,39 +65,58 @@ pub(crate) fn prepared(
         Command::Group { ids, group } => group_in(alloc, ids, group),
         Command::Ungroup { ids, group } => ungroup(alloc, ids, group),
         Command::Duplicate { ids, .. } => {
-            let originals = shown_among(alloc, ids, shown)?;
-            settle_for(alloc, shown, &originals)
+            let originals = shown_among(alloc, ids, lookup.shown)?;
+            settle_for(alloc, lookup, &originals)
         }
-        Command::Paste { elements, .. } => settle_for(alloc, shown, elements),
+        Command::Paste { elements, .. } => settle_for(alloc, lookup, elements),
     }
 }
 
 /// The effect of a new element on the others.
 fn settle(
     alloc: Global,
-    shown: &[Element],
+    lookup: &Lookup<'_>,
     element: &Element,
     spot: &Spot,
 ) -> Result<Effect, AllocError>
-    ensures { IfOk result (λ made. (stored : Items ElementValue)
-        → Prepares stored shown.now (commands.Create element.now spot.now) made) }
+    requires { IsLookup lookup.now }
+    ensures { IfOk result
+        (Prepares lookup.now.store.now.elements lookup.now.shown.now (commands.Create element.now spot.now)) }
 {
-    let keys = keys_of(alloc, shown)?;
+    let keys = keys_among(alloc, lookup.unsettled, lookup.shown)?;
     Ok(Effect::Settle { keys })
 }
 
 /// The effect of copies of these elements on the others.
 fn settle_for(
     alloc: Global,
-    shown: &[Element],
+    lookup: &Lookup<'_>,
     originals: &List<Element>,
 ) -> Result<Effect, AllocError>
-    ensures exact { IfOk result (λ made. (e : ElementValue)
-        → made_by made e ≡ with_view_key (copying.settled_for originals.now shown.now) e) }
+    requires { IsLookup lookup.now }
+    ensures exact { IfOk result (λ made. (e : ElementValue) → Contains lookup.now.store.now.elements e
+        → is_live e ≡ true
+        → made_by made e ≡ with_view_key (copying.settled_for originals.now lookup.now.shown.now) e) }
     ensures sound { IfOk result IsSoundEffect }
+    ensures live { IfOk result (λ made. DeletesLive made lookup.now.store.now.elements) }
 {
-    let keys = keys_of(alloc, settled_for(originals, shown))?;
+    let keys = keys_for(alloc, lookup, originals)?;
     Ok(Effect::Settle { keys })
+}
+
+/// The keys of what may be unsettled, where these are copied; none where nothing is copied.
+fn keys_for(
+    alloc: Global,
+    lookup: &Lookup<'_>,
+    originals: &List<Element>,
+) -> Result<Keys, AllocError>
+    ensures { IfOk result (λ keys. HasKeys keys
+        (copying.settled_for originals.now (elements_among lookup.now.unsettled.now lookup.now.shown.now))) }
+{
+    if originals.as_slice().is_empty() {
+        return Ok(BTreeMap::new(alloc));
+    }
+    keys_among(alloc, lookup.unsettled, lookup.shown)
 }
 
 /// The effect of giving a member a value.
@@ -113,9 +133,10 @@ fn set(id: &Text, member: &Text, value: &Raw) -> Result<Effect, AllocError>
 }
 
 /// The effect of deleting elements.
-fn delete(alloc: Global, ids: &List<Text>) -> Result<Effect, AllocError>
-    ensures { IfOk result (λ made. (stored view : Items ElementValue)
-        → Prepares stored view (commands.Delete ids.now) made) }
+fn delete(alloc: Global, store: &Store, ids: &List<Text>) -> Result<Effect, AllocError>
+    requires { first_missing store.now.elements ids.now ≡ None }
+    ensures { IfOk result (λ made. (view : Items ElementValue)
+        → Prepares store.now.elements view (commands.Delete ids.now) made) }
 {
     let ids = set_of(alloc, ids)?;
     Ok(Effect::Delete { ids })
@@ -172,26 +193,34 @@ pub(crate) fn set_of(alloc: Global, ids: &List<Text>) -> Result<BTreeSet<Text>, 
 }
 
 /// The effect of placing an element.
-fn place(alloc: Global, shown: &[Element], id: &Text, spot: &Spot) -> Result<Effect, AllocError>
-    requires { HaveRisingKeys shown.now }
-    ensures { IfOk result (λ made. (stored : Items ElementValue)
-        → Prepares stored shown.now (commands.Place id.now spot.now) made) }
+fn place(alloc: Global, lookup: &Lookup<'_>, id: &Text, spot: &Spot) -> Result<Effect, AllocError>
+    requires { IsLookup lookup.now }
+    ensures { IfOk result
+        (Prepares lookup.now.store.now.elements lookup.now.shown.now (commands.Place id.now spot.now)) }
 {
-    let keys = keys_of(alloc, shown)?;
-    let old = key_in(&keys, id)?;
-    let key = key_at(alloc, shown, spot, Some(id), &old)?;
+    let keys = keys_among(alloc, lookup.unsettled, lookup.shown)?;
+    let old = shown_key(lookup, id)?;
+    let key = key_at(alloc, lookup, spot, Some(id), &old)?;
     let id = id.try_clone()?;
     Ok(Effect::Place { keys, id, key })
 }
 
-/// The key of an id, if there is one.
-fn key_in(keys: &Keys, id: &Text) -> Result<Option<Key>, AllocError>
-    ensures { IfOk result (λ key. key ≡ option_flatten (get (slice_cmp nat_cmp) keys.now id.now)) }
+/// The key of the shown element of an id, if there is one.
+fn shown_key(lookup: &Lookup<'_>, id: &Text) -> Result<Option<Key>, AllocError>
+    requires { IsLookup lookup.now }
+    ensures { IfOk result (λ key. key ≡ key_in lookup.now.shown.now id.now) }
 {
-    match keys.get(id) {
-        Some(Some(key)) => Ok(Some(key.try_clone()?)),
-        _ => Ok(None),
+    match shown_element(lookup, id) {
+        Some(e) => key_of(e),
+        None => Ok(None),
     }
+}
+
+/// The key of an element, copied, if there is one.
+fn key_of(e: &Element) -> Result<Option<Key>, AllocError>
+    ensures { IfOk result (λ key. key ≡ e.now.index) }
+{
+    e.index.as_ref().map(Key::try_clone).transpose()
 }
 
 /// The effect of binding an end of an arrow.
@@ -234,6 +263,7 @@ fn link(
         → made_by prepared e ≡ linking.bound_to arrow.now side binding
         (linking.old_target store.now.elements arrow.now side) e) }
     ensures sound { IfOk result IsSoundEffect }
+    ensures live { IfOk result (λ prepared. DeletesLive prepared store.now.elements) }
 {
     let old = old_target(store, arrow, side)?;
     let old = apart_from_target(&binding, old);

@@ -1,17 +1,20 @@
 //! Why a command is refused before anything of it is made.
 
-ghost use Rattle.std.specs.Prelude.{◌≡◌, Some, None, true, false, is_some, bytes_eq, ◌&&◌, [], ◌∷◌, ◌++◌, IfErr, IfOk, OnOk};
+ghost use Rattle.std.specs.Prelude.{◌≡◌, Some, None, true, false, is_some, [], ◌∷◌, ◌++◌, IfErr, IfOk, OnOk};
 ghost use Rattle.elem_store.specs.Updates as updates;
 ghost use Rattle.elem_store.specs.Updates.{element_of};
 ghost use Rattle.frames_groups.specs.Frames.{is_frame_kind};
 ghost use Rattle.links.specs.Arrows.{names_target};
 ghost use Rattle.links.specs.Names as names;
 ghost use Rattle.effects.specs.Changed.{OnFault};
+ghost use Rattle.effects.specs.Lookups.{IsLookup};
 ghost use Rattle.effects.specs.Refusals.{refusal_of, existing, first_stored, missing, misfit, guarded, first_missing, first_frame, spot_ids, unless_right, is_kind_of, is_live_id};
 ghost use Rattle.board_commands.specs.declared.command.Command.TheVariants as commands;
 ghost use Rattle.effects.specs.declared.refusal.Refusal.TheVariants as told;
 
+use crate::finding::shown_element;
 use crate::kinds::{is_arrow, is_container, is_frame, is_live, is_target, is_text};
+use crate::lookup::Lookup;
 use crate::refusal::Refusal;
 use crate::setting::is_protected;
 use board_base::{List, Stop};
@@ -25,18 +28,20 @@ use std::alloc::{AllocError, Global};
 /// Fails with the first cause for which the command is refused.
 pub(crate) fn check(
     alloc: Global,
-    store: &Store,
-    shown: &[Element],
+    lookup: &Lookup<'_>,
     command: &Command,
 ) -> Result<(), Stop<Refusal>>
-    ensures ok { OnOk result (refusal_of store.now.elements shown.now command.now ≡ None) }
+    requires { IsLookup lookup.now }
+    ensures ok { OnOk result
+        (refusal_of lookup.now.store.now.elements lookup.now.shown.now command.now ≡ None) }
     ensures refused { IfErr result
-        (λ stop. OnFault stop
-        (λ refusal. refusal_of store.now.elements shown.now command.now ≡ Some refusal)) }
+        (λ stop. OnFault stop (λ refusal.
+        refusal_of lookup.now.store.now.elements lookup.now.shown.now command.now ≡ Some refusal)) }
 {
+    let store = lookup.store;
     check_new(alloc, store, command)?;
     check_live(store, command)?;
-    check_kinds(store, shown, command)?;
+    check_kinds(lookup, command)?;
     check_member(command)
 }
 
@@ -234,16 +239,19 @@ fn check_place(store: &Store, id: &Text, spot: &Spot) -> Result<(), Stop<Refusal
 }
 
 /// Fails where an element isn't of a kind that the command is for.
-fn check_kinds(store: &Store, shown: &[Element], command: &Command) -> Result<(), Stop<Refusal>>
-    ensures ok { OnOk result (misfit store.now.elements shown.now command.now ≡ None) }
+fn check_kinds(lookup: &Lookup<'_>, command: &Command) -> Result<(), Stop<Refusal>>
+    requires { IsLookup lookup.now }
+    ensures ok { OnOk result
+        (misfit lookup.now.store.now.elements lookup.now.shown.now command.now ≡ None) }
     ensures refused { IfErr result
-        (λ stop. OnFault stop
-        (λ refusal. misfit store.now.elements shown.now command.now ≡ Some refusal)) }
+        (λ stop. OnFault stop (λ refusal.
+        misfit lookup.now.store.now.elements lookup.now.shown.now command.now ≡ Some refusal)) }
 {
+    let store = lookup.store;
     match command {
         Command::Bind { arrow, target, .. } => {
             check_right(is_arrow_id(store, arrow), arrow)?;
-            check_right(is_target_id(shown, target), target)
+            check_right(is_target_id(lookup, target), target)
         }
         Command::Unbind { arrow, .. } => check_right(is_arrow_id(store, arrow), arrow),
         Command::Label { container, text } => {
@@ -324,17 +332,14 @@ fn is_frame_id(store: &Store, id: &Text) -> bool
 }
 
 /// Whether the shown element of the id may be bound to.
-fn is_target_id(shown: &[Element], id: &Text) -> bool
-    ensures { result ≡ names_target shown.now (Some id.now) }
+fn is_target_id(lookup: &Lookup<'_>, id: &Text) -> bool
+    requires { IsLookup lookup.now }
+    ensures { result ≡ names_target lookup.now.shown.now (Some id.now) }
 {
-    shown.iter().any(|e| is_target_of(e, id))
-}
-
-/// Whether an element is of the id and may be bound to.
-fn is_target_of(e: &Element, id: &Text) -> bool
-    ensures { result ≡ (bytes_eq id.now e.now.id && names.is_target e.now) }
-{
-    *id == e.id && is_target(e)
+    match shown_element(lookup, id) {
+        Some(e) => is_target(e),
+        None => false,
+    }
 }
 
 /// Fails where the member is one that no value can be given.

@@ -1,13 +1,18 @@
-//! The stored elements, of which each live one may change.
+//! The stored elements that an effect concerns, of which each live one may change.
 
-ghost use Rattle.std.specs.Prelude.{◌≡◌, ◌≢◌, ◌<◌, ◌≤◌, ◌++◌, [], Some, None, true, false, find, length, slice_get, if◌then◌else◌, IfErr, IfOk, OnOk};
+ghost use Rattle.std.specs.Prelude.{◌≡◌, ◌≢◌, ◌≤◌, ◌++◌, [], Some, None, true, false, find, if◌then◌else◌, IfErr, IfOk, OnOk};
 ghost use Rattle.std.specs.List.{cons_option};
 ghost use Rattle.std.specs.Option.{option_map};
 ghost use Rattle.elem.specs.Facts.{greatest_whole};
 ghost use Rattle.effects.specs.Changed as changes;
 ghost use Rattle.effects.specs.Changed.{OnFault, is_full, refusal_at};
+ghost use Rattle.effects.specs.Concerning as concerning;
+ghost use Rattle.effects.specs.Concerning.{is_full_at, LeavesOthers};
 ghost use Rattle.effects.specs.Differing.{differs};
 ghost use Rattle.effects.specs.Prepared.{made_by, IsSoundEffect};
+ghost use Rattle.effects.specs.declared.refusal.Refusal.TheVariants as refusals;
+ghost use Rattle.elem_store.specs.Updates.{ids_of};
+ghost use Rattle.frac_keys.specs.Rising.{are_rising};
 
 use crate::effect::Effect;
 use crate::kinds::is_live;
@@ -16,19 +21,25 @@ use board_base::Stop;
 use delta::{AtLimit, stamp};
 use elem::{Element, same_but_stamp};
 use elem_store::Store;
+use json_text::Text;
 use std::alloc::{AllocError, Global};
+use std::collections::BTreeSet;
 
-/// The changed elements of an effect, in the order of their ids.
+/// The changed elements of an effect that leaves all but the elements of these ids as they are, in the order of their
+/// ids.
 pub(crate) fn changes_of(
     alloc: Global,
     store: &Store,
     effect: &Effect,
+    ids: &BTreeSet<Text>,
     time: u64,
     nonce: u64,
 ) -> Result<Vec<Element>, Stop<Refusal>>
     requires time { time ≤ greatest_whole }
     requires nonce { nonce ≤ greatest_whole }
     requires sound { IsSoundEffect effect.now }
+    requires ordered { are_rising (ids_of store.now.elements) ≡ true }
+    requires others { LeavesOthers (made_by effect.now) store.now.elements ids.now }
     ensures changed { IfOk result
         (λ changed. changed.items ≡ changes.changes_of
         (made_by effect.now) time nonce store.now.elements) }
@@ -40,21 +51,36 @@ pub(crate) fn changes_of(
         (find (is_full (made_by effect.now)) store.now.elements) ≡ Some refusal)) }
 {
     let mut changed = Vec::new(alloc);
-    for i in 0..store.len() {
-        let new = change_of(alloc, effect, element_at(store, i), time, nonce)?;
+    for id in ids {
+        let new = change_at(alloc, store, effect, id, time, nonce)?;
         note(&mut changed, new)?;
     }
     Ok(changed)
 }
 
-/// The stored element at an index.
-fn element_at(store: &Store, i: usize) -> &Element
-    requires { i < length store.now.elements }
-    ensures { Some result.now ≡ slice_get store.now.elements i }
+/// What an effect makes of the stored element of an id, stamped, if that is live and changes.
+fn change_at(
+    alloc: Global,
+    store: &Store,
+    effect: &Effect,
+    id: &Text,
+    time: u64,
+    nonce: u64,
+) -> Result<Option<Element>, Stop<Refusal>>
+    requires time { time ≤ greatest_whole }
+    requires nonce { nonce ≤ greatest_whole }
+    requires sound { IsSoundEffect effect.now }
+    ensures changed { IfOk result
+        (λ new. new ≡ concerning.change_at store.now.elements (made_by effect.now) time nonce id.now) }
+    ensures free { IfOk result (λ _. is_full_at store.now.elements (made_by effect.now) id.now ≡ false) }
+    ensures full { IfErr result
+        (λ stop. OnFault stop (λ refusal.
+        (is_full_at store.now.elements (made_by effect.now) id.now ≡ true)
+        × (refusal ≡ refusals.VersionFull id.now))) }
 {
-    match store.at(i) {
-        Some(e) => e,
-        None => unreachable!(),
+    match store.get(id) {
+        Some(e) => change_of(alloc, effect, e, time, nonce),
+        None => Ok(None),
     }
 }
 

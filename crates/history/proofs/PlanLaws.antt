@@ -1,5 +1,5 @@
 -- Stacks of which the last entries go to the other one, and steps that are planned for them.
-use Rattle.std.proofs.Common.{◌≡◌, ◌↔◌, ℕ, zero, suc, ◌+◌, ◌-◌, ◌<◌, length, get_or, take, drop, append_assoc, map, reverse, Bool, true, false, Result, Ok, List, [], ◌∷◌, ◌++◌, Option, Some, None, IfSome, Contains, slice_get, refl, sym, ap, ◌∙◌, subst, subst₂, inl, inr, length-append, arith}
+use Rattle.std.proofs.Common.{◌≡◌, ◌↔◌, ℕ, zero, suc, ◌+◌, ◌-◌, ◌<◌, length, get_or, take, drop, append_assoc, map, reverse, Result, Ok, List, [], ◌∷◌, ◌++◌, Option, Some, None, IfSome, Contains, slice_get, refl, sym, ap, ◌∙◌, subst, subst₂, inl, inr, length-append, arith}
 use Rattle.std.proofs.Math.Seq.{take-append_seam}
 use Rattle.std.proofs.lemmas.List.{map-append}
 use Rattle.std.proofs.lemmas.List.Elements.{Contains-append_right, Contains-push_cases}
@@ -8,12 +8,14 @@ use Rattle.elem_store.proofs.CallerLemmas.{Contains-cases}
 use Rattle.elem.specs.ElementValue.{ElementValue}
 use Rattle.delta.specs.Delta.{Delta}
 use Rattle.delta.specs.Parts.{inverses}
+use Rattle.history.specs.declared.planned.Direction.{Direction}
+use Rattle.history.specs.declared.planned.Direction.TheVariants.{Undo, Redo}
 use Rattle.history.specs.declared.planned.HistoryStep.{HistoryStep}
 use Rattle.history.specs.declared.planned.Plan.{Plan}
 use Rattle.history.specs.declared.step.Step.{Step}
 use Rattle.history.specs.declared.step.Step.TheVariants as steps
 use Rattle.history.specs.inner.Places.{IsSeenAt}
-use Rattle.history.specs.Stacks.{Stacks, AreUnseen, IsTopmostSeen, HasStepped, HasUndone, HasRedone, StopsAt, IsPlanned, FitsIn, noted, put_step, with_entry, redo_left, below_last, grown_by, side}
+use Rattle.history.specs.Stacks.{Stacks, AreUnseen, IsTopmostSeen, HasStepped, HasTakenBack, StopsAt, IsPlanned, FitsIn, noted, put_step, with_entry, redo_left, below_last, grown_by, side, stepped}
 use Rattle.history.specs.Steps.{IsSeen, IsStep, IsLeastFull}
 
 -- ---- lists
@@ -88,7 +90,7 @@ noted-none entry stacks none = ap (λ e. noted e stacks) none
 -- ---- plans
 module _ (store : List ElementValue) (time nonce : ℕ) where
   -- a planned step is one, from the stacks as they are to those that put leaves
-  pub stepped-from : (from to : List (List Delta)) (given : List ElementValue) (made : List Delta) (passed : ℕ) → IsPlanned store time nonce from given made passed → HasStepped store time nonce given from to (below_last (passed + 1) from) (grown_by passed made from to)
+  stepped-from : (from to : List (List Delta)) (given : List ElementValue) (made : List Delta) (passed : ℕ) → IsPlanned store time nonce from given made passed → HasStepped store time nonce given from to (below_last (passed + 1) from) (grown_by passed made from to)
   stepped-from from to given made passed plan = record {
     parts = plan.parts;
     above = plan.above;
@@ -101,6 +103,10 @@ module _ (store : List ElementValue) (time nonce : ℕ) where
     pushed = ap (λ xs. to ++ (map inverses (reverse xs) ++ made ∷ [])) (seam-above from plan.below plan.parts plan.above passed plan.topmost.split plan.count);
     step = plan.step;
   }
+
+  taken-back : (direction : Direction) (stacks : Stacks) (given : List ElementValue) (made : List Delta) (passed : ℕ) → IsPlanned store time nonce (side direction stacks) given made passed → HasTakenBack direction store time nonce given stacks (stepped direction passed (Some made) stacks)
+  taken-back Undo stacks given made passed plan = stepped-from stacks.undo stacks.redo given made passed plan
+  taken-back Redo stacks given made passed plan = stepped-from stacks.redo stacks.undo given made passed plan
 
   pub within-planned : (stack : List (List Delta)) (given : List ElementValue) (made : List Delta) (passed : ℕ) → IsPlanned store time nonce stack given made passed → passed < length stack
   within-planned stack given made passed plan =
@@ -215,16 +221,16 @@ module _ (store : List ElementValue) (time nonce : ℕ) where
   done-same : (a b : List ElementValue) → steps.Done a ≡ steps.Done b → a ≡ b
   done-same a b e = cc
 
-  module _ (stacks : Stacks) (pending : List Delta) (undo : Bool) (plan : Option Plan) (r : HistoryStep × Step)
-      (none : plan ≡ None → r ≡ (record { pending = pending; made = None; undo = undo; passed = 0 }, steps.Nothing))
-      (some : (p : Plan) → plan ≡ Some p → r ≡ (record { pending = pending; made = Some p.made; undo = undo; passed = p.passed }, steps.Done p.given))
-      (unseen : plan ≡ None → AreUnseen store (side undo (noted pending stacks)))
-      (planned : IfSome plan (λ p. IsPlanned store time nonce (side undo (noted pending stacks)) p.given p.made p.passed)) where
-    pub nothing-planned : (r.1 ≡ steps.Nothing) ↔ AreUnseen store (side undo (noted pending stacks))
-    nothing-planned = elim plan as (λ o. plan ≡ o → (r.1 ≡ steps.Nothing) ↔ AreUnseen store (side undo (noted pending stacks))) [
+  module _ (stacks : Stacks) (pending : List Delta) (direction : Direction) (plan : Option Plan) (r : HistoryStep × Step)
+      (none : plan ≡ None → r ≡ (record { pending = pending; made = None; direction = direction; passed = 0 }, steps.Nothing))
+      (some : (p : Plan) → plan ≡ Some p → r ≡ (record { pending = pending; made = Some p.made; direction = direction; passed = p.passed }, steps.Done p.given))
+      (unseen : plan ≡ None → AreUnseen store (side direction (noted pending stacks)))
+      (planned : IfSome plan (λ p. IsPlanned store time nonce (side direction (noted pending stacks)) p.given p.made p.passed)) where
+    pub nothing-planned : (r.1 ≡ steps.Nothing) ↔ AreUnseen store (side direction (noted pending stacks))
+    nothing-planned = elim plan as (λ o. plan ≡ o → (r.1 ≡ steps.Nothing) ↔ AreUnseen store (side direction (noted pending stacks))) [
       | None ↦ λ is. (λ e. unseen is, λ u. ap (λ (x : HistoryStep × Step). x.1) (none is))
       | Some p ↦ λ is.
-          let it = subst (λ o. IfSome o (λ p. IsPlanned store time nonce (side undo (noted pending stacks)) p.given p.made p.passed)) is planned in (
+          let it = subst (λ o. IfSome o (λ p. IsPlanned store time nonce (side direction (noted pending stacks)) p.given p.made p.passed)) is planned in (
             λ e. absurd (nothing-done p.given (sym e ∙ ap (λ (x : HistoryStep × Step). x.1) (some p is))),
             λ u. absurd (u it.parts (subst (λ stack. Contains stack it.parts) (sym it.topmost.split) (Contains-append_right it.below (it.parts ∷ it.above) it.parts (0, omega arith, refl))) it.topmost.seen),
           )
@@ -234,8 +240,8 @@ module _ (store : List ElementValue) (time nonce : ℕ) where
     fits-planned = elim plan as (λ o. plan ≡ o → FitsIn r.0 stacks) [
       | None ↦ λ is. subst (λ (x : HistoryStep × Step). FitsIn x.0 stacks) (sym (none is)) tt
       | Some p ↦ λ is.
-          let it = subst (λ o. IfSome o (λ p. IsPlanned store time nonce (side undo (noted pending stacks)) p.given p.made p.passed)) is planned in
-          subst (λ (x : HistoryStep × Step). FitsIn x.0 stacks) (sym (some p is)) (within-planned (side undo (noted pending stacks)) p.given p.made p.passed it)
+          let it = subst (λ o. IfSome o (λ p. IsPlanned store time nonce (side direction (noted pending stacks)) p.given p.made p.passed)) is planned in
+          subst (λ (x : HistoryStep × Step). FitsIn x.0 stacks) (sym (some p is)) (within-planned (side direction (noted pending stacks)) p.given p.made p.passed it)
     ] refl
 
     pub kept-planned : (step : HistoryStep) → r ≡ (step, steps.Nothing) → put_step step stacks ≡ noted pending stacks
@@ -244,27 +250,11 @@ module _ (store : List ElementValue) (time nonce : ℕ) where
       | Some p ↦ λ is. absurd (nothing-done p.given (ap (λ (x : HistoryStep × Step). x.1) (sym e ∙ some p is)))
     ] refl
 
-    pub done-planned : (step : HistoryStep) (given : List ElementValue) → r ≡ (step, steps.Done given)
-        → (p : Plan) × (p.given ≡ given) × (step ≡ record { pending = pending; made = Some p.made; undo = undo; passed = p.passed })
-        × IsPlanned store time nonce (side undo (noted pending stacks)) p.given p.made p.passed
-    done-planned step given e = elim plan as (λ o. plan ≡ o → (p : Plan) × (p.given ≡ given) × (step ≡ record { pending = pending; made = Some p.made; undo = undo; passed = p.passed }) × IsPlanned store time nonce (side undo (noted pending stacks)) p.given p.made p.passed) [
+    pub done-planned : (step : HistoryStep) (given : List ElementValue) → r ≡ (step, steps.Done given) → HasTakenBack direction store time nonce given (noted pending stacks) (put_step step stacks)
+    done-planned step given e = elim plan as (λ o. plan ≡ o → HasTakenBack direction store time nonce given (noted pending stacks) (put_step step stacks)) [
       | None ↦ λ is. absurd (nothing-done given (ap (λ (x : HistoryStep × Step). x.1) (sym (none is) ∙ e)))
-      | Some p ↦ λ is. (
-        p,
-        done-same p.given given (ap (λ (x : HistoryStep × Step). x.1) (sym (some p is) ∙ e)),
-        ap (λ (x : HistoryStep × Step). x.0) (sym e ∙ some p is),
-        subst (λ o. IfSome o (λ p. IsPlanned store time nonce (side undo (noted pending stacks)) p.given p.made p.passed)) is planned,
-      )
+      | Some p ↦ λ is.
+          subst₂ (λ (s : HistoryStep) g. HasTakenBack direction store time nonce g (noted pending stacks) (put_step s stacks))
+          (ap (λ (x : HistoryStep × Step). x.0) (sym (some p is) ∙ e)) (done-same p.given given (ap (λ (x : HistoryStep × Step). x.1) (sym (some p is) ∙ e)))
+          (taken-back direction (noted pending stacks) p.given p.made p.passed (subst (λ o. IfSome o (λ p. IsPlanned store time nonce (side direction (noted pending stacks)) p.given p.made p.passed)) is planned))
     ] refl
-
-  pub undone-planned : (stacks : Stacks) (pending : List Delta) (step : HistoryStep) (given : List ElementValue) (p : Plan) → p.given ≡ given → step ≡ record { pending = pending; made = Some p.made; undo = true; passed = p.passed } → IsPlanned store time nonce (noted pending stacks).undo p.given p.made p.passed → HasUndone store time nonce given (noted pending stacks) (put_step step stacks)
-  undone-planned stacks pending step given p same is plan =
-      let old = noted pending stacks in
-      subst₂ (λ (s : HistoryStep) g. HasUndone store time nonce g old (put_step s stacks)) (sym is) same
-      (stepped-from old.undo old.redo p.given p.made p.passed plan)
-
-  pub redone-planned : (stacks : Stacks) (pending : List Delta) (step : HistoryStep) (given : List ElementValue) (p : Plan) → p.given ≡ given → step ≡ record { pending = pending; made = Some p.made; undo = false; passed = p.passed } → IsPlanned store time nonce (noted pending stacks).redo p.given p.made p.passed → HasRedone store time nonce given (noted pending stacks) (put_step step stacks)
-  redone-planned stacks pending step given p same is plan =
-      let old = noted pending stacks in
-      subst₂ (λ (s : HistoryStep) g. HasRedone store time nonce g old (put_step s stacks)) (sym is) same
-      (stepped-from old.redo old.undo p.given p.made p.passed plan)

@@ -1,5 +1,5 @@
 -- What can be undone and redone. This project's own, after Excalidraw's history.
-use Rattle.std.specs.Prelude.{◌≡◌, ℕ, ◌+◌, ◌-◌, ◌<◌, min, List, [], ◌∷◌, ◌++◌, Bool, true, false, Option, Some, None, IfSome, length, take, drop, map, reverse, Contains, IsSome}
+use Rattle.std.specs.Prelude.{◌≡◌, ℕ, ◌+◌, ◌-◌, ◌<◌, min, List, [], ◌∷◌, ◌++◌, Option, Some, None, IfSome, length, take, drop, map, reverse, Contains, IsSome}
 use Rattle.board_base.specs.declared.stop.Stop.{Stop}
 use Rattle.board_base.specs.declared.stop.Stop.TheVariants.{Fault, Memory}
 use Rattle.elem.specs.ElementValue.{ElementValue}
@@ -7,6 +7,8 @@ use Rattle.elem_store.specs.Updates.{element_of}
 use Rattle.delta.specs.Delta.{Delta}
 use Rattle.delta.specs.Parts.{inverses}
 use Rattle.delta.specs.declared.stamping.VersionFull.{VersionFull}
+use Rattle.history.specs.declared.planned.Direction.{Direction}
+use Rattle.history.specs.declared.planned.Direction.TheVariants.{Undo, Redo}
 use Rattle.history.specs.declared.planned.HistoryStep.{HistoryStep}
 use Rattle.history.specs.Steps.{IsStep, IsLeastFull, IsSeen}
 
@@ -14,6 +16,18 @@ use Rattle.history.specs.Steps.{IsStep, IsLeastFull, IsSeen}
 pub record Stacks : Type 0 where
   pub undo : List (List Delta)
   pub redo : List (List Delta)
+
+-- of two the one for undo, or the one for redo
+abbrev pub chosen : {X : Type 0} → Direction → X → X → X
+chosen Undo undo redo = undo
+chosen Redo undo redo = redo
+
+abbrev pub other : Direction → Direction
+other direction = chosen direction Redo Undo
+
+-- the stack that a step is from
+abbrev pub side : Direction → Stacks → List (List Delta)
+side direction stacks = chosen direction stacks.undo stacks.redo
 
 -- A history as contracts see it: its stacks, each of which has room for the entries of both and so many more. "As
 -- before" is said of the stacks: room may have grown.
@@ -66,14 +80,12 @@ pub record HasStepped (store : List ElementValue) (time nonce : ℕ) (given : Li
   pub pushed : grown ≡ to ++ (map inverses (reverse above) ++ made ∷ [])
   pub step : IsStep parts store time nonce given made
 
--- One undo, and one redo, from the stacks before to those after.
-abbrev pub HasUndone : List ElementValue → ℕ → ℕ → List ElementValue → Stacks → Stacks → Type 0
-HasUndone store time nonce given old new =
-    HasStepped store time nonce given old.undo old.redo new.undo new.redo
-
-abbrev pub HasRedone : List ElementValue → ℕ → ℕ → List ElementValue → Stacks → Stacks → Type 0
-HasRedone store time nonce given old new =
-    HasStepped store time nonce given old.redo old.undo new.redo new.undo
+-- One undo, or one redo, from the stacks before to those after.
+abbrev pub HasTakenBack : Direction → List ElementValue → ℕ → ℕ → List ElementValue → Stacks
+    → Stacks → Type 0
+HasTakenBack direction store time nonce given old new =
+    HasStepped store time nonce given (side direction old) (side (other direction) old)
+    (side direction new) (side (other direction) new)
 
 -- The topmost entry of a stack that is seen would change the element of this id, which stands at the greatest version,
 -- and no lesser one.
@@ -102,27 +114,23 @@ last_of count stack = drop (length stack - count) stack
 abbrev pub grown_by : ℕ → List Delta → List (List Delta) → List (List Delta) → List (List Delta)
 grown_by passed made from to = to ++ (map inverses (reverse (last_of passed from)) ++ made ∷ [])
 
-abbrev pub stepped : Bool → ℕ → Option (List Delta) → Stacks → Stacks
-stepped undo passed None stacks = stacks
-stepped true passed (Some made) stacks =
+abbrev pub stepped : Direction → ℕ → Option (List Delta) → Stacks → Stacks
+stepped direction passed None stacks = stacks
+stepped Undo passed (Some made) stacks =
     record { undo = below_last (passed + 1) stacks.undo; redo = grown_by passed made stacks.undo stacks.redo }
-stepped false passed (Some made) stacks =
+stepped Redo passed (Some made) stacks =
     record { undo = grown_by passed made stacks.redo stacks.undo; redo = below_last (passed + 1) stacks.redo }
 
 -- The stacks once a planned step is put: the pending entry is noted; where an entry was made, the entries that are
 -- passed over go to the other stack one after another, inverted, the next one goes, and the made one is put on the
 -- other stack.
 abbrev pub put_step : HistoryStep → Stacks → Stacks
-put_step step stacks = stepped step.undo step.passed step.made (noted step.pending stacks)
-
-abbrev pub side : Bool → Stacks → List (List Delta)
-side true stacks = stacks.undo
-side false stacks = stacks.redo
+put_step step stacks = stepped step.direction step.passed step.made (noted step.pending stacks)
 
 -- Where an entry was made, the stack has more entries than are passed over, once the pending one is noted.
 abbrev pub FitsIn : HistoryStep → Stacks → Type 0
 FitsIn step stacks =
-    IfSome step.made (λ made. step.passed < length (side step.undo (noted step.pending stacks)))
+    IfSome step.made (λ made. step.passed < length (side step.direction (noted step.pending stacks)))
 
 -- what is planned for a stack: nothing where no entry is seen, or the step from the topmost one
 pub record IsPlanned (store : List ElementValue) (time nonce : ℕ) (stack : List (List Delta))

@@ -1,13 +1,13 @@
 //! A history.
 
-ghost use Rattle.std.specs.Prelude.{◌≡◌, ◌↔◌, ◌≤◌, ◌<◌, List as Items, [], Ok, IsOk, length, IfOk, IfErr, OnOk, OnErr};
+ghost use Rattle.std.specs.Prelude.{◌≡◌, ◌↔◌, ◌≤◌, ◌<◌, List as Items, [], Ok, IsOk, None, length, IfOk, IfErr, IfSome, OnOk, OnErr};
 ghost use Rattle.elem.specs.ElementValue.{ElementValue};
 ghost use Rattle.elem.specs.Facts.{greatest_whole};
-ghost use Rattle.history.specs.Stacks.{HasStoredIds, HaveStoredIds, AreUnseen, HasUndone, HasRedone, StopsAt, OnFull, FitsIn, noted, put_step};
+ghost use Rattle.history.specs.Stacks.{HasStoredIds, HaveStoredIds, AreUnseen, HasTakenBack, IsPlanned, StopsAt, OnFull, FitsIn, noted, put_step, side};
 
-use crate::planned::{HistoryStep, note_within, shift, step_of};
+use crate::planned::{Direction, HistoryStep, Plan, note_within, shift, step_of};
 use crate::step::{Step, is_nothing, plan_back, plan_noted};
-use board_base::{List, Stop};
+use board_base::Stop;
 use delta::{Entry, VersionFull};
 use elem_store::Store;
 use std::alloc::{AllocError, Global};
@@ -89,12 +89,13 @@ impl History {
         Ok(())
     }
 
-    /// Plans to note what is pending and then to undo. The step and the answer are those of these two calls: the
-    /// topmost entry that is seen is taken back from the stored elements, and those that change are given, stamped with
-    /// this time and nonce, in the order of their ids. `Nothing` comes exactly where no entry is seen. `VersionFull`
-    /// names the least id of those that would change and stand at the greatest version.
-    pub fn plan_undo(
+    /// Plans to note what is pending and then to undo or to redo. The step and the answer are those of these two calls:
+    /// the topmost entry of the stack that is seen is taken back from the stored elements, and those that change are
+    /// given, stamped with this time and nonce, in the order of their ids. `Nothing` comes exactly where no entry is
+    /// seen. `VersionFull` names the least id of those that would change and stand at the greatest version.
+    pub fn plan(
         &self,
+        direction: Direction,
         pending: Entry,
         store: &Store,
         time: u64,
@@ -103,59 +104,58 @@ impl History {
         requires time { time ≤ greatest_whole }
         requires nonce { nonce ≤ greatest_whole }
         requires pending { HasStoredIds store.now.elements pending }
-        requires stored { HaveStoredIds store.now.elements self.now.stacks.undo }
+        requires stored { HaveStoredIds store.now.elements (side direction self.now.stacks) }
 
         ensures done { (step : HistoryStep) (given : Items ElementValue)
             → result ≡ Ok (step, Step.Done given)
-            → HasUndone store.now.elements time nonce given (noted pending self.now.stacks)
-            (put_step step self.now.stacks) }
+            → HasTakenBack direction store.now.elements time nonce given
+            (noted pending self.now.stacks) (put_step step self.now.stacks) }
         ensures nothing { IfOk result
             (λ plan. (plan.1 ≡ Step.Nothing) ↔ AreUnseen store.now.elements
-            (noted pending self.now.stacks).undo) }
+            (side direction (noted pending self.now.stacks))) }
         ensures nothing_kept { (step : HistoryStep) → result ≡ Ok (step, Step.Nothing)
             → put_step step self.now.stacks ≡ noted pending self.now.stacks }
         ensures fits { IfOk result (λ plan. FitsIn plan.0 self.now.stacks) }
         ensures full { IfErr result
             (λ stop. OnFull stop
-            (StopsAt store.now.elements (noted pending self.now.stacks).undo)) }
+            (StopsAt store.now.elements (side direction (noted pending self.now.stacks)))) }
     {
-        let alloc = *self.undo.allocator();
-        let plan = plan_noted(alloc, &pending, &self.undo, store, time, nonce)?;
-        Ok(step_of(pending, true, plan))
+        let plan = self.plan_side(direction, &pending, store, time, nonce)?;
+        Ok(step_of(pending, direction, plan))
     }
 
-    /// Plans to note what is pending and then to redo, as `plan_undo` does with the stacks exchanged.
-    pub fn plan_redo(
+    /// The plan for the topmost entry that is seen of the stack that a step is from, if there is one, once an entry was
+    /// noted.
+    fn plan_side(
         &self,
-        pending: Entry,
+        direction: Direction,
+        pending: &Entry,
         store: &Store,
         time: u64,
         nonce: u64,
-    ) -> Result<(HistoryStep, Step), Stop<VersionFull>>
+    ) -> Result<Option<Plan>, Stop<VersionFull>>
         requires time { time ≤ greatest_whole }
         requires nonce { nonce ≤ greatest_whole }
-        requires stored { HaveStoredIds store.now.elements self.now.stacks.redo }
-
-        ensures done { (step : HistoryStep) (given : Items ElementValue)
-            → result ≡ Ok (step, Step.Done given)
-            → HasRedone store.now.elements time nonce given (noted pending self.now.stacks)
-            (put_step step self.now.stacks) }
-        ensures nothing { IfOk result
-            (λ plan. (plan.1 ≡ Step.Nothing) ↔ AreUnseen store.now.elements
-            (noted pending self.now.stacks).redo) }
-        ensures nothing_kept { (step : HistoryStep) → result ≡ Ok (step, Step.Nothing)
-            → put_step step self.now.stacks ≡ noted pending self.now.stacks }
-        ensures fits { IfOk result (λ plan. FitsIn plan.0 self.now.stacks) }
+        requires pending { HasStoredIds store.now.elements pending.now }
+        requires stored { HaveStoredIds store.now.elements (side direction self.now.stacks) }
+        ensures none { IfOk result (λ plan. plan ≡ None
+            → AreUnseen store.now.elements (side direction (noted pending.now self.now.stacks))) }
+        ensures some { IfOk result
+            (λ plan. IfSome plan
+            (λ p. IsPlanned store.now.elements time nonce
+            (side direction (noted pending.now self.now.stacks)) p.given p.made p.passed)) }
         ensures full { IfErr result
             (λ stop. OnFull stop
-            (StopsAt store.now.elements (noted pending self.now.stacks).redo)) }
+            (StopsAt store.now.elements (side direction (noted pending.now self.now.stacks)))) }
     {
-        let alloc = *self.redo.allocator();
-        if !is_nothing(&pending) {
-            return Ok(step_of(pending, false, None));
+        let alloc = *self.undo.allocator();
+        match direction {
+            Direction::Undo => plan_noted(alloc, pending, &self.undo, store, time, nonce),
+            Direction::Redo if is_nothing(pending) => plan_back(
+                alloc, &self.redo, store, time, nonce,
+            ),
+            Direction::Redo => Ok(None),
         }
-        let plan = plan_back(alloc, &self.redo, store, time, nonce)?;
-        Ok(step_of(pending, false, plan))
     }
 
     /// Puts a planned step in place: notes what is pending; where an entry was made, moves the entries that are passed
@@ -169,72 +169,14 @@ impl History {
         let HistoryStep {
             pending,
             made,
-            undo,
+            direction,
             passed,
         } = step;
         note_within(&mut self.undo, &mut self.redo, pending);
-        match made {
-            Some(made) if undo => shift(&mut self.undo, &mut self.redo, passed, made),
-            Some(made) => shift(&mut self.redo, &mut self.undo, passed, made),
-            None => {}
+        match (made, direction) {
+            (Some(made), Direction::Undo) => shift(&mut self.undo, &mut self.redo, passed, made),
+            (Some(made), Direction::Redo) => shift(&mut self.redo, &mut self.undo, passed, made),
+            (None, _) => {}
         }
-    }
-
-    /// Takes the topmost entry that is seen back from the stored elements, and gives those that change, stamped with
-    /// this time and nonce, in the order of their ids: whoever calls stores them. The entries above it go to the other
-    /// stack, inverted. `Nothing` comes exactly where no entry is seen. `VersionFull` names the least id of those that
-    /// would change and stand at the greatest version. Where the answer isn't Done the stacks are unchanged.
-    pub fn undo(&mut self, store: &Store, time: u64, nonce: u64) -> Result<Step, Stop<VersionFull>>
-        requires time { time ≤ greatest_whole }
-        requires nonce { nonce ≤ greatest_whole }
-        requires stored { HaveStoredIds store.now.elements self.old.stacks.undo }
-
-        ensures done { (given : Items ElementValue) → result ≡ Ok (Step.Done given)
-            → HasUndone store.now.elements time nonce given self.old.stacks self.new.stacks }
-        ensures nothing { IfOk result
-            (λ step. (step ≡ Step.Nothing) ↔ AreUnseen store.now.elements self.old.stacks.undo) }
-        ensures full { IfErr result
-            (λ stop. OnFull stop (StopsAt store.now.elements self.old.stacks.undo)) }
-
-        ensures nothing_kept { result ≡ Ok Step.Nothing → self.new.stacks ≡ self.old.stacks }
-        ensures err { OnErr result (self.new.stacks ≡ self.old.stacks) }
-    {
-        let nothing = nothing_pending(*self.undo.allocator());
-        self.reserve()?;
-        let (step, answer) = self.plan_undo(nothing, store, time, nonce)?;
-        self.put(step);
-        Ok(answer)
-    }
-
-    /// Takes the topmost undo that is seen back, as `undo` does with the stacks exchanged.
-    pub fn redo(&mut self, store: &Store, time: u64, nonce: u64) -> Result<Step, Stop<VersionFull>>
-        requires time { time ≤ greatest_whole }
-        requires nonce { nonce ≤ greatest_whole }
-        requires stored { HaveStoredIds store.now.elements self.old.stacks.redo }
-
-        ensures done { (given : Items ElementValue) → result ≡ Ok (Step.Done given)
-            → HasRedone store.now.elements time nonce given self.old.stacks self.new.stacks }
-        ensures nothing { IfOk result
-            (λ step. (step ≡ Step.Nothing) ↔ AreUnseen store.now.elements self.old.stacks.redo) }
-        ensures full { IfErr result
-            (λ stop. OnFull stop (StopsAt store.now.elements self.old.stacks.redo)) }
-
-        ensures nothing_kept { result ≡ Ok Step.Nothing → self.new.stacks ≡ self.old.stacks }
-        ensures err { OnErr result (self.new.stacks ≡ self.old.stacks) }
-    {
-        let nothing = nothing_pending(*self.redo.allocator());
-        self.reserve()?;
-        let (step, answer) = self.plan_redo(nothing, store, time, nonce)?;
-        self.put(step);
-        Ok(answer)
-    }
-}
-
-/// An entry without parts.
-fn nothing_pending(alloc: Global) -> Entry
-    ensures { result ≡ [] }
-{
-    Entry {
-        parts: List::new(alloc),
     }
 }

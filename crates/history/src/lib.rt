@@ -7,5 +7,5 @@ mod planned;
 mod step;
 
 pub use history::History;
-pub use planned::HistoryStep;
+pub use planned::{Direction, HistoryStep};
 pub use step::Step;

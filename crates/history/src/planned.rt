@@ -10,13 +10,20 @@ use board_base::List;
 use delta::{Entry, invert_entry};
 use elem::Element;
 
+/// Whether an entry is taken back, or an undo is.
+#[derive(Clone, Copy)]
+pub enum Direction {
+    Undo,
+    Redo,
+}
+
 /// A step that is planned: what is pending and is noted first, the entry that takes the step back, which stack it is
 /// from, and how many entries it passes over.
 #[derive(Drop)]
 pub struct HistoryStep {
     pub pending: Entry,
     pub made: Option<Entry>,
-    pub undo: bool,
+    pub direction: Direction,
     pub passed: u64,
 }
 
@@ -30,12 +37,24 @@ pub(crate) struct Plan {
 }
 
 /// The step and the answer of a plan, or of none.
-pub(crate) fn step_of(pending: Entry, undo: bool, plan: Option<Plan>) -> (HistoryStep, Step)
+pub(crate) fn step_of(
+    pending: Entry,
+    direction: Direction,
+    plan: Option<Plan>,
+) -> (HistoryStep, Step)
     ensures none { plan ≡ None
-        → result ≡ (record { pending = pending; made = None; undo = undo; passed = 0 }, Step.Nothing) }
+        → result ≡ (
+          record { pending = pending; made = None; direction = direction; passed = 0 },
+          Step.Nothing,
+        ) }
     ensures some { (p : Plan) → plan ≡ Some p
         → result ≡ (
-          record { pending = pending; made = Some p.made; undo = undo; passed = p.passed },
+          record {
+            pending = pending;
+            made = Some p.made;
+            direction = direction;
+            passed = p.passed;
+          },
           Step.Done p.given,
         ) }
 {
@@ -44,7 +63,7 @@ pub(crate) fn step_of(pending: Entry, undo: bool, plan: Option<Plan>) -> (Histor
             let step = HistoryStep {
                 pending,
                 made: Some(plan.made),
-                undo,
+                direction,
                 passed: plan.passed,
             };
             (step, Step::Done(plan.given))
@@ -53,7 +72,7 @@ pub(crate) fn step_of(pending: Entry, undo: bool, plan: Option<Plan>) -> (Histor
             let step = HistoryStep {
                 pending,
                 made: None,
-                undo,
+                direction,
                 passed: 0,
             };
             (step, Step::Nothing)

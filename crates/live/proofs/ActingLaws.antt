@@ -1,5 +1,5 @@
 -- What comes of an act of a replica is what the definitions say.
-use Rattle.std.proofs.Common.{◌≡◌, ℕ, List, Option, Some, true, false, Result, Ok, Err, sym, ap, ◌∙◌, subst}
+use Rattle.std.proofs.Common.{◌≡◌, ℕ, List, Option, Some, Result, Ok, Err, sym, ap, ◌∙◌, subst}
 use Rattle.elem.specs.ElementValue.{ElementValue}
 use Rattle.view.specs.Shown.{live_elements, shown}
 use Rattle.effects.specs.Changed.{outcome}
@@ -7,12 +7,13 @@ use Rattle.effects.specs.declared.refusal.Refusal.{Refusal}
 use Rattle.effects.specs.declared.refusal.Refusal.TheVariants.{VersionFull}
 use Rattle.board_commands.specs.declared.command.Capture.{Capture}
 use Rattle.board_commands.specs.declared.command.Command.{Command}
+use Rattle.history.specs.declared.planned.Direction.{Direction}
 use Rattle.history.specs.declared.step.Step.{Step}
 use Rattle.history.specs.declared.step.Step.TheVariants.{Done, Nothing}
 use Rattle.undoing.specs.Steps.{Turn}
 use Rattle.replica.specs.Standing.{Kept, ReplicaStandsFor}
-use Rattle.replica.specs.State.{State, IsStepAnswer, after_given, after_outcome, after_redo_of, after_turn, after_undo_of, outcome_on, redo_on, undo_on}
-use Rattle.session.specs.Worlds.{change_on, redo_of, undo_of}
+use Rattle.replica.specs.State.{State, IsStepAnswer, after_given, after_outcome, after_turn, after_turn_of, outcome_on, turn_on}
+use Rattle.session.specs.Worlds.{change_on, turn_by}
 use Rattle.live.specs.Living.{command_text, refusal_text, step_text, update_text}
 use Rattle.live.specs.inner.Acting.{IsActed, done_text}
 
@@ -44,29 +45,16 @@ step-told : (step : Step) (found : Option (Result Turn (List ℕ))) → IsStepAn
 step-told (Done given) found (turn, is, same) = ap update_text same ∙ sym (ap step_text is)
 step-told Nothing found is = sym (ap step_text is)
 
-module _ (time nonce : ℕ) (s : State) where
-  pub undo-made : (step : Step) (text : List ℕ) (new : Kept) → IsStepAnswer step (undo_on time nonce s) → text ≡ done_text step → ReplicaStandsFor new (after_turn true time nonce s)
-      → IsActed (step_text (undo_on time nonce s)) (undo_of time nonce s) text new
-  unfolding undo_of
-  undo-made step text new is told after = record { text = told ∙ step-told step (undo_on time nonce s) is; stands = after }
+module _ (direction : Direction) (time nonce : ℕ) (s : State) where
+  pub turn-made : (step : Step) (text : List ℕ) (new : Kept) → IsStepAnswer step (turn_on direction time nonce s) → text ≡ done_text step → ReplicaStandsFor new (after_turn direction time nonce s)
+      → IsActed (step_text (turn_on direction time nonce s)) (turn_by direction time nonce s) text new
+  unfolding turn_by
+  turn-made step text new is told after = record { text = told ∙ step-told step (turn_on direction time nonce s) is; stands = after }
 
-  pub redo-made : (step : Step) (text : List ℕ) (new : Kept) → IsStepAnswer step (redo_on time nonce s) → text ≡ done_text step → ReplicaStandsFor new (after_turn false time nonce s)
-      → IsActed (step_text (redo_on time nonce s)) (redo_of time nonce s) text new
-  unfolding redo_of
-  redo-made step text new is told after = record { text = told ∙ step-told step (redo_on time nonce s) is; stands = after }
-
-  pub undo-full : (id text : List ℕ) (new : Kept) → undo_on time nonce s ≡ Some (Err id) → text ≡ refusal_text (Some (VersionFull id)) → ReplicaStandsFor new s
-      → IsActed (step_text (undo_on time nonce s)) (undo_of time nonce s) text new
-  unfolding undo_of
-  undo-full id text new is told stands = record {
+  pub turn-full : (id text : List ℕ) (new : Kept) → turn_on direction time nonce s ≡ Some (Err id) → text ≡ refusal_text (Some (VersionFull id)) → ReplicaStandsFor new s
+      → IsActed (step_text (turn_on direction time nonce s)) (turn_by direction time nonce s) text new
+  unfolding turn_by
+  turn-full id text new is told stands = record {
     text = told ∙ sym (ap step_text is);
-    stands = subst (λ o. ReplicaStandsFor new (after_undo_of o s)) (sym is) stands;
-  }
-
-  pub redo-full : (id text : List ℕ) (new : Kept) → redo_on time nonce s ≡ Some (Err id) → text ≡ refusal_text (Some (VersionFull id)) → ReplicaStandsFor new s
-      → IsActed (step_text (redo_on time nonce s)) (redo_of time nonce s) text new
-  unfolding redo_of
-  redo-full id text new is told stands = record {
-    text = told ∙ sym (ap step_text is);
-    stands = subst (λ o. ReplicaStandsFor new (after_redo_of o s)) (sym is) stands;
+    stands = subst (λ o. ReplicaStandsFor new (after_turn_of direction o s)) (sym is) stands;
   }

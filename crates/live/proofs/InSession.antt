@@ -4,6 +4,7 @@ use Rattle.std.proofs.lemmas.List.{get_or-replicate, length-replicate}
 use Rattle.std.proofs.lemmas.Option.{none-some, same_Some}
 use Rattle.drawn_words.specs.Words.{next_generator, next_word}
 use Rattle.elem.specs.ElementValue.{ElementValue}
+use Rattle.history.specs.declared.planned.Direction.TheVariants as directions
 use Rattle.replica.specs.State.{State}
 use Rattle.scene_file.specs.Heads.{Heading}
 use Rattle.room_msg.specs.Messages.{IsReadAs, IsWholeMessage}
@@ -19,9 +20,9 @@ use Rattle.session_text.specs.declared.lines.Line.TheVariants as lines
 use Rattle.session_text.specs.Lines.{IsReplicaOpening, LineText, OpeningText}
 use Rattle.session_text.specs.declared.lines.Opening.{Opening}
 use Rattle.session_text.proofs.CallerLemmas.{apart, opening-kept}
-use Rattle.session.specs.Worlds.{Act, Seat, World, acted, after_act, after_event, after_events, after_seat, change_on, delivered, fresh, given_of, head_of, holding, nonce_at, opened, opening_elements, redo_of, seat_at, state_at, undo_of, with_id, without_id}
+use Rattle.session.specs.Worlds.{Act, Seat, World, acted, after_act, after_event, after_events, after_seat, change_on, delivered, fresh, given_of, head_of, holding, nonce_at, opened, opening_elements, seat_at, state_at, turn_by, with_id, without_id}
 use Rattle.session.proofs.CallerLemmas.{events-append}
-use Rattle.live.specs.Living.{Living, Reply, IsReply, brought_by, nonce_of, of_act, of_change, of_read, of_redo, of_taking, of_undo, opened_as, session_of}
+use Rattle.live.specs.Living.{Living, Reply, IsReply, brought_by, nonce_of, of_act, of_change, of_read, of_taking, of_turn, opened_as, session_of}
 use Rattle.live.specs.Sessions.{AreEventsOf, AreReadEvents, IsInSession, SayEvents, message_events, taking_events}
 use Rattle.live.proofs.SessionKept.{keeps-session}
 use Rattle.live.specs.Talks.{AnswersAll, IsReadReply, LineReads, faulty, opened_by, says}
@@ -130,11 +131,11 @@ module _ (head : Heading) (number made : ℕ) (w : World) (l : Living) (sits : S
       one-event (lines.Change time capture command) reply (of_change command capture time l) (events.Change number time capture command) is refl
       (record { sits = act-sits head number made w l sits (of_change command capture time l).text (λ nonce s. change_on command capture time nonce s) })
   line-leads (lines.Undo time) reply is =
-      one-event (lines.Undo time) reply (of_undo time l) (events.Undo number time) is refl
-      (record { sits = act-sits head number made w l sits (of_undo time l).text (λ nonce s. undo_of time nonce s) })
+      one-event (lines.Undo time) reply (of_turn directions.Undo time l) (events.Undo number time) is refl
+      (record { sits = act-sits head number made w l sits (of_turn directions.Undo time l).text (λ nonce s. turn_by directions.Undo time nonce s) })
   line-leads (lines.Redo time) reply is =
-      one-event (lines.Redo time) reply (of_redo time l) (events.Redo number time) is refl
-      (record { sits = act-sits head number made w l sits (of_redo time l).text (λ nonce s. redo_of time nonce s) })
+      one-event (lines.Redo time) reply (of_turn directions.Redo time l) (events.Redo number time) is refl
+      (record { sits = act-sits head number made w l sits (of_turn directions.Redo time l).text (λ nonce s. turn_by directions.Redo time nonce s) })
   line-leads (lines.Take elements) reply is =
       (taking_events number made elements, refl, subst (λ (r : Reply). SitsAfter head number made w (taking_events number made elements) r.after) (sym is) (taking-sits elements))
   line-leads (lines.Receive text) reply (read, reads, is) = (

@@ -5,8 +5,10 @@ use Rattle.elem.specs.ElementValue.{ElementValue}
 use Rattle.elem.specs.Said.{AreElements}
 use Rattle.elem_store.specs.Updates.{HaveSameUpdates}
 use Rattle.elem_store.proofs.CallerLemmas.{stores-converge}
+use Rattle.history.specs.declared.planned.Direction.{Direction}
+use Rattle.history.specs.declared.planned.Direction.TheVariants as directions
 use Rattle.undoing.specs.Carrying.{taken_all}
-use Rattle.replica.specs.State.{outcome_on, redo_on, undo_on}
+use Rattle.replica.specs.State.{outcome_on, turn_on}
 use Rattle.view.specs.Shown.{live_elements, shown}
 use Rattle.session_text.specs.declared.fault.TextFault.{TextFault}
 use Rattle.session_text.specs.declared.lines.Line.{Line}
@@ -15,9 +17,9 @@ use Rattle.session_text.specs.declared.lines.Opening.{Opening}
 use Rattle.room_msg.specs.declared.fault.MsgFault.{MsgFault}
 use Rattle.room_msg.specs.declared.message.Message.{Message}
 use Rattle.session.specs.Reports.{shown_at}
-use Rattle.session.specs.Worlds.{Act, change_on, fresh, given_of, opening_elements, redo_of, undo_of}
-use Rattle.session.proofs.CallerLemmas.{StoresTaken, acted-stores, change-stored, delivered-stores, fresh-stores, redo_of-stored, undo_of-stored}
-use Rattle.live.specs.Living.{Living, Reply, IsReply, brought_by, command_text, nonce_of, of_act, of_read, of_taking, session_of, step_text}
+use Rattle.session.specs.Worlds.{Act, change_on, fresh, given_of, opening_elements, turn_by}
+use Rattle.session.proofs.CallerLemmas.{StoresTaken, acted-stores, change-stored, delivered-stores, fresh-stores, turn_by-stored}
+use Rattle.live.specs.Living.{Living, Reply, IsReply, brought_by, command_text, nonce_of, of_act, of_read, of_taking, session_of, step_text, of_turn}
 use Rattle.live.specs.Talks.{Answers, AnswersAll, IsReadReply, opened_by}
 
 abbrev pub LifeStores : Living → Type 0
@@ -37,14 +39,18 @@ read-stores : (read : Result Message MsgFault) (l : Living) → LifeStores l →
 read-stores (Ok message) l stores = taking-stores (brought_by message) l stores
 read-stores (Err fault) l stores = stores
 
+turn-stores : (direction : Direction) (time : ℕ) (l : Living) → LifeStores l → ReplyStores (of_turn direction time l)
+turn-stores direction time l stores =
+    act-stores (step_text (turn_on direction time (nonce_of l) l.seat.state)) (turn_by direction time (nonce_of l) l.seat.state) l (turn_by-stored direction time (nonce_of l) l.seat.state) stores
+
 pub reply-stores : (l : Living) (line : Line) (reply : Reply) → IsReply l line reply → LifeStores l → ReplyStores reply
 reply-stores l (lines.Change time capture command) reply is stores =
     subst ReplyStores (sym is)
     (act-stores (command_text (outcome_on command time (nonce_of l) l.seat.state)) (change_on command capture time (nonce_of l) l.seat.state) l (change-stored command capture time (nonce_of l) l.seat.state) stores)
 reply-stores l (lines.Undo time) reply is stores =
-    subst ReplyStores (sym is) (act-stores (step_text (undo_on time (nonce_of l) l.seat.state)) (undo_of time (nonce_of l) l.seat.state) l (undo_of-stored time (nonce_of l) l.seat.state) stores)
+    subst ReplyStores (sym is) (turn-stores directions.Undo time l stores)
 reply-stores l (lines.Redo time) reply is stores =
-    subst ReplyStores (sym is) (act-stores (step_text (redo_on time (nonce_of l) l.seat.state)) (redo_of time (nonce_of l) l.seat.state) l (redo_of-stored time (nonce_of l) l.seat.state) stores)
+    subst ReplyStores (sym is) (turn-stores directions.Redo time l stores)
 reply-stores l (lines.Take elements) reply is stores = subst ReplyStores (sym is) (taking-stores elements l stores)
 reply-stores l (lines.Receive text) reply (read, reads, is) stores = subst ReplyStores (sym is) (read-stores read l stores)
 reply-stores l (lines.Hold id) reply is stores = subst ReplyStores (sym is) stores

@@ -4,8 +4,9 @@ use Rattle.std.proofs.Math.Seq.{take-append_seam, drop-append_seam}
 use Rattle.std.proofs.lemmas.Option.{none-some}
 use Rattle.scene_file.specs.Heads.{Heading}
 use Rattle.board_commands.specs.declared.command.Capture.TheVariants.{Now}
+use Rattle.history.specs.declared.planned.Direction.TheVariants as directions
 use Rattle.replica.specs.Back.{HasNothingPending, IsAs}
-use Rattle.replica.specs.State.{State, undo_on}
+use Rattle.replica.specs.State.{State, turn_on}
 use Rattle.session_text.specs.Facts.{IsSession}
 use Rattle.session_text.specs.Lines.{LineText, OpeningText}
 use Rattle.session_text.specs.Sessions.{made_after, most_events}
@@ -18,9 +19,9 @@ use Rattle.session_text.specs.declared.lines.Line.TheVariants as lines
 use Rattle.session_text.specs.declared.lines.Opening.{Opening}
 use Rattle.session_text.specs.declared.session.Session.{Session}
 use Rattle.session_text.proofs.CallerLemmas.{apart, opening-kept}
-use Rattle.session.specs.Worlds.{Seat, World, after_event, after_events, change_on, given_of, head_of, opened, state_at, undo_of, world_after}
-use Rattle.session_laws.specs.Turning.{AreAmong, AreChangesAt, AreUndosAt, IsChangeAt, IsUndoAt}
-use Rattle.live.specs.Living.{Living, nonce_of, of_change, of_undo, opened_as, session_of}
+use Rattle.session.specs.Worlds.{Seat, World, after_event, after_events, change_on, given_of, head_of, opened, state_at, turn_by, world_after}
+use Rattle.session_laws.specs.Turning.{AreAmong, AreChangesAt, AreUndosAt, IsChangeAt, IsTurnAt}
+use Rattle.live.specs.Living.{Living, nonce_of, of_change, of_turn, opened_as, session_of}
 use Rattle.live.specs.Sessions.{AreReadEvents, SayEvents, SaySession, most_lines}
 use Rattle.live.specs.Talks.{AnswersAll, LineReads, faulty, opened_by, says}
 use Rattle.live.specs.Turning.{AreLinesOf, IsChangeLine, IsNoEvent, IsUndoLine}
@@ -136,7 +137,7 @@ module _ (head : Heading) (number : ℕ) where
         (act-sits head number made w l sits (of_change of.command Now of.time l).text (λ nonce s. change_on of.command Now of.time nonce s));
   }
 
-  undo-step : (made : ℕ) (w : World) (l next : Living) (bytes : List ℕ) → Sits head number made w l → IsUndoLine l bytes next → Step head number IsUndoLine IsUndoAt made w bytes next
+  undo-step : (made : ℕ) (w : World) (l next : Living) (bytes : List ℕ) → Sits head number made w l → IsUndoLine l bytes next → Step head number IsUndoLine (IsTurnAt directions.Undo) made w bytes next
   undo-step made w l next bytes sits of = record {
     event = events.Undo number of.time;
     read = Ok (lines.Undo of.time);
@@ -146,11 +147,11 @@ module _ (head : Heading) (number : ℕ) where
       time = of.time;
       is = refl;
       turn = of.turn;
-      found = subst (λ nonce. undo_on of.time nonce (state_at w number) ≡ Some (Ok of.turn)) (sym (nonce-same head number made w l sits))
-          (subst (λ (s : State). undo_on of.time (nonce_of l) s ≡ Some (Ok of.turn)) (sym (state-same head number made w l sits)) of.found);
+      found = subst (λ nonce. turn_on directions.Undo of.time nonce (state_at w number) ≡ Some (Ok of.turn)) (sym (nonce-same head number made w l sits))
+          (subst (λ (s : State). turn_on directions.Undo of.time (nonce_of l) s ≡ Some (Ok of.turn)) (sym (state-same head number made w l sits)) of.found);
     };
     sits = subst (λ (x : Living). Sits head number (made + 1) (after_event (events.Undo number of.time) w) x) (sym of.after)
-        (act-sits head number made w l sits (of_undo of.time l).text (λ nonce s. undo_of of.time nonce s));
+        (act-sits head number made w l sits (of_turn directions.Undo of.time l).text (λ nonce s. turn_by directions.Undo of.time nonce s));
   }
 
 -- ---- what the law on sessions says
@@ -168,7 +169,7 @@ Changed at changes n m = Led (head_of (session_of at.opening [])) at.opening.num
 
 abbrev Undone : {lines : List (List ℕ)} {l : Living} → Sat lines l → List Event → List (List ℕ) → ℕ → Living → Type 0
 Undone at es undos n k =
-    Led (head_of (session_of at.opening [])) at.opening.number IsUndoLine IsUndoAt (made_after (made_after 0 at.events) es) (after_events es (Base at)) undos n k
+    Led (head_of (session_of at.opening [])) at.opening.number IsUndoLine (IsTurnAt directions.Undo) (made_after (made_after 0 at.events) es) (after_events es (Base at)) undos n k
 
 back-from : AreWhole → Back → (before changes undos : List (List ℕ)) (l m k : Living) (n : ℕ) (at : Sat before l) (one : Changed at changes n m) → Undone at one.events undos n k → HasNothingPending l.seat.state
     → length (before ++ (changes ++ undos)) ≤ most_lines → IsAs l.seat.state k.seat.state
@@ -188,7 +189,7 @@ back-from whole back before changes undos l m k n at one two still short =
     (opening-is before opening at.events at.say).number
     (subst (λ (x : World). HasNothingPending (state_at x number)) (sym here) (subst HasNothingPending (ap (λ (s : Seat). s.state) at.sits.seat) still))
     (subst (λ (x : World). AreAmong IsChangeAt number one.events x n) (sym here) one.among)
-    (subst (λ (x : World). AreAmong IsUndoAt number two.events (after_events one.events x) n) (sym here) two.among) in
+    (subst (λ (x : World). AreAmong (IsTurnAt directions.Undo) number two.events (after_events one.events x) n) (sym here) two.among) in
     subst (λ (s : State). IsAs s k.seat.state) (sym (ap (λ (s : Seat). s.state) at.sits.seat))
     (subst (IsAs (state_at w number)) (sym (ap (λ (s : Seat). s.state) two.sits.seat))
     (subst (λ (x : World). IsAs (state_at x number) (state_at (after_events two.events (after_events one.events x)) number)) here now))
@@ -201,5 +202,5 @@ brings-back whole back before texts changes undos l m k n are still first second
     let number = at.opening.number in
     let made = made_after 0 at.events in
     let one = led head number IsChangeLine IsChangeAt (change-step head number) made (Base at) l m changes n at.sits first in
-    let two = led head number IsUndoLine IsUndoAt (undo-step head number) (made_after made one.events) (after_events one.events (Base at)) m k undos n one.sits second in
+    let two = led head number IsUndoLine (IsTurnAt directions.Undo) (undo-step head number) (made_after made one.events) (after_events one.events (Base at)) m k undos n one.sits second in
     back-from whole back before changes undos l m k n at one two still short

@@ -18,9 +18,11 @@ use Rattle.board_commands.specs.declared.command.Command.{Command}
 use Rattle.reconcile.specs.Ids.{free_elements}
 use Rattle.scene_file.specs.Heads.{Heading}
 use Rattle.scene_file.specs.Scenes.{scene_text, state_text}
+use Rattle.history.specs.declared.planned.Direction.{Direction}
+use Rattle.history.specs.declared.planned.Direction.TheVariants as directions
 use Rattle.undoing.specs.Differing.{pending}
 use Rattle.undoing.specs.Steps.{Turn}
-use Rattle.replica.specs.State.{State, outcome_on, redo_on, undo_on}
+use Rattle.replica.specs.State.{State, outcome_on, turn_on}
 use Rattle.room_msg.specs.Faults.{message_fault_words}
 use Rattle.room_msg.specs.Messages.{IsReadAs}
 use Rattle.room_msg.specs.Texts.{message_text}
@@ -34,7 +36,7 @@ use Rattle.session_text.specs.declared.lines.Opening.{Opening}
 use Rattle.session_text.specs.declared.session.Session.{Session}
 use Rattle.session.specs.Reports.{shown_at}
 use Rattle.session.specs.Texts.{refusal_members}
-use Rattle.session.specs.Worlds.{Act, Seat, acted, change_on, delivered, fresh, head_of, holding, opening_elements, redo_of, undo_of, with_id, without_id}
+use Rattle.session.specs.Worlds.{Act, Seat, acted, change_on, delivered, fresh, head_of, holding, opening_elements, turn_by, with_id, without_id}
 
 -- A replica: its number, what its nonces are drawn from, the head of the scene that it was opened with, and its seat,
 -- as a replica of a session has one.
@@ -136,13 +138,10 @@ of_change command capture time l =
     of_act (command_text (outcome_on command time (nonce_of l) l.seat.state))
     (change_on command capture time (nonce_of l) l.seat.state) l
 
-abbrev pub of_undo : ℕ → Living → Reply
-of_undo time l =
-    of_act (step_text (undo_on time (nonce_of l) l.seat.state)) (undo_of time (nonce_of l) l.seat.state) l
-
-abbrev pub of_redo : ℕ → Living → Reply
-of_redo time l =
-    of_act (step_text (redo_on time (nonce_of l) l.seat.state)) (redo_of time (nonce_of l) l.seat.state) l
+abbrev pub of_turn : Direction → ℕ → Living → Reply
+of_turn direction time l =
+    of_act (step_text (turn_on direction time (nonce_of l) l.seat.state))
+    (turn_by direction time (nonce_of l) l.seat.state) l
 
 -- elements from elsewhere are taken, but for those whose ids are held
 abbrev pub of_taking : List ElementValue → Living → Reply
@@ -163,8 +162,8 @@ of_read (Err fault) l = unchanged (fault_text (message_fault_words fault)) l
 -- A line of an opened replica has this reply.
 abbrev pub IsReply : Living → Line → Reply → Type 0
 IsReply l (lines.Change time capture command) reply = reply ≡ of_change command capture time l
-IsReply l (lines.Undo time) reply = reply ≡ of_undo time l
-IsReply l (lines.Redo time) reply = reply ≡ of_redo time l
+IsReply l (lines.Undo time) reply = reply ≡ of_turn directions.Undo time l
+IsReply l (lines.Redo time) reply = reply ≡ of_turn directions.Redo time l
 IsReply l (lines.Take elements) reply = reply ≡ of_taking elements l
 IsReply l (lines.Receive text) reply =
     (read : Result Message MsgFault) × IsReadAs text read × (reply ≡ of_read read l)

@@ -2,6 +2,7 @@
 use Rattle.std.specs.Prelude.{◌≡◌, ◌≢◌, ◌⊎◌, ℕ, zero, suc, List, [], ◌∷◌, Some, Result, Ok}
 use Rattle.board_commands.specs.declared.command.Capture.TheVariants.{Now}
 use Rattle.board_commands.specs.declared.command.Command.{Command}
+use Rattle.history.specs.declared.planned.Direction.TheVariants as directions
 use Rattle.undoing.specs.Steps.{Turn}
 use Rattle.replica.specs.State.{undo_on}
 use Rattle.session_text.specs.Lines.{LineText}
@@ -9,7 +10,7 @@ use Rattle.session_text.specs.declared.fault.TextFault.{TextFault}
 use Rattle.session_text.specs.declared.lines.Line.{Line}
 use Rattle.session_text.specs.declared.lines.Line.TheVariants as lines
 use Rattle.session.specs.Worlds.{change_on, given_of}
-use Rattle.live.specs.Living.{Living, nonce_of, of_change, of_undo}
+use Rattle.live.specs.Living.{Living, nonce_of, of_change, of_turn}
 use Rattle.live.specs.Sessions.{AreReadEvents}
 use Rattle.live.specs.Talks.{LineReads}
 
@@ -27,7 +28,7 @@ pub record IsUndoLine (l : Living) (bytes : List ℕ) (next : Living) : Type 0 w
   pub reads : LineReads LineText bytes (Ok (lines.Undo time))
   pub turn : Turn
   pub found : undo_on time (nonce_of l) l.seat.state ≡ Some (Ok turn)
-  pub after : next ≡ (of_undo time l).after
+  pub after : next ≡ (of_turn directions.Undo time l).after
 
 -- The line is no event: it asks for something, or has a fault.
 pub record IsNoEvent (bytes : List ℕ) : Type 0 where

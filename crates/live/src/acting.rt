@@ -6,8 +6,8 @@ ghost use Rattle.board_commands.specs.Limits.{IsWithinLimits};
 ghost use Rattle.reconcile.specs.Ids.{free_elements};
 ghost use Rattle.replica.specs.Standing.{ReplicaStandsFor};
 ghost use Rattle.replica.specs.Boards.{IsPlannedStep};
-ghost use Rattle.replica.specs.State.{State, after_delivery, after_turn, outcome_on, redo_on, undo_on};
-ghost use Rattle.session.specs.Worlds.{change_on, redo_of, undo_of};
+ghost use Rattle.replica.specs.State.{State, after_delivery, after_turn, outcome_on, turn_on};
+ghost use Rattle.session.specs.Worlds.{change_on, turn_by};
 ghost use Rattle.live.specs.Living as living;
 ghost use Rattle.live.specs.inner.Acting.{IsActed};
 ghost use Rattle.live.specs.inner.Acting as acting;
@@ -18,7 +18,7 @@ use board_commands::{Capture, Command};
 use delta::VersionFull;
 use effects::Refusal;
 use elem::Element;
-use history::Step;
+use history::{Direction, Step};
 use replica::{PlannedStep, Replica};
 use room_msg::update_text;
 use std::alloc::{AllocError, Global};
@@ -51,43 +51,22 @@ pub(crate) fn change(
     }
 }
 
-/// Undoes a step.
-pub(crate) fn undo(
+/// Undoes, or redoes, a step.
+pub(crate) fn turn(
     alloc: Global,
     replica: &mut Replica,
+    direction: Direction,
     time: u64,
     nonce: u64,
 ) -> Result<Bytes, AllocError>
     requires time { time ≤ greatest_whole }
     requires nonce { nonce ≤ greatest_whole }
     ensures acted { IfOk result (λ text. (s : State) → ReplicaStandsFor replica.old s
-        → IsActed (living.step_text (undo_on time nonce s)) (undo_of time nonce s) text replica.new) }
+        → IsActed (living.step_text (turn_on direction time nonce s))
+        (turn_by direction time nonce s) text replica.new) }
     ensures err { OnErr result (replica.new ≡ replica.old) }
 {
-    match replica.plan_undo(time, nonce) {
-        Ok(plan) => {
-            let text = put(alloc, replica, plan)?;
-            Ok(text)
-        }
-        Err(Stop::Fault(VersionFull(id))) => refusal_text(alloc, Some(Refusal::VersionFull(id))),
-        Err(Stop::Memory) => Err(AllocError),
-    }
-}
-
-/// Redoes a step.
-pub(crate) fn redo(
-    alloc: Global,
-    replica: &mut Replica,
-    time: u64,
-    nonce: u64,
-) -> Result<Bytes, AllocError>
-    requires time { time ≤ greatest_whole }
-    requires nonce { nonce ≤ greatest_whole }
-    ensures acted { IfOk result (λ text. (s : State) → ReplicaStandsFor replica.old s
-        → IsActed (living.step_text (redo_on time nonce s)) (redo_of time nonce s) text replica.new) }
-    ensures err { OnErr result (replica.new ≡ replica.old) }
-{
-    match replica.plan_redo(time, nonce) {
+    match replica.plan(direction, time, nonce) {
         Ok(plan) => {
             let text = put(alloc, replica, plan)?;
             Ok(text)
@@ -102,7 +81,7 @@ fn put(alloc: Global, replica: &mut Replica, plan: PlannedStep) -> Result<Bytes,
     requires planned { IsPlannedStep replica.old.stored replica.old.snapshot replica.old.stacks plan }
     ensures text { IfOk result (λ text. text ≡ acting.done_text plan.step) }
     ensures after { OnOk result ((s : State) → ReplicaStandsFor replica.old s
-        → ReplicaStandsFor replica.new (after_turn plan.undo plan.time plan.nonce s)) }
+        → ReplicaStandsFor replica.new (after_turn plan.direction plan.time plan.nonce s)) }
     ensures err { OnErr result (replica.new ≡ replica.old) }
 {
     let text = step_text(alloc, &plan.step)?;

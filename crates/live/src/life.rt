@@ -11,7 +11,7 @@ ghost use Rattle.session_text.specs.Lines.{IsLineWithinLimits};
 ghost use Rattle.session.specs.Reports.{shown_at};
 ghost use Rattle.session.specs.Worlds.{holding, with_id, without_id};
 ghost use Rattle.live.specs.Living as living;
-ghost use Rattle.live.specs.Living.{Living, of_change, of_redo, of_taking, of_undo, opened_as, seated, told};
+ghost use Rattle.live.specs.Living.{Living, of_change, of_taking, of_turn, opened_as, seated, told};
 ghost use Rattle.live.specs.Standing.{HasAnswered, IsGiven, LifeStandsFor};
 
 use crate::words::message_faulty;
@@ -20,6 +20,7 @@ use board_base::{Bytes, List, Stop};
 use board_commands::{Capture, Command};
 use drawn_words::{draw_word, generator_of};
 use elem::Element;
+use history::Direction;
 use json_text::Text;
 use rand_pcg::Pcg32;
 use replica::Replica;
@@ -98,8 +99,8 @@ impl Life {
                 capture,
                 command,
             } => self.change(alloc, *time, *capture, command),
-            Line::Undo { time } => self.undo(alloc, *time),
-            Line::Redo { time } => self.redo(alloc, *time),
+            Line::Undo { time } => self.turn(alloc, Direction::Undo, *time),
+            Line::Redo { time } => self.turn(alloc, Direction::Redo, *time),
             Line::Take { elements } => self.take(alloc, elements.as_slice()),
             Line::Receive { text } => self.receive(alloc, text),
             Line::Hold { id } => self.hold(alloc, id),
@@ -132,28 +133,15 @@ impl Life {
         Ok(text)
     }
 
-    /// The user undoes a step.
-    fn undo(&mut self, alloc: Global, time: u64) -> Result<Bytes, AllocError>
+    /// The user undoes, or redoes, a step.
+    fn turn(&mut self, alloc: Global, direction: Direction, time: u64) -> Result<Bytes, AllocError>
         requires { time ≤ greatest_whole }
         ensures given { IfOk result (λ text. (l : Living) → LifeStandsFor self.old l
-            → IsGiven (of_undo time l) text self.new) }
+            → IsGiven (of_turn direction time l) text self.new) }
         ensures err { OnErr result (self.new ≡ self.old) }
     {
         let (nonce, generator) = drawn(&self.generator, self.number)?;
-        let text = acting::undo(alloc, &mut self.replica, time, nonce)?;
-        self.generator = generator;
-        Ok(text)
-    }
-
-    /// The user redoes a step.
-    fn redo(&mut self, alloc: Global, time: u64) -> Result<Bytes, AllocError>
-        requires { time ≤ greatest_whole }
-        ensures given { IfOk result (λ text. (l : Living) → LifeStandsFor self.old l
-            → IsGiven (of_redo time l) text self.new) }
-        ensures err { OnErr result (self.new ≡ self.old) }
-    {
-        let (nonce, generator) = drawn(&self.generator, self.number)?;
-        let text = acting::redo(alloc, &mut self.replica, time, nonce)?;
+        let text = acting::turn(alloc, &mut self.replica, direction, time, nonce)?;
         self.generator = generator;
         Ok(text)
     }

@@ -58,7 +58,7 @@ among-all ids i id within there old mid new before step x =
     by false b c = refl
 
 -- some ids but for one, one more each time
-others-of : (ids : List (List ℕ)) (i : ℕ) (other : List ℕ) → i < length ids → other ≡ get_or ids i other → (x : List ℕ) → is_among (take (i + 1) ids) x ≡ (bytes_eq x other || is_among (take i ids) x)
+pub others-of : (ids : List (List ℕ)) (i : ℕ) (other : List ℕ) → i < length ids → other ≡ get_or ids i other → (x : List ℕ) → is_among (take (i + 1) ids) x ≡ (bytes_eq x other || is_among (take i ids) x)
 others-of ids i other within there x =
     ap (λ xs. is_among xs x) (take_more ids i other within ∙ ap (λ y. take i ids ++ y ∷ []) (sym there)) ∙ among-push (take i ids) other x
 

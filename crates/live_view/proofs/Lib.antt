@@ -20,5 +20,6 @@ pub mod RunLaws
 pub mod Searched
 pub mod ShownAfter
 pub mod Stepping
+pub mod UnsettledLaws
 pub mod Untouched
 pub mod CallerLemmas

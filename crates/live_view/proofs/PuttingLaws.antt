@@ -50,7 +50,7 @@ place-same (x ∷ es) (y ∷ fs) zero e ids indices is =
 place-same (x ∷ es) (y ∷ fs) (suc i) e ids indices is = place-same es fs i e (cc) (cc) is
 
 module _ (put : Put) (es : List ElementValue) (here : IsInPlace es put) where
-  next : (puts : List Put) → AllByRecursion (IsInPlace es) puts → AllByRecursion (IsInPlace (set es put.at put.e)) puts
+  pub next : (puts : List Put) → AllByRecursion (IsInPlace es) puts → AllByRecursion (IsInPlace (set es put.at put.e)) puts
   next puts all =
       All-weaker (IsInPlace es) (IsInPlace (set es put.at put.e))
       (λ (p : Put) is. place-same es (set es put.at put.e) p.at p.e (sym (ids-set es put.at put.e here)) (sym (indices-set es put.at put.e here)) is) puts all

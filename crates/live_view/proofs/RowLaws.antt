@@ -15,7 +15,8 @@ use Rattle.links.specs.Rows.{has_row, same_row, is_for, row_of, rows_of}
 use Rattle.links.specs.Steps.{names_id}
 use Rattle.links.proofs.CallerLemmas.{rows_of-named, list_any-map}
 use Rattle.live_view.specs.inner.Coming.{HasGone}
-use Rattle.live_view.specs.Reached.{is_among, HaveRowsOf}
+use Rattle.live_view.specs.Reached.{is_among}
+use Rattle.view.specs.Kept.{HaveRowsOf}
 use Rattle.live_view.specs.Replacing.{names_as, AreRowsOfAll, HaveReplaced}
 
 -- ---- truths

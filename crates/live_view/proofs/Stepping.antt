@@ -15,7 +15,8 @@ use Rattle.links.specs.declared.rows.LinkRow.{LinkRow}
 use Rattle.links.specs.Rows.{is_for, namer_of}
 use Rattle.links.specs.Steps.{names_id}
 use Rattle.links.proofs.CallerLemmas.{list_any-map, list_any-filter}
-use Rattle.live_view.specs.Reached.{is_among, HaveStepped, HaveRowsOf, IsStartedBy, AreStartedBy}
+use Rattle.live_view.specs.Reached.{is_among, HaveStepped, IsStartedBy, AreStartedBy}
+use Rattle.view.specs.Kept.{HaveRowsOf}
 
 -- ---- from one id
 one_only : (id x : List ℕ) → is_among (id ∷ []) x ≡ true → x ≡ id

@@ -2,11 +2,8 @@
 use Rattle.std.specs.Prelude.{◌≡◌, ℕ, List, Bool, true, false, bytes_eq, Contains, All}
 use Rattle.std.specs.BTreeSet.{BTreeSet}
 use Rattle.std.specs.List.{list_any, IsDistinct}
-use Rattle.std.specs.Option.{option_map_or}
 use Rattle.elem.specs.ElementValue.{ElementValue}
-use Rattle.elem_store.specs.Updates.{element_of}
 use Rattle.links.specs.declared.rows.LinkRow.{LinkRow}
-use Rattle.links.specs.Rows.{has_row}
 use Rattle.links.specs.Steps.{names_id}
 use Rattle.links.specs.Tables.{has_seen}
 
@@ -22,13 +19,6 @@ pub record AreIds (ids : List (List ℕ)) (seen : BTreeSet (List ℕ)) : Type 0 
 -- the id that a row is for
 abbrev pub named_of : LinkRow → List ℕ
 named_of row = row.named
-
--- the rows are those of what each element names
-abbrev pub HaveRowsOf : List ElementValue → List LinkRow → Type 0
-HaveRowsOf elements rows =
-    (named namer : List ℕ)
-    → has_row rows (record { named = named; namer = namer })
-    ≡ option_map_or (names_id named) (element_of elements namer) false
 
 -- The ids of one list are among others, as is what is one step of naming from some of them.
 pub record HaveStepped (elements : List ElementValue) (over from to : List (List ℕ)) : Type 0 where

@@ -1,5 +1,6 @@
 -- Elements that take the places of those of their ids. This project's own.
 use Rattle.std.specs.Prelude.{◌≡◌, ℕ, List, Bool, true, ◌&&◌, Option, All, Contains, bytes_eq, filter, filter_map, map}
+use Rattle.std.specs.BTreeSet.{BTreeSet}
 use Rattle.std.specs.List.{list_any, IsDistinct}
 use Rattle.std.specs.Option.{option_or}
 use Rattle.frac_keys.specs.Rising.{are_rising}
@@ -12,7 +13,8 @@ use Rattle.view.specs.Settled.{settled}
 use Rattle.view.specs.Shown.{in_scene_order, without_index, IsView}
 use Rattle.live_view.specs.declared.places.Put.{Put}
 use Rattle.live_view.specs.Putting.{puts_of, IsInPlace}
-use Rattle.live_view.specs.Reached.{is_among, AreStartedBy, HaveReached, HaveRowsOf}
+use Rattle.live_view.specs.Reached.{is_among, AreStartedBy, HaveReached}
+use Rattle.view.specs.Kept.{AreOthersAsStored, HaveRowsOf}
 
 -- the element of an id after new ones took the places of those of their ids
 abbrev pub element_after : List ElementValue → List ElementValue → List ℕ → Option ElementValue
@@ -48,7 +50,10 @@ pub record AreRepairs (live shown news : List ElementValue) (puts : List Put) : 
       (filter (λ (e : ElementValue). is_among near e.id)
       (settled (in_scene_order (filter_map (element_after live news) wide))))
 
--- A view, its elements in the order of their ids, what is shown of them, and the rows of who names whom.
-pub record IsLiveView (live shown : List ElementValue) (rows : List LinkRow) : Type 0 where
+-- A view, its elements in the order of their ids, what is shown of them, the rows of who names whom, and the ids of
+-- those that may be shown otherwise than they are stored.
+pub record IsLiveView (live shown : List ElementValue) (rows : List LinkRow)
+    (unsettled : BTreeSet (List ℕ)) : Type 0 where
   pub view : IsView live shown
   pub table : HaveRowsOf live rows
+  pub others : AreOthersAsStored unsettled live shown

@@ -2,3 +2,4 @@
 pub mod Coming
 pub mod Following
 pub mod Runs
+pub mod Unsettled

@@ -10,7 +10,8 @@ ghost use Rattle.elem_store.specs.Updates.{ids_of};
 ghost use Rattle.index_repair.specs.Keyed.{with_index};
 ghost use Rattle.view.specs.Shown.{comes_before, is_live};
 ghost use Rattle.live_view.specs.inner.Coming.{all_stored, rekeyed, AreAround, ArePutBeside, HasGone, IsComing, IsGoing, IsPlaceFor};
-ghost use Rattle.live_view.specs.Reached.{AreIds, HaveRowsOf};
+ghost use Rattle.live_view.specs.Reached.{AreIds};
+ghost use Rattle.view.specs.Kept.{HaveRowsOf};
 ghost use Rattle.live_view.specs.Replacing.{HaveReplaced};
 
 use crate::ids::Ids;
@@ -20,6 +21,7 @@ use crate::places::{Put, order_of, place_of, place_shown, put_all};
 use crate::reach::{reached, started_by};
 use crate::replacing::{puts_near, settled_after};
 use crate::runs::{Rekeying, keys_with, keys_without, stored_of};
+use crate::unsettled::{note_all, settle_all, touched};
 use board_base::List;
 use elem::Element;
 use frac_keys::Key;
@@ -68,11 +70,14 @@ impl Kept {
             return Ok(false);
         };
         let Coming { own, held, puts } = coming;
+        let ids = touched(alloc, &self.shown, &puts, &e.id, &rekeying)?;
+        note_all(&mut self.unsettled, &ids)?;
         put_all(&mut self.shown, puts);
         insert(&mut self.shown, place, own);
         set_keys(&mut self.shown, rekeying);
         insert(&mut self.live, at, held);
         self.table.replace(&List::new(alloc), rows);
+        settle_all(&mut self.unsettled, &self.live, &self.shown, &ids);
         Ok(true)
     }
 
@@ -97,11 +102,14 @@ impl Kept {
             return Ok(false);
         };
         let rows = rows_of(alloc, e)?;
+        let ids = touched(alloc, &self.shown, &puts, id, &rekeying)?;
+        note_all(&mut self.unsettled, &ids)?;
         put_all(&mut self.shown, puts);
         self.shown.remove(place);
         set_keys(&mut self.shown, rekeying);
         self.live.remove(at);
         self.table.replace(&rows, List::new(alloc));
+        settle_all(&mut self.unsettled, &self.live, &self.shown, &ids);
         Ok(true)
     }
 }

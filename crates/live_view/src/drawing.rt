@@ -5,7 +5,7 @@ ghost use Rattle.std.specs.List.{list_all};
 ghost use Rattle.frac_keys.specs.Rising.{are_rising};
 ghost use Rattle.elem_store.specs.Updates.{ids_of};
 ghost use Rattle.links.specs.Rows.{has_row};
-ghost use Rattle.live_view.specs.Reached.{HaveRowsOf};
+ghost use Rattle.view.specs.Kept.{HaveRowsOf};
 ghost use Rattle.view.specs.Settled.{settled};
 ghost use Rattle.elem.specs.Order.{HaveDistinctIds};
 ghost use Rattle.index_repair.specs.Keyed.{HaveKeysOrNone};
@@ -14,6 +14,7 @@ ghost use Rattle.view.specs.Shown.{is_live, live_elements, placed, shown};
 use crate::kept::Kept;
 use crate::order;
 use crate::replacing::rows_of_all;
+use crate::unsettled::unsettled_of;
 use board_base::List;
 use elem::Element;
 use elem_store::Store;
@@ -29,11 +30,14 @@ pub(crate) fn kept_of(alloc: Global, store: &Store) -> Result<Kept, AllocError>
 {
     let live = live_of(alloc, store)?;
     let shown = shown_of(alloc, List::from_vec(elements_copied(alloc, &live)?))?;
+    let shown = shown.into_vec();
     let table = table_of(alloc, &live)?;
+    let unsettled = unsettled_of(alloc, &live, &shown)?;
     Ok(Kept {
         live,
-        shown: shown.into_vec(),
+        shown,
         table,
+        unsettled,
     })
 }
 

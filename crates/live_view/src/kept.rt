@@ -3,14 +3,18 @@
 ghost use Rattle.std.specs.Prelude.{◌≡◌, List as Items, [], IfOk, map, IsPermutation};
 ghost use Rattle.elem.specs.ElementValue.{ElementValue};
 ghost use Rattle.elem_store.specs.Updates.{ids_of};
+ghost use Rattle.view.specs.Kept.{AreOthersAsStored, HaveRowsOf};
 ghost use Rattle.view.specs.Settled.{AreSettled};
 ghost use Rattle.index_repair.specs.Keyed.{HaveRisingKeys};
 ghost use Rattle.view.specs.Shown.{live_elements, shown, bare, IsSceneOrder};
 
 use crate::drawing::{elements_copied, table_of};
+use crate::unsettled::unsettled_of;
 use elem::Element;
+use json_text::Text;
 use links::LinkTable;
 use std::alloc::{AllocError, Global};
+use std::collections::BTreeSet;
 use std::marker::Model;
 
 /// Live elements, what is shown of them, and who of them names whom. Contracts see the live elements, as stored, in the
@@ -24,6 +28,9 @@ pub(crate) struct Kept {
 
     /// Who of them names whom.
     pub(crate) table: LinkTable,
+
+    /// The ids of those that may be shown otherwise than they are stored.
+    pub(crate) unsettled: BTreeSet<Text>,
 }
 
 // By hand, so that whoever drops what is kept sees one call and not its parts.
@@ -33,6 +40,7 @@ impl Drop for Kept {
             live: _live,
             shown: _shown,
             table: _table,
+            unsettled: _unsettled,
         } = self;
     }
 }
@@ -46,7 +54,7 @@ impl Model for Kept {
 
     ghost view = { λ v. v.live.items };
 
-    ghost invariant = { λ v. IsLiveView v.live.items v.shown.items v.table.rows };
+    ghost invariant = { λ v. IsLiveView v.live.items v.shown.items v.table.rows v.unsettled };
 }
 
 impl Kept {
@@ -58,6 +66,7 @@ impl Kept {
             live: Vec::new(alloc),
             shown: Vec::new(alloc),
             table: LinkTable::new(alloc),
+            unsettled: BTreeSet::new(alloc),
         }
     }
 
@@ -76,6 +85,20 @@ impl Kept {
         self.shown.as_slice()
     }
 
+    /// Who of the live elements names whom.
+    pub(crate) fn names(&self) -> &LinkTable
+        ensures { HaveRowsOf self.now result.now.rows }
+    {
+        &self.table
+    }
+
+    /// The ids of the live elements that may be shown otherwise than they are stored.
+    pub(crate) fn unsettled(&self) -> &BTreeSet<Text>
+        ensures { AreOthersAsStored result.now self.now (shown self.now) }
+    {
+        &self.unsettled
+    }
+
     /// The same, copied.
     pub(crate) fn copied(&self) -> Result<Kept, AllocError>
         ensures { IfOk result (λ copy. copy ≡ self.now) }
@@ -85,6 +108,7 @@ impl Kept {
             live: elements_copied(alloc, &self.live)?,
             shown: elements_copied(alloc, &self.shown)?,
             table: table_of(alloc, &self.live)?,
+            unsettled: unsettled_of(alloc, &self.live, &self.shown)?,
         })
     }
 }

@@ -15,5 +15,6 @@ mod redrawing;
 mod replacing;
 mod runs;
 mod sequence;
+mod unsettled;
 
 pub use live::LiveView;

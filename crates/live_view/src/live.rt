@@ -4,6 +4,7 @@ ghost use Rattle.std.specs.Prelude.{◌≡◌, List as Items, [], Ok, true, fals
 ghost use Rattle.frac_keys.specs.Rising.{are_rising};
 ghost use Rattle.elem.specs.ElementValue.{ElementValue};
 ghost use Rattle.elem_store.specs.Updates.{ids_of};
+ghost use Rattle.view.specs.Kept.{AreOthersAsStored, HaveRowsOf};
 ghost use Rattle.view.specs.Settled.{AreSettled};
 ghost use Rattle.index_repair.specs.Keyed.{HaveRisingKeys};
 ghost use Rattle.view.specs.Shown.{live_elements, shown, bare, IsSceneOrder};
@@ -12,7 +13,10 @@ ghost use Rattle.live_view.specs.inner.Following.{HaveFollowed};
 
 use crate::kept::Kept;
 use elem::Element;
+use json_text::Text;
+use links::LinkTable;
 use std::alloc::{AllocError, Global};
+use std::collections::BTreeSet;
 use std::marker::Model;
 use std::mem;
 
@@ -77,6 +81,21 @@ impl LiveView {
             → shown (live_elements stored) ≡ result.now }
     {
         self.kept.elements()
+    }
+
+    /// Who of the live elements names whom. It takes no memory.
+    pub fn names(&self) -> &LinkTable
+        ensures { HaveRowsOf self.now result.now.rows }
+    {
+        self.kept.names()
+    }
+
+    /// The ids of the live elements that may be shown otherwise than they are stored: all others are shown as they are
+    /// stored. It takes no memory.
+    pub fn unsettled(&self) -> &BTreeSet<Text>
+        ensures { AreOthersAsStored result.now self.now (shown self.now) }
+    {
+        self.kept.unsettled()
     }
 
     /// Lets an element take the place of that of its id, if they have one outline, and tells whether they do. For want

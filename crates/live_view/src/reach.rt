@@ -5,7 +5,8 @@ ghost use Rattle.frac_keys.specs.Rising.{are_rising};
 ghost use Rattle.elem.specs.ElementValue.{ElementValue};
 ghost use Rattle.elem_store.specs.Updates.{element_of, ids_of};
 ghost use Rattle.links.specs.Steps.{names_id};
-ghost use Rattle.live_view.specs.Reached.{is_among, AreIds, AreStartedBy, HaveReached, HaveRowsOf, HaveStepped, named_of};
+ghost use Rattle.live_view.specs.Reached.{is_among, AreIds, AreStartedBy, HaveReached, HaveStepped, named_of};
+ghost use Rattle.view.specs.Kept.{HaveRowsOf};
 
 use crate::ids::Ids;
 use crate::places::element_of;

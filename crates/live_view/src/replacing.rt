@@ -11,7 +11,8 @@ ghost use Rattle.view.specs.Settled.{settled};
 ghost use Rattle.elem.specs.Order.{HaveDistinctIds};
 ghost use Rattle.view.specs.Shown.{in_scene_order, is_live, without_index};
 ghost use Rattle.live_view.specs.Putting.{puts_of, IsInPlace};
-ghost use Rattle.live_view.specs.Reached.{is_among, AreIds, HaveRowsOf};
+ghost use Rattle.live_view.specs.Reached.{is_among, AreIds};
+ghost use Rattle.view.specs.Kept.{HaveRowsOf};
 ghost use Rattle.live_view.specs.Replacing as replacing;
 ghost use Rattle.live_view.specs.Replacing.{AreRepairs, AreRowsOfAll, HaveReplaced};
 
@@ -21,6 +22,7 @@ use crate::kept::Kept;
 use crate::order;
 use crate::places::{Put, element_of, place_of, place_shown, put_all};
 use crate::reach::{reached, started_by};
+use crate::unsettled::{add_ids, ids_put, note_all, settle_all};
 use board_base::List;
 use elem::Element;
 use frac_keys::Key;
@@ -48,9 +50,13 @@ impl Kept {
         let old_rows = rows_of_all(alloc, &held_of(alloc, &self.live, news)?)?;
         let rows = rows_of_all(alloc, news)?;
         self.table.reserve(rows.as_slice().len())?;
+        let mut ids = ids_put(alloc, &shown)?;
+        add_ids(&mut ids, news.as_slice())?;
+        note_all(&mut self.unsettled, &ids)?;
         put_all(&mut self.live, held);
         put_all(&mut self.shown, shown);
         self.table.replace(&old_rows, rows);
+        settle_all(&mut self.unsettled, &self.live, &self.shown, &ids);
         Ok(true)
     }
 }

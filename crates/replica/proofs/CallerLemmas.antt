@@ -5,3 +5,4 @@ pub use Rattle.replica.proofs.Agreeing.{same-bare}
 pub use Rattle.replica.proofs.Ways.{step-found}
 pub use Rattle.replica.proofs.Moving.{captured-none, redo-is_found, redone-is, undo-is_found, undone-all}
 pub use Rattle.replica.proofs.Delivering.{empty-stays}
+pub use Rattle.replica.proofs.ReplicaLaws.{captured-held, given-held, turn-held-of}

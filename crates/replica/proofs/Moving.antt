@@ -12,13 +12,14 @@ use Rattle.elem_store.proofs.CallerLemmas.{Contains-head, Contains-cons, member}
 use Rattle.delta.specs.Pairs.{Pair, pair_with, pairs_from}
 use Rattle.delta.specs.Parts.{counted}
 use Rattle.delta.proofs.CallerLemmas.{Contains-map}
+use Rattle.history.specs.declared.planned.Direction.TheVariants.{Undo, Redo}
 use Rattle.undoing.specs.Carrying.{taken_all}
 use Rattle.undoing.specs.Differing.{same_kind, differ, is_changed, pending}
 use Rattle.undoing.specs.Steps.{step}
 use Rattle.undoing.proofs.CallerLemmas.{differ-same, taken_all-rising}
 use Rattle.replica.specs.Back.{AgreesWith, IsAs, HasNothingPending, IsCaptured, IsStoredChange, changed, changed_all, AreChanges, Call, IsDone, undone_all, redone_all, AreUndos, AreRedos}
 use Rattle.replica.specs.Sound.{IsSoundState}
-use Rattle.replica.specs.State.{State, noted, stored_with, undo_on, redo_on, after_undo_of, after_redo_of, after_undo, after_redo}
+use Rattle.replica.specs.State.{State, noted, stored_with, undo_on, redo_on, after_turn_of, after_undo, after_redo}
 use Rattle.replica.proofs.Agreeing.{agrees-itself, agrees-same, same-bare, looks-same}
 use Rattle.replica.proofs.Changing.{pending-meets, none-agrees, leads-stored, new-elements, new-rising, new-alike, new-entry, new-visible, changed-state}
 use Rattle.replica.proofs.Ways.{IsWay, way-stepped, way-found}
@@ -77,7 +78,7 @@ module _ (stored_at : ℕ → List ElementValue) where
         ap (λ e. step s.stored call.time call.nonce (noted e s).undo (noted e s).redo) (sym none) ∙ done.is in
         let own = way-stepped (stored_at i) (stored_at (suc i)) (earlier stored_at i) (later stored_at k (suc i)) s.stored call.time call.nonce
         at.elements at.rise done.time done.nonce at.agrees s.undo s.redo at.on at.back done.turn found in
-        subst (IsAt stored_at i (suc k)) (sym (ap (λ o. after_undo_of o s) done.is)) (record {
+        subst (IsAt stored_at i (suc k)) (sym (ap (λ o. after_turn_of Undo o s) done.is)) (record {
           elements = own.elements;
           rise = own.rise;
           still = agrees-itself (taken_all done.turn.given s.stored);
@@ -93,7 +94,7 @@ module _ (stored_at : ℕ → List ElementValue) where
         ap (λ e. step s.stored call.time call.nonce (noted e s).redo (noted e s).undo) (sym none) ∙ done.is in
         let own = way-stepped (stored_at (suc i)) (stored_at i) (later stored_at k (suc i)) (earlier stored_at i) s.stored call.time call.nonce
         at.elements at.rise done.time done.nonce at.agrees s.redo s.undo at.back at.on done.turn found in
-        subst (IsAt stored_at (suc i) k) (sym (ap (λ o. after_redo_of o s) done.is)) (record {
+        subst (IsAt stored_at (suc i) k) (sym (ap (λ o. after_turn_of Redo o s) done.is)) (record {
           elements = own.elements;
           rise = own.rise;
           still = agrees-itself (taken_all done.turn.given s.stored);

@@ -1,5 +1,5 @@
 -- A replica stands for what its board stands for, with the ids that are held.
-use Rattle.std.proofs.Common.{◌≡◌, ◌≤◌, ℕ, Bool, true, false, List, [], ◌∷◌, Option, Some, None, Result, Ok, Err, IfOk, IfErr, OnOk, OnErr, refl, sym, ap, ◌∙◌, subst}
+use Rattle.std.proofs.Common.{◌≡◌, ◌≤◌, ℕ, List, [], ◌∷◌, Option, Some, None, Result, Ok, Err, IfOk, IfErr, OnOk, OnErr, refl, sym, ap, ◌∙◌, subst}
 use Rattle.board_base.specs.declared.stop.Stop.{Stop}
 use Rattle.board_base.specs.declared.stop.Stop.TheVariants.{Fault, Memory}
 use Rattle.elem.specs.ElementValue.{ElementValue}
@@ -14,6 +14,7 @@ use Rattle.board_commands.specs.declared.command.Capture.TheVariants.{Now, Later
 use Rattle.board_commands.specs.declared.command.Command.{Command}
 use Rattle.effects.specs.declared.refusal.Refusal.{Refusal}
 use Rattle.history.specs.Stacks.{OnFull, put_step}
+use Rattle.history.specs.declared.planned.Direction.{Direction}
 use Rattle.undoing.specs.Differing.{pending}
 use Rattle.undoing.specs.Steps.{Turn}
 use Rattle.replica.specs.Boards.{Told, ToldStandsFor, IsTold, HasCarriedAll, HasPutStep, HasStopped, HasStoredGiven, HasTurned, IsPlanOf, IsPlannedStep}
@@ -40,7 +41,7 @@ noted-held : (pairs : List Pair) (s : State) → (state.noted pairs s).held ≡ 
 noted-held [] s = refl
 noted-held (pair ∷ pairs) s = refl
 
-captured-held : (s : State) → (state.captured s).held ≡ s.held
+pub captured-held : (s : State) → (state.captured s).held ≡ s.held
 captured-held s = noted-held (pending s.snapshot s.stored) s
 
 pub given-held : (capture : Capture) (given : List ElementValue) (s : State) → (state.after_given capture given s).held ≡ s.held
@@ -48,21 +49,13 @@ given-held Now given s = captured-held (state.stored_with given s)
 given-held Later given s = refl
 given-held Never given s = refl
 
-undo-held-of : (o : Option (Result Turn (List ℕ))) (s : State) → (state.after_undo_of o s).held ≡ s.held
-undo-held-of None s = captured-held s
-undo-held-of (Some (Err id)) s = refl
-undo-held-of (Some (Ok turn)) s = refl
+pub turn-held-of : (direction : Direction) (o : Option (Result Turn (List ℕ))) (s : State) → (state.after_turn_of direction o s).held ≡ s.held
+turn-held-of direction None s = captured-held s
+turn-held-of direction (Some (Err id)) s = refl
+turn-held-of direction (Some (Ok turn)) s = refl
 
-redo-held-of : (o : Option (Result Turn (List ℕ))) (s : State) → (state.after_redo_of o s).held ≡ s.held
-redo-held-of None s = captured-held s
-redo-held-of (Some (Err id)) s = refl
-redo-held-of (Some (Ok turn)) s = refl
-
-pub undo-held : (time nonce : ℕ) (s : State) → (state.after_undo time nonce s).held ≡ s.held
-undo-held time nonce s = undo-held-of (state.undo_on time nonce s) s
-
-pub redo-held : (time nonce : ℕ) (s : State) → (state.after_redo time nonce s).held ≡ s.held
-redo-held time nonce s = redo-held-of (state.redo_on time nonce s) s
+turn-held : (direction : Direction) (time nonce : ℕ) (s : State) → (state.after_turn direction time nonce s).held ≡ s.held
+turn-held direction time nonce s = turn-held-of direction (state.turn_on direction time nonce s) s
 
 -- what a replica stands for after a call that keeps the held ids
 pub after-stands : (old new : Told) (held : List (List ℕ)) (after : State → State) → ((s : State) → ToldStandsFor old s → ToldStandsFor new (after s)) → ((s : State) → (after s).held ≡ s.held)
@@ -117,41 +110,35 @@ module _ (old new : Told) (held : List (List ℕ)) (replica : Kept) (is : kept_o
   pub planned-told : (plan : PlannedStep) → IsPlannedStep replica.stored replica.snapshot replica.stacks plan → IsPlannedStep old.stored old.snapshot old.stacks plan
   planned-told plan h = subst (λ (k : Kept). IsPlannedStep k.stored k.snapshot k.stacks plan) (sym is) h
 
-  own-answers : (plan : PlannedStep) → IsPlannedStep old.stored old.snapshot old.stacks plan → (s : State) → ReplicaStandsFor replica s → state.IsStepAnswer plan.step (state.turn_on plan.undo plan.time plan.nonce s)
+  own-answers : (plan : PlannedStep) → IsPlannedStep old.stored old.snapshot old.stacks plan → (s : State) → ReplicaStandsFor replica s → state.IsStepAnswer plan.step (state.turn_on plan.direction plan.time plan.nonce s)
   own-answers plan h s st =
-      plan-answers plan.undo old plan.time plan.nonce h.time h.nonce told.0 h.entry h.stands plan.step (put_step plan.history old.stacks) h.comes s (to-told old held s (own-stands s st))
+      plan-answers plan.direction old plan.time plan.nonce h.time h.nonce told.0 h.entry h.stands plan.step (put_step plan.history old.stacks) h.comes s (to-told old held s (own-stands s st))
 
-  pub planned-answers : (undo : Bool) (time nonce : ℕ) (r : Result PlannedStep (Stop VersionFull)) → IfOk r (IsPlannedStep old.stored old.snapshot old.stacks) → IfOk r (IsPlanOf undo time nonce)
-      → IfOk r (λ plan. (s : State) → ReplicaStandsFor replica s → state.IsStepAnswer plan.step (state.turn_on undo time nonce s))
-  planned-answers undo time nonce (Ok plan) h call = λ (s : State) (st : ReplicaStandsFor replica s).
-      let own : state.IsStepAnswer plan.step (state.turn_on plan.undo plan.time nonce s) = subst (λ (n : ℕ). state.IsStepAnswer plan.step (state.turn_on plan.undo plan.time n s)) call.of_nonce (own-answers plan h s st) in
-      let timed : state.IsStepAnswer plan.step (state.turn_on plan.undo time nonce s) = subst (λ (t : ℕ). state.IsStepAnswer plan.step (state.turn_on plan.undo t nonce s)) call.of_time own in
-      subst (λ (u : Bool). state.IsStepAnswer plan.step (state.turn_on u time nonce s)) call.of_undo timed
-  planned-answers undo time nonce (Err stop) h call = tt
+  pub planned-answers : (direction : Direction) (time nonce : ℕ) (r : Result PlannedStep (Stop VersionFull)) → IfOk r (IsPlannedStep old.stored old.snapshot old.stacks) → IfOk r (IsPlanOf direction time nonce)
+      → IfOk r (λ plan. (s : State) → ReplicaStandsFor replica s → state.IsStepAnswer plan.step (state.turn_on direction time nonce s))
+  planned-answers direction time nonce (Ok plan) h call = λ (s : State) (st : ReplicaStandsFor replica s).
+      subst (state.IsStepAnswer plan.step) (λ i. state.turn_on (call.of_direction i) (call.of_time i) (call.of_nonce i) s) (own-answers plan h s st)
+  planned-answers direction time nonce (Err stop) h call = tt
 
-  full-stops : (undo : Bool) (time nonce : ℕ) → time ≤ greatest_whole → nonce ≤ greatest_whole → (stop : Stop VersionFull) → OnFull stop (HasStopped undo old) → OnFull stop (λ id. (s : State) → ReplicaStandsFor replica s → state.turn_on undo time nonce s ≡ Some (Err id))
-  full-stops undo time nonce early small (Fault full) h = λ s st. turn-full undo old time nonce early small told.0 full.0 h s (to-told old held s (own-stands s st))
-  full-stops undo time nonce early small Memory h = tt
+  full-stops : (direction : Direction) (time nonce : ℕ) → time ≤ greatest_whole → nonce ≤ greatest_whole → (stop : Stop VersionFull) → OnFull stop (HasStopped direction old) → OnFull stop (λ id. (s : State) → ReplicaStandsFor replica s → state.turn_on direction time nonce s ≡ Some (Err id))
+  full-stops direction time nonce early small (Fault full) h = λ s st. turn-full direction old time nonce early small told.0 full.0 h s (to-told old held s (own-stands s st))
+  full-stops direction time nonce early small Memory h = tt
 
-  pub plan-stops : (undo : Bool) (time nonce : ℕ) → time ≤ greatest_whole → nonce ≤ greatest_whole → (r : Result PlannedStep (Stop VersionFull)) → IfErr r (λ stop. OnFull stop (HasStopped undo old)) → IfErr r (λ stop. OnFull stop (λ id. (s : State) → ReplicaStandsFor replica s → state.turn_on undo time nonce s ≡ Some (Err id)))
-  plan-stops undo time nonce early small (Ok plan) full = tt
-  plan-stops undo time nonce early small (Err stop) full = full-stops undo time nonce early small stop full
-
-  turn-held : (undo : Bool) (time nonce : ℕ) (s : State) → (state.after_turn undo time nonce s).held ≡ s.held
-  turn-held true time nonce s = undo-held time nonce s
-  turn-held false time nonce s = redo-held time nonce s
+  pub plan-stops : (direction : Direction) (time nonce : ℕ) → time ≤ greatest_whole → nonce ≤ greatest_whole → (r : Result PlannedStep (Stop VersionFull)) → IfErr r (λ stop. OnFull stop (HasStopped direction old)) → IfErr r (λ stop. OnFull stop (λ id. (s : State) → ReplicaStandsFor replica s → state.turn_on direction time nonce s ≡ Some (Err id)))
+  plan-stops direction time nonce early small (Ok plan) full = tt
+  plan-stops direction time nonce early small (Err stop) full = full-stops direction time nonce early small stop full
 
   -- a planned step that was put
   module _ (plan : PlannedStep) (h : IsPlannedStep old.stored old.snapshot old.stacks plan) (put : HasPutStep old plan.step (put_step plan.history old.stacks) new) where
-    turned : HasTurned plan.undo old plan.time plan.nonce plan.step new
+    turned : HasTurned plan.direction old plan.time plan.nonce plan.step new
     turned = turned-from old new plan h put
 
     pub put-told : IsTold new
     put-told = (
-      turned-sound plan.undo old plan.time plan.nonce h.time h.nonce told.0 plan.step new turned,
-      (state.after_turn plan.undo plan.time plan.nonce told.1.0, turned-stands plan.undo old plan.time plan.nonce h.time h.nonce told.0 plan.step new turned told.1.0 told.1.1),
+      turned-sound plan.direction old plan.time plan.nonce h.time h.nonce told.0 plan.step new turned,
+      (state.after_turn plan.direction plan.time plan.nonce told.1.0, turned-stands plan.direction old plan.time plan.nonce h.time h.nonce told.0 plan.step new turned told.1.0 told.1.1),
     )
 
-    pub put-stands : (s : State) → ReplicaStandsFor replica s → ReplicaStandsFor (kept_of new held) (state.after_turn plan.undo plan.time plan.nonce s)
+    pub put-stands : (s : State) → ReplicaStandsFor replica s → ReplicaStandsFor (kept_of new held) (state.after_turn plan.direction plan.time plan.nonce s)
     put-stands s st =
-        after-stands old new held (state.after_turn plan.undo plan.time plan.nonce) (turned-stands plan.undo old plan.time plan.nonce h.time h.nonce told.0 plan.step new turned) (turn-held plan.undo plan.time plan.nonce) s (own-stands s st)
+        after-stands old new held (state.after_turn plan.direction plan.time plan.nonce) (turned-stands plan.direction old plan.time plan.nonce h.time h.nonce told.0 plan.step new turned) (turn-held plan.direction plan.time plan.nonce) s (own-stands s st)

@@ -1,17 +1,19 @@
 -- What a board is after undo or redo: it is sound, and stands for what the same makes of a state.
-use Rattle.std.proofs.Common.{◌≡◌, ◌≤◌, ℕ, Bool, true, false, not, List, Option, Some, None, Result, Ok, Err, Contains, refl, sym, ◌∙◌, subst}
+use Rattle.std.proofs.Common.{◌≡◌, ◌≤◌, ℕ, true, List, Some, None, Ok, Err, Contains, refl, sym, ◌∙◌, subst}
 use Rattle.std.proofs.lemmas.List.Elements.{All-weaker, All-contains_itself}
 use Rattle.elem.specs.ElementValue.{ElementValue}
 use Rattle.elem.specs.Facts.{greatest_whole}
 use Rattle.elem.specs.Said.{AreElements}
 use Rattle.elem_store.specs.Updates.{is_taken}
 use Rattle.delta.specs.Delta.{Delta}
-use Rattle.delta.specs.Pairs.{EntryStandsFor}
+use Rattle.delta.specs.Pairs.{EntryStandsFor, Pair}
 use Rattle.history.specs.Pairs.{StackStandsFor}
 use Rattle.view.specs.Shown.{live_elements}
+use Rattle.history.specs.declared.planned.Direction.{Direction}
+use Rattle.history.specs.declared.planned.Direction.TheVariants.{Undo, Redo}
 use Rattle.history.specs.declared.step.Step.{Step}
 use Rattle.history.specs.declared.step.Step.TheVariants.{Done, Nothing}
-use Rattle.history.specs.Stacks.{Stacks, HaveStoredIds, HasStepped, noted, side}
+use Rattle.history.specs.Stacks.{Stacks, HaveStoredIds, HasStepped, chosen, noted, other, side}
 use Rattle.history.proofs.CallerLemmas.{ids-stored, step-nothing, step-full, step-done, step-taken}
 use Rattle.undoing.specs.Carrying.{taken_all}
 use Rattle.undoing.specs.Differing.{pending}
@@ -61,94 +63,82 @@ module _ (old : Told) (sound : IsSound old) (entry : List Delta) (stands : Entry
   }
 
 -- ---- by which side
-side-stands : (undo : Bool) (t : Told) (s : State) → ToldStandsFor t s → StackStandsFor (side undo t.stacks) (state.entries undo s)
-side-stands true t s st = st.undo
-side-stands false t s st = st.redo
+side-stands : (direction : Direction) (t : Told) (s : State) → ToldStandsFor t s → StackStandsFor (side direction t.stacks) (state.entries direction s)
+side-stands Undo t s st = st.undo
+side-stands Redo t s st = st.redo
 
-side-ids : (undo : Bool) (stored : List ElementValue) (stacks : Stacks) → HaveStoredIds stored stacks.undo → HaveStoredIds stored stacks.redo → HaveStoredIds stored (side undo stacks)
-side-ids true stored stacks undo redo = undo
-side-ids false stored stacks undo redo = redo
+both-stand : (direction : Direction) (stacks : Stacks) (from to : List (List Pair)) → StackStandsFor (side direction stacks) from → StackStandsFor (side (other direction) stacks) to
+    → StackStandsFor stacks.undo (chosen direction from to) × StackStandsFor stacks.redo (chosen direction to from)
+both-stand Undo stacks from to own others = (own, others)
+both-stand Redo stacks from to own others = (others, own)
 
-both-ids : (undo : Bool) (stored : List ElementValue) (stacks : Stacks) → HaveStoredIds stored (side undo stacks) → HaveStoredIds stored (side (not undo) stacks) → HaveStoredIds stored stacks.undo × HaveStoredIds stored stacks.redo
-both-ids true stored stacks own other = (own, other)
-both-ids false stored stacks own other = (other, own)
+pub side-ids : (direction : Direction) (stored : List ElementValue) (stacks : Stacks) → HaveStoredIds stored stacks.undo → HaveStoredIds stored stacks.redo → HaveStoredIds stored (side direction stacks)
+side-ids Undo stored stacks undo redo = undo
+side-ids Redo stored stacks undo redo = redo
 
--- what undo, or redo, comes to
-abbrev found_in : Bool → ℕ → ℕ → State → Option (Result Turn (List ℕ))
-found_in undo time nonce s = step s.stored time nonce (state.entries undo (state.captured s)) (state.entries (not undo) (state.captured s))
-
-turn-is : (undo : Bool) (time nonce : ℕ) (s : State) (o : Option (Result Turn (List ℕ))) → found_in undo time nonce s ≡ o → state.turn_on undo time nonce s ≡ o
-turn-is true time nonce s o h = h
-turn-is false time nonce s o h = h
-
-after-done : (undo : Bool) (time nonce : ℕ) (new : Told) (s : State) (turn : Turn) → state.turn_on undo time nonce s ≡ Some (Ok turn) → new.stored ≡ taken_all turn.given s.stored → new.snapshot ≡ taken_all turn.given s.stored → StackStandsFor (side undo new.stacks) turn.from → StackStandsFor (side (not undo) new.stacks) turn.to
-    → ToldStandsFor new (state.after_turn undo time nonce s)
-after-done true time nonce new s turn found stored snapshot from to =
-    subst (λ o. ToldStandsFor new (state.after_undo_of o s)) (sym found) (record { stored = stored; snapshot = snapshot; undo = from; redo = to })
-after-done false time nonce new s turn found stored snapshot from to =
-    subst (λ o. ToldStandsFor new (state.after_redo_of o s)) (sym found) (record { stored = stored; snapshot = snapshot; undo = to; redo = from })
-
-after-none : (undo : Bool) (time nonce : ℕ) (new : Told) (s : State) → state.turn_on undo time nonce s ≡ None → ToldStandsFor new (state.captured s) → ToldStandsFor new (state.after_turn undo time nonce s)
-after-none true time nonce new s none st = subst (λ o. ToldStandsFor new (state.after_undo_of o s)) (sym none) st
-after-none false time nonce new s none st = subst (λ o. ToldStandsFor new (state.after_redo_of o s)) (sym none) st
+both-ids : (direction : Direction) (stored : List ElementValue) (stacks : Stacks) → HaveStoredIds stored (side direction stacks) → HaveStoredIds stored (side (other direction) stacks) → HaveStoredIds stored stacks.undo × HaveStoredIds stored stacks.redo
+both-ids Undo stored stacks own others = (own, others)
+both-ids Redo stored stacks own others = (others, own)
 
 -- ---- a step of undo or redo
-module _ (undo : Bool) (old : Told) (time nonce : ℕ) (early : time ≤ greatest_whole) (small : nonce ≤ greatest_whole) (sound : IsSound old) where
+module _ (direction : Direction) (old : Told) (time nonce : ℕ) (early : time ≤ greatest_whole) (small : nonce ≤ greatest_whole) (sound : IsSound old) where
   module _ (entry : List Delta) (stands : EntryStandsFor entry (pending old.snapshot old.stored)) where
     abbrev now : Stacks
     now = noted entry old.stacks
 
     -- the turn that is found
-    turn-of : (given : List ElementValue) (new : Stacks) → StacksComeBy undo old.stored time nonce (Done given) now new → (s : State) → ToldStandsFor old s
-        → (turn : Turn) × (state.turn_on undo time nonce s ≡ Some (Ok turn)) × (turn.given ≡ given) × StackStandsFor (side undo new) turn.from × StackStandsFor (side (not undo) new) turn.to
+    turn-of : (given : List ElementValue) (new : Stacks) → StacksComeBy direction old.stored time nonce (Done given) now new → (s : State) → ToldStandsFor old s
+        → (turn : Turn) × (state.turn_on direction time nonce s ≡ Some (Ok turn)) × (turn.given ≡ given) × StackStandsFor (side direction new) turn.from × StackStandsFor (side (other direction) new) turn.to
     turn-of given new comes s st =
         let was = noted-stands old sound entry stands s st in
-        let own = state.entries undo (state.captured s) in
-        let other = state.entries (not undo) (state.captured s) in
-        let t = step-done old.stored sound.stored_elements time nonce early small given (side undo now) (side (not undo) now) (side undo new) (side (not undo) new) own (side-stands undo (captured_told entry old) (state.captured s) was) comes other (side-stands (not undo) (captured_told entry old) (state.captured s) was) in
-        (t.0, turn-is undo time nonce s (Some (Ok t.0)) (subst (λ es. step es time nonce own other ≡ Some (Ok t.0)) st.stored t.1), t.2, t.3, t.4)
+        let own = state.entries direction (state.captured s) in
+        let others = state.entries (other direction) (state.captured s) in
+        let t = step-done old.stored sound.stored_elements time nonce early small given (side direction now) (side (other direction) now) (side direction new) (side (other direction) new) own (side-stands direction (captured_told entry old) (state.captured s) was) comes others (side-stands (other direction) (captured_told entry old) (state.captured s) was) in
+        (t.0, subst (λ es. step es time nonce own others ≡ Some (Ok t.0)) st.stored t.1, t.2, t.3, t.4)
 
-    none-of : (new : Stacks) → StacksComeBy undo old.stored time nonce Nothing now new → (s : State) → ToldStandsFor old s → state.turn_on undo time nonce s ≡ None
+    none-of : (new : Stacks) → StacksComeBy direction old.stored time nonce Nothing now new → (s : State) → ToldStandsFor old s → state.turn_on direction time nonce s ≡ None
     none-of new comes s st =
         let was = noted-stands old sound entry stands s st in
-        let own = state.entries undo (state.captured s) in
-        let other = state.entries (not undo) (state.captured s) in
-        turn-is undo time nonce s None (subst (λ es. step es time nonce own other ≡ None) st.stored
-        (step-nothing old.stored sound.stored_elements time nonce (side undo now) own other (side-stands undo (captured_told entry old) (state.captured s) was) comes.0))
+        let own = state.entries direction (state.captured s) in
+        let others = state.entries (other direction) (state.captured s) in
+        subst (λ es. step es time nonce own others ≡ None) st.stored
+        (step-nothing old.stored sound.stored_elements time nonce (side direction now) own others (side-stands direction (captured_told entry old) (state.captured s) was) comes.0)
 
     -- what a plan answers
-    pub plan-answers : (answer : Step) (new : Stacks) → StacksComeBy undo old.stored time nonce answer now new → (s : State) → ToldStandsFor old s → state.IsStepAnswer answer (state.turn_on undo time nonce s)
+    pub plan-answers : (answer : Step) (new : Stacks) → StacksComeBy direction old.stored time nonce answer now new → (s : State) → ToldStandsFor old s → state.IsStepAnswer answer (state.turn_on direction time nonce s)
     plan-answers (Done given) new comes s st = let t = turn-of given new comes s st in (t.0, t.1, sym t.2)
     plan-answers Nothing new comes s st = none-of new comes s st
 
   -- what the board is and stands for once it is put
-  pub turned-sound : (answer : Step) (new : Told) → HasTurned undo old time nonce answer new → IsSound new
+  pub turned-sound : (answer : Step) (new : Told) → HasTurned direction old time nonce answer new → IsSound new
   turned-sound (Done given) new h =
       let was = noted-sound old sound h.entry h.stands in
       let stacks = noted h.entry old.stacks in
-      let ids = ids-stored old.stored given time nonce (side undo stacks) (side (not undo) stacks) (side undo new.stacks) (side (not undo) new.stacks) h.comes (side-ids undo old.stored stacks was.undo_ids was.redo_ids) (side-ids (not undo) old.stored stacks was.undo_ids was.redo_ids) in
-      let both = both-ids undo old.stored new.stacks ids.0 ids.1 in
+      let ids = ids-stored old.stored given time nonce (side direction stacks) (side (other direction) stacks) (side direction new.stacks) (side (other direction) new.stacks) h.comes (side-ids direction old.stored stacks was.undo_ids was.redo_ids) (side-ids (other direction) old.stored stacks was.undo_ids was.redo_ids) in
+      let both = both-ids direction old.stored new.stacks ids.0 ids.1 in
       let same = sym (told-is new (taken_all given old.stored) (live_elements (taken_all given old.stored)) (taken_all given old.stored) new.stacks h.put.stored h.put.view h.put.snapshot refl) in
       subst IsSound same (stepped-sound old sound h.entry h.stands given new.stacks h.put.elements both.0 both.1)
   turned-sound Nothing new h =
       let same = sym (told-is new old.stored old.view old.stored (noted h.entry old.stacks) h.put.stored (h.put.view ∙ sym sound.view) h.put.snapshot h.comes.1) in
       subst IsSound same (noted-sound old sound h.entry h.stands)
 
-  pub turned-stands : (answer : Step) (new : Told) → HasTurned undo old time nonce answer new → (s : State) → ToldStandsFor old s → ToldStandsFor new (state.after_turn undo time nonce s)
+  pub turned-stands : (answer : Step) (new : Told) → HasTurned direction old time nonce answer new → (s : State) → ToldStandsFor old s → ToldStandsFor new (state.after_turn direction time nonce s)
   turned-stands (Done given) new h s st =
       let t = turn-of h.entry h.stands given new.stacks h.comes s st in
       let is : taken_all given old.stored ≡ taken_all t.0.given s.stored = λ i. taken_all (sym t.2 i) (st.stored i) in
-      after-done undo time nonce new s t.0 t.1 (h.put.stored ∙ is) (h.put.snapshot ∙ is) t.3 t.4
+      let stacks = both-stand direction new.stacks t.0.from t.0.to t.3 t.4 in
+      subst (λ o. ToldStandsFor new (state.after_turn_of direction o s)) (sym t.1)
+      (record { stored = h.put.stored ∙ is; snapshot = h.put.snapshot ∙ is; undo = stacks.0; redo = stacks.1 })
   turned-stands Nothing new h s st =
       let same = sym (told-is new old.stored old.view old.stored (noted h.entry old.stacks) h.put.stored (h.put.view ∙ sym sound.view) h.put.snapshot h.comes.1) in
-      after-none undo time nonce new s (none-of h.entry h.stands new.stacks h.comes s st)
+      subst (λ o. ToldStandsFor new (state.after_turn_of direction o s)) (sym (none-of h.entry h.stands new.stacks h.comes s st))
       (subst (λ (u : Told). ToldStandsFor u (state.captured s)) same (noted-stands old sound h.entry h.stands s st))
 
-  pub turn-full : (id : List ℕ) → HasStopped undo old id → (s : State) → ToldStandsFor old s → state.turn_on undo time nonce s ≡ Some (Err id)
+  pub turn-full : (id : List ℕ) → HasStopped direction old id → (s : State) → ToldStandsFor old s → state.turn_on direction time nonce s ≡ Some (Err id)
   turn-full id h s st =
       let was = noted-stands old sound h.entry h.stands s st in
       let stacks = noted h.entry old.stacks in
-      let own = state.entries undo (state.captured s) in
-      let other = state.entries (not undo) (state.captured s) in
-      turn-is undo time nonce s (Some (Err id)) (subst (λ es. step es time nonce own other ≡ Some (Err id)) st.stored
-      (step-full old.stored sound.stored_elements time nonce (side undo stacks) (side (not undo) stacks) own other id (side-stands undo (captured_told h.entry old) (state.captured s) was) (side-stands (not undo) (captured_told h.entry old) (state.captured s) was) h.stops))
+      let own = state.entries direction (state.captured s) in
+      let others = state.entries (other direction) (state.captured s) in
+      subst (λ es. step es time nonce own others ≡ Some (Err id)) st.stored
+      (step-full old.stored sound.stored_elements time nonce (side direction stacks) (side (other direction) stacks) own others id (side-stands direction (captured_told h.entry old) (state.captured s) was) (side-stands (other direction) (captured_told h.entry old) (state.captured s) was) h.stops)

@@ -7,9 +7,11 @@ use Rattle.elem.specs.Order.{unstamped}
 use Rattle.elem.specs.Said.{AreElements}
 use Rattle.elem_store.specs.Updates.{element_of, ids_of, is_taken}
 use Rattle.view.specs.Shown.{live_elements, shown}
+use Rattle.history.specs.declared.planned.Direction.{Direction}
+use Rattle.history.specs.declared.planned.Direction.TheVariants.{Undo, Redo}
 use Rattle.undoing.specs.Differing.{pending}
 use Rattle.undoing.specs.Steps.{Turn}
-use Rattle.replica.specs.State.{State, captured, stored_with, undo_on, redo_on, after_undo, after_redo}
+use Rattle.replica.specs.State.{State, captured, stored_with, turn_on, after_turn}
 
 -- Each old element is stored now the same but for the stamp, and every other element that is stored now is deleted.
 pub record AgreesWith (old now : List ElementValue) : Type 0 where
@@ -82,22 +84,27 @@ IsFound stored (Some (Ok turn)) = Unit {0}
 IsFound stored (Some (Err id)) =
     (e : ElementValue) × (element_of stored id ≡ Some e) × (e.version ≡ greatest_whole)
 
--- after successive undos, and after successive redos
+-- after successive turns
+abbrev pub turned_all : Direction → List Call → State → State
+turned_all direction [] s = s
+turned_all direction (call ∷ more) s =
+    turned_all direction more (after_turn direction call.time call.nonce s)
+
 abbrev pub undone_all : List Call → State → State
-undone_all [] s = s
-undone_all (call ∷ more) s = undone_all more (after_undo call.time call.nonce s)
+undone_all calls s = turned_all Undo calls s
 
 abbrev pub redone_all : List Call → State → State
-redone_all [] s = s
-redone_all (call ∷ more) s = redone_all more (after_redo call.time call.nonce s)
+redone_all calls s = turned_all Redo calls s
 
 -- Each of them is done.
+abbrev pub AreTurns : Direction → List Call → State → Type 0
+AreTurns direction [] s = Unit {0}
+AreTurns direction (call ∷ more) s =
+    IsDone call (turn_on direction call.time call.nonce s)
+    × AreTurns direction more (after_turn direction call.time call.nonce s)
+
 abbrev pub AreUndos : List Call → State → Type 0
-AreUndos [] s = Unit {0}
-AreUndos (call ∷ more) s =
-    IsDone call (undo_on call.time call.nonce s) × AreUndos more (after_undo call.time call.nonce s)
+AreUndos calls s = AreTurns Undo calls s
 
 abbrev pub AreRedos : List Call → State → Type 0
-AreRedos [] s = Unit {0}
-AreRedos (call ∷ more) s =
-    IsDone call (redo_on call.time call.nonce s) × AreRedos more (after_redo call.time call.nonce s)
+AreRedos calls s = AreTurns Redo calls s

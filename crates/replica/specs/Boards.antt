@@ -1,5 +1,5 @@
 -- The parts of a replica without their room, and what holds of them. This project's own.
-use Rattle.std.specs.Prelude.{◌≡◌, ℕ, ◌≤◌, List, Bool, true, not, All, IsSome}
+use Rattle.std.specs.Prelude.{◌≡◌, ℕ, ◌≤◌, List, true, All, IsSome}
 use Rattle.frac_keys.specs.Rising.{are_rising}
 use Rattle.elem.specs.ElementValue.{ElementValue}
 use Rattle.elem.specs.Facts.{greatest_whole}
@@ -11,7 +11,8 @@ use Rattle.view.specs.Shown.{live_elements}
 use Rattle.board_commands.specs.declared.command.Capture.{Capture}
 use Rattle.board_commands.specs.declared.command.Capture.TheVariants.{Now, Later, Never}
 use Rattle.history.specs.Pairs.{StackStandsFor}
-use Rattle.history.specs.Stacks.{Stacks, FitsIn, HaveStoredIds, HasStepped, AreUnseen, StopsAt, noted, put_step, side}
+use Rattle.history.specs.Stacks.{Stacks, FitsIn, HaveStoredIds, HasTakenBack, AreUnseen, StopsAt, noted, put_step, side}
+use Rattle.history.specs.declared.planned.Direction.{Direction}
 use Rattle.history.specs.declared.step.Step.{Step}
 use Rattle.history.specs.declared.step.Step.TheVariants.{Done, Nothing}
 use Rattle.undoing.specs.Carrying.{taken_all, carried_all}
@@ -132,11 +133,12 @@ pub record HasPutStep (old : Told) (step : Step) (after : Stacks) (new : Told) :
   pub snapshot : new.snapshot ≡ stored_by step old.stored
   pub stacks : new.stacks ≡ after
 
--- How the stacks came, by what the step answers: for undo, or for redo with the stacks exchanged.
-abbrev pub StacksComeBy : Bool → List ElementValue → ℕ → ℕ → Step → Stacks → Stacks → Type 0
-StacksComeBy undo stored time nonce (Done given) old new =
-    HasStepped stored time nonce given (side undo old) (side (not undo) old) (side undo new) (side (not undo) new)
-StacksComeBy undo stored time nonce Nothing old new = AreUnseen stored (side undo old) × (new ≡ old)
+-- How the stacks came, by what the step answers.
+abbrev pub StacksComeBy : Direction → List ElementValue → ℕ → ℕ → Step → Stacks → Stacks → Type 0
+StacksComeBy direction stored time nonce (Done given) old new =
+    HasTakenBack direction stored time nonce given old new
+StacksComeBy direction stored time nonce Nothing old new =
+    AreUnseen stored (side direction old) × (new ≡ old)
 
 -- A step is planned, from what is pending on: its plan for the stacks fits in them, and they come by it.
 pub record IsPlannedStep (stored snapshot : List ElementValue) (stacks : Stacks) (plan : PlannedStep) : Type 0 where
@@ -145,25 +147,25 @@ pub record IsPlannedStep (stored snapshot : List ElementValue) (stacks : Stacks)
   pub entry : List Delta
   pub stands : EntryStandsFor entry (pending snapshot stored)
   pub fits : FitsIn plan.history stacks
-  pub comes : StacksComeBy plan.undo stored plan.time plan.nonce plan.step (noted entry stacks)
+  pub comes : StacksComeBy plan.direction stored plan.time plan.nonce plan.step (noted entry stacks)
       (put_step plan.history stacks)
 
 -- The plan is one for this call of undo, or of redo.
-pub record IsPlanOf (undo : Bool) (time nonce : ℕ) (plan : PlannedStep) : Type 0 where
-  pub of_undo : plan.undo ≡ undo
+pub record IsPlanOf (direction : Direction) (time nonce : ℕ) (plan : PlannedStep) : Type 0 where
+  pub of_direction : plan.direction ≡ direction
   pub of_time : plan.time ≡ time
   pub of_nonce : plan.nonce ≡ nonce
 
 -- One step of undo or redo, from what was pending on.
-pub record HasTurned (undo : Bool) (old : Told) (time nonce : ℕ) (step : Step)
+pub record HasTurned (direction : Direction) (old : Told) (time nonce : ℕ) (step : Step)
     (new : Told) : Type 0 where
   pub entry : List Delta
   pub stands : EntryStandsFor entry (pending old.snapshot old.stored)
-  pub comes : StacksComeBy undo old.stored time nonce step (noted entry old.stacks) new.stacks
+  pub comes : StacksComeBy direction old.stored time nonce step (noted entry old.stacks) new.stacks
   pub put : HasPutStep old step new.stacks new
 
 -- The step of undo or redo stops at the element of this id.
-pub record HasStopped (undo : Bool) (old : Told) (id : List ℕ) : Type 0 where
+pub record HasStopped (direction : Direction) (old : Told) (id : List ℕ) : Type 0 where
   pub entry : List Delta
   pub stands : EntryStandsFor entry (pending old.snapshot old.stored)
-  pub stops : StopsAt old.stored (side undo (noted entry old.stacks)) id
+  pub stops : StopsAt old.stored (side direction (noted entry old.stacks)) id

@@ -1,6 +1,6 @@
 -- What a replica is, and what each call makes of it, over whole elements. This project's own, after Excalidraw's store
 -- and history.
-use Rattle.std.specs.Prelude.{◌≡◌, ℕ, List, [], ◌∷◌, Bool, true, false, Option, Some, None, Result, Ok, Err}
+use Rattle.std.specs.Prelude.{◌≡◌, ℕ, List, [], ◌∷◌, Option, Some, None, Result, Ok, Err}
 use Rattle.elem.specs.ElementValue.{ElementValue}
 use Rattle.elem_store.specs.Updates.{takings}
 use Rattle.delta.specs.Pairs.{Pair}
@@ -11,6 +11,9 @@ use Rattle.board_commands.specs.declared.command.Capture.{Capture}
 use Rattle.board_commands.specs.declared.command.Capture.TheVariants.{Now, Later, Never}
 use Rattle.board_commands.specs.declared.command.Command.{Command}
 use Rattle.effects.specs.declared.refusal.Refusal.{Refusal}
+use Rattle.history.specs.Stacks.{chosen, other}
+use Rattle.history.specs.declared.planned.Direction.{Direction}
+use Rattle.history.specs.declared.planned.Direction.TheVariants.{Undo, Redo}
 use Rattle.history.specs.declared.step.Step.{Step}
 use Rattle.history.specs.declared.step.Step.TheVariants.{Done, Nothing}
 use Rattle.undoing.specs.Carrying.{taken_all, carried_all}
@@ -79,47 +82,45 @@ abbrev pub after_delivery : List ElementValue → State → State
 after_delivery list s = carried_with (free_elements s.held list) s
 
 -- ---- undo and redo
+-- the entries that can be undone, or redone
+abbrev pub entries : Direction → State → List (List Pair)
+entries direction s = chosen direction s.undo s.redo
+
 -- What is pending is captured, and then one step is made; nothing comes where no entry is seen, and the capture stands.
+abbrev pub turn_on : Direction → ℕ → ℕ → State → Option (Result Turn (List ℕ))
+turn_on direction time nonce s =
+    step s.stored time nonce (entries direction (captured s))
+    (entries (other direction) (captured s))
+
 abbrev pub undo_on : ℕ → ℕ → State → Option (Result Turn (List ℕ))
-undo_on time nonce s = step s.stored time nonce (captured s).undo (captured s).redo
+undo_on time nonce s = turn_on Undo time nonce s
 
 abbrev pub redo_on : ℕ → ℕ → State → Option (Result Turn (List ℕ))
-redo_on time nonce s = step s.stored time nonce (captured s).redo (captured s).undo
+redo_on time nonce s = turn_on Redo time nonce s
 
--- after a step: its elements are taken and the snapshot is what is stored then; where an element is full nothing is
--- changed
-abbrev pub turned : Turn → State → State
-turned turn s = record s { stored = taken_all turn.given s.stored; snapshot = taken_all turn.given s.stored }
+-- after a step: its elements are taken, and the snapshot is what is stored then
+abbrev pub turned : Direction → Turn → State → State
+turned direction turn s = record s {
+  stored = taken_all turn.given s.stored;
+  snapshot = taken_all turn.given s.stored;
+  undo = chosen direction turn.from turn.to;
+  redo = chosen direction turn.to turn.from;
+}
 
-abbrev pub after_undo_of : Option (Result Turn (List ℕ)) → State → State
-after_undo_of None s = captured s
-after_undo_of (Some (Err id)) s = s
-after_undo_of (Some (Ok turn)) s = record (turned turn s) { undo = turn.from; redo = turn.to }
+-- after undo, or redo, by what it came to; where an element is full nothing is changed
+abbrev pub after_turn_of : Direction → Option (Result Turn (List ℕ)) → State → State
+after_turn_of direction None s = captured s
+after_turn_of direction (Some (Err id)) s = s
+after_turn_of direction (Some (Ok turn)) s = turned direction turn s
 
-abbrev pub after_redo_of : Option (Result Turn (List ℕ)) → State → State
-after_redo_of None s = captured s
-after_redo_of (Some (Err id)) s = s
-after_redo_of (Some (Ok turn)) s = record (turned turn s) { undo = turn.to; redo = turn.from }
+abbrev pub after_turn : Direction → ℕ → ℕ → State → State
+after_turn direction time nonce s = after_turn_of direction (turn_on direction time nonce s) s
 
 abbrev pub after_undo : ℕ → ℕ → State → State
-after_undo time nonce s = after_undo_of (undo_on time nonce s) s
+after_undo time nonce s = after_turn Undo time nonce s
 
 abbrev pub after_redo : ℕ → ℕ → State → State
-after_redo time nonce s = after_redo_of (redo_on time nonce s) s
-
--- the entries that can be undone, or redone
-abbrev pub entries : Bool → State → List (List Pair)
-entries true s = s.undo
-entries false s = s.redo
-
--- undo, or redo: what it comes to, and the state after it
-abbrev pub turn_on : Bool → ℕ → ℕ → State → Option (Result Turn (List ℕ))
-turn_on true time nonce s = undo_on time nonce s
-turn_on false time nonce s = redo_on time nonce s
-
-abbrev pub after_turn : Bool → ℕ → ℕ → State → State
-after_turn true time nonce s = after_undo time nonce s
-after_turn false time nonce s = after_redo time nonce s
+after_redo time nonce s = after_turn Redo time nonce s
 
 -- what a step answers: it gives the elements, or nothing comes
 abbrev pub IsStepAnswer : Step → Option (Result Turn (List ℕ)) → Type 0

@@ -20,10 +20,10 @@ use crate::telling::tell_all;
 use board_base::{List, Stop};
 use board_commands::{Capture, Command};
 use delta::{Entry, VersionFull};
-use effects::{Refusal, changed};
+use effects::{Lookup, Refusal, changed};
 use elem::Element;
 use elem_store::Store;
-use history::{History, HistoryStep, Step};
+use history::{Direction, History, HistoryStep, Step};
 use live_view::LiveView;
 use snapshot::{Snapshot, Touched};
 use std::alloc::{AllocError, Global};
@@ -90,8 +90,13 @@ impl Board {
             (λ refusal. outcome self.now.store.elements
             (shown self.now.view) command.now time nonce ≡ Err refusal)) }
     {
-        let shown = self.view.elements();
-        changed(alloc, &self.store, shown, command, time, nonce)
+        let lookup = Lookup {
+            store: &self.store,
+            shown: self.view.elements(),
+            names: self.view.names(),
+            unsettled: self.view.unsettled(),
+        };
+        changed(alloc, &lookup, command, time, nonce)
     }
 
     /// Stores what a change gave, captured as asked.
@@ -175,9 +180,10 @@ impl Board {
         Ok(has_parts(&entry))
     }
 
-    /// Plans to capture what is pending and to take one entry back.
-    pub(crate) fn plan_undo(
+    /// Plans to capture what is pending and to take one entry, or one undo, back.
+    pub(crate) fn plan(
         &mut self,
+        direction: Direction,
         time: u64,
         nonce: u64,
     ) -> Result<PlannedStep, Stop<VersionFull>>
@@ -186,42 +192,17 @@ impl Board {
         requires nonce { nonce ≤ greatest_whole }
         ensures planned { IfOk result (IsPlannedStep self.old.store.elements
             self.old.snapshot.elements self.old.history.stacks) }
-        ensures call { IfOk result (IsPlanOf true time nonce) }
-        ensures full { IfErr result (λ stop. OnFull stop (HasStopped true (told self.old))) }
+        ensures call { IfOk result (IsPlanOf direction time nonce) }
+        ensures full { IfErr result (λ stop. OnFull stop (HasStopped direction (told self.old))) }
         ensures kept { told self.new ≡ told self.old }
         ensures untouched { IsUntouched self.new }
     {
         let (_, pending) = self.snapshot.plan_capture(&self.store, &self.touched, &[])?;
-        let (history, step) = self.history.plan_undo(pending, &self.store, time, nonce)?;
+        let (history, step) = self
+            .history
+            .plan(direction, pending, &self.store, time, nonce)?;
         Ok(PlannedStep {
-            undo: true,
-            time,
-            nonce,
-            history,
-            step,
-        })
-    }
-
-    /// Plans to capture what is pending and to take one undo back.
-    pub(crate) fn plan_redo(
-        &mut self,
-        time: u64,
-        nonce: u64,
-    ) -> Result<PlannedStep, Stop<VersionFull>>
-        requires board { IsBoard self.old }
-        requires time { time ≤ greatest_whole }
-        requires nonce { nonce ≤ greatest_whole }
-        ensures planned { IfOk result (IsPlannedStep self.old.store.elements
-            self.old.snapshot.elements self.old.history.stacks) }
-        ensures call { IfOk result (IsPlanOf false time nonce) }
-        ensures full { IfErr result (λ stop. OnFull stop (HasStopped false (told self.old))) }
-        ensures kept { told self.new ≡ told self.old }
-        ensures untouched { IsUntouched self.new }
-    {
-        let (_, pending) = self.snapshot.plan_capture(&self.store, &self.touched, &[])?;
-        let (history, step) = self.history.plan_redo(pending, &self.store, time, nonce)?;
-        Ok(PlannedStep {
-            undo: false,
+            direction,
             time,
             nonce,
             history,

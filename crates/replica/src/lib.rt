@@ -10,5 +10,6 @@ mod telling;
 
 pub use board_commands::{Capture, Command, Side, Spot};
 pub use effects::Refusal;
+pub use history::Direction;
 pub use planned::PlannedStep;
 pub use replica::Replica;

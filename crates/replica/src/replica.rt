@@ -21,7 +21,7 @@ use delta::VersionFull;
 use effects::Refusal;
 use elem::Element;
 use elem_store::Store;
-use history::Step;
+use history::{Direction, Step};
 use json_text::Text;
 use live_view::LiveView;
 use reconcile::{Held, free_copies};
@@ -171,72 +171,51 @@ impl Replica {
         self.held.drop_id(id)
     }
 
-    /// Captures what is pending, and then takes the topmost entry that is seen back: the elements that change are
-    /// stored, and given in the order of their ids. `Nothing` comes exactly where no entry is seen; the capture stands.
-    /// `VersionFull` names the least id of those that would change and stand at the greatest version; then nothing is
-    /// changed.
-    pub fn undo(&mut self, time: u64, nonce: u64) -> Result<Step, Stop<VersionFull>>
+    /// Captures what is pending, and then takes the topmost entry, or the topmost undo, that is seen back: the elements
+    /// that change are stored, and given in the order of their ids. `Nothing` comes exactly where no entry is seen; the
+    /// capture stands. `VersionFull` names the least id of those that would change and stand at the greatest version;
+    /// then nothing is changed.
+    pub fn turn(
+        &mut self,
+        direction: Direction,
+        time: u64,
+        nonce: u64,
+    ) -> Result<Step, Stop<VersionFull>>
         requires time { time ≤ greatest_whole }
         requires nonce { nonce ≤ greatest_whole }
         ensures step { IfOk result (λ step. (s : State) → ReplicaStandsFor self.old s
-            → state.IsStepAnswer step (state.undo_on time nonce s)) }
+            → state.IsStepAnswer step (state.turn_on direction time nonce s)) }
         ensures full { IfErr result (λ stop. OnFull stop (λ id. (s : State)
-            → ReplicaStandsFor self.old s → state.undo_on time nonce s ≡ Some (Err id))) }
+            → ReplicaStandsFor self.old s
+            → state.turn_on direction time nonce s ≡ Some (Err id))) }
         ensures after { OnOk result ((s : State) → ReplicaStandsFor self.old s
-            → ReplicaStandsFor self.new (state.after_undo time nonce s)) }
+            → ReplicaStandsFor self.new (state.after_turn direction time nonce s)) }
         ensures err { OnErr result (self.new ≡ self.old) }
     {
-        let plan = self.plan_undo(time, nonce)?;
+        let plan = self.plan(direction, time, nonce)?;
         Ok(self.put_step(plan)?)
     }
 
-    /// Captures what is pending, and then takes the topmost undo that is seen back, as `undo` does with the stacks
-    /// exchanged.
-    pub fn redo(&mut self, time: u64, nonce: u64) -> Result<Step, Stop<VersionFull>>
-        requires time { time ≤ greatest_whole }
-        requires nonce { nonce ≤ greatest_whole }
-        ensures step { IfOk result (λ step. (s : State) → ReplicaStandsFor self.old s
-            → state.IsStepAnswer step (state.redo_on time nonce s)) }
-        ensures full { IfErr result (λ stop. OnFull stop (λ id. (s : State)
-            → ReplicaStandsFor self.old s → state.redo_on time nonce s ≡ Some (Err id))) }
-        ensures after { OnOk result ((s : State) → ReplicaStandsFor self.old s
-            → ReplicaStandsFor self.new (state.after_redo time nonce s)) }
-        ensures err { OnErr result (self.new ≡ self.old) }
-    {
-        let plan = self.plan_redo(time, nonce)?;
-        Ok(self.put_step(plan)?)
-    }
-
-    /// Plans what `undo` makes: `put_step` then puts it in place. Nothing is changed.
-    pub fn plan_undo(&mut self, time: u64, nonce: u64) -> Result<PlannedStep, Stop<VersionFull>>
+    /// Plans what `turn` makes: `put_step` then puts it in place. Nothing is changed.
+    pub fn plan(
+        &mut self,
+        direction: Direction,
+        time: u64,
+        nonce: u64,
+    ) -> Result<PlannedStep, Stop<VersionFull>>
         requires time { time ≤ greatest_whole }
         requires nonce { nonce ≤ greatest_whole }
         ensures planned { IfOk result
             (IsPlannedStep self.old.stored self.old.snapshot self.old.stacks) }
-        ensures call { IfOk result (IsPlanOf true time nonce) }
+        ensures call { IfOk result (IsPlanOf direction time nonce) }
         ensures step { IfOk result (λ plan. (s : State) → ReplicaStandsFor self.old s
-            → state.IsStepAnswer plan.step (state.undo_on time nonce s)) }
+            → state.IsStepAnswer plan.step (state.turn_on direction time nonce s)) }
         ensures full { IfErr result (λ stop. OnFull stop (λ id. (s : State)
-            → ReplicaStandsFor self.old s → state.undo_on time nonce s ≡ Some (Err id))) }
+            → ReplicaStandsFor self.old s
+            → state.turn_on direction time nonce s ≡ Some (Err id))) }
         ensures kept { self.new ≡ self.old }
     {
-        self.board.plan_undo(time, nonce)
-    }
-
-    /// Plans what `redo` makes, as `plan_undo` does.
-    pub fn plan_redo(&mut self, time: u64, nonce: u64) -> Result<PlannedStep, Stop<VersionFull>>
-        requires time { time ≤ greatest_whole }
-        requires nonce { nonce ≤ greatest_whole }
-        ensures planned { IfOk result
-            (IsPlannedStep self.old.stored self.old.snapshot self.old.stacks) }
-        ensures call { IfOk result (IsPlanOf false time nonce) }
-        ensures step { IfOk result (λ plan. (s : State) → ReplicaStandsFor self.old s
-            → state.IsStepAnswer plan.step (state.redo_on time nonce s)) }
-        ensures full { IfErr result (λ stop. OnFull stop (λ id. (s : State)
-            → ReplicaStandsFor self.old s → state.redo_on time nonce s ≡ Some (Err id))) }
-        ensures kept { self.new ≡ self.old }
-    {
-        self.board.plan_redo(time, nonce)
+        self.board.plan(direction, time, nonce)
     }
 
     /// Puts a planned step in place, and gives what it says. It must have been planned on what the replica is.
@@ -244,11 +223,11 @@ impl Replica {
         requires planned { IsPlannedStep self.old.stored self.old.snapshot self.old.stacks plan }
         ensures step { IfOk result (λ step. step ≡ plan.step) }
         ensures after { OnOk result ((s : State) → ReplicaStandsFor self.old s
-            → ReplicaStandsFor self.new (state.after_turn plan.undo plan.time plan.nonce s)) }
+            → ReplicaStandsFor self.new (state.after_turn plan.direction plan.time plan.nonce s)) }
         ensures err { OnErr result (self.new ≡ self.old) }
     {
         let PlannedStep {
-            undo: _,
+            direction: _,
             time: _,
             nonce: _,
             history,

@@ -9,10 +9,11 @@ use Rattle.elem_store.specs.Updates.{HasTaken, is_taken, element_of}
 use Rattle.delta.specs.Delta.{Delta}
 use Rattle.delta.specs.Pairs.{EntryStandsFor}
 use Rattle.delta.specs.declared.stamping.VersionFull.{VersionFull}
-use Rattle.history.specs.declared.planned.HistoryStep.{HistoryStep}
+use Rattle.history.specs.declared.planned.Direction.{Direction}
+use Rattle.history.specs.declared.planned.Direction.TheVariants.{Undo, Redo}
 use Rattle.history.specs.declared.step.Step.{Step}
 use Rattle.history.specs.declared.step.Step.TheVariants.{Done, Nothing}
-use Rattle.history.specs.Stacks.{Stacks, HasStoredIds, HaveStoredIds, HasUndone, HasRedone, noted, with_entry, redo_left, put_step}
+use Rattle.history.specs.Stacks.{Stacks, HasStoredIds, HaveStoredIds, HasTakenBack, noted, side, with_entry, redo_left}
 use Rattle.history.proofs.CallerLemmas.{ids-stored, ids-taken}
 use Rattle.snapshot.specs.Pending.{pairs_since}
 use Rattle.snapshot.specs.Touched.{AreUntouched, HasTouched}
@@ -72,28 +73,17 @@ noted-desk stored snapshot before stacks entry stands desk = record {
 
 -- ---- a step
 module _ (stored snapshot : List ElementValue) (time nonce : ℕ) (old new : Stacks) (desk : IsDesk stored snapshot old) where
-  pub undone : (given : List ElementValue) → HasUndone stored time nonce given old new → IsDesk stored snapshot new
-  undone given stepped =
+  pub taken-back : (direction : Direction) (given : List ElementValue) → HasTakenBack direction stored time nonce given old new → IsDesk stored snapshot new
+  taken-back Undo given stepped =
       let ids = ids-stored stored given time nonce old.undo old.redo new.undo new.redo stepped desk.undo desk.redo in
       record { known = desk.known; undo = ids.0; redo = ids.1 }
-
-  pub redone : (given : List ElementValue) → HasRedone stored time nonce given old new → IsDesk stored snapshot new
-  redone given stepped =
+  taken-back Redo given stepped =
       let ids = ids-stored stored given time nonce old.redo old.undo new.redo new.undo stepped desk.redo desk.undo in
       record { known = desk.known; undo = ids.1; redo = ids.0 }
 
-  same-desk : new ≡ old → IsDesk stored snapshot new
-  same-desk same = subst (IsDesk stored snapshot) (sym same) desk
-
-  pub undone-desk : (result : Result Step (Stop VersionFull)) → ((given : List ElementValue) → result ≡ Ok (Done given) → HasUndone stored time nonce given old new) → (result ≡ Ok Nothing → new ≡ old) → OnErr result (new ≡ old) → IsDesk stored snapshot new
-  undone-desk (Ok (Done given)) done nothing err = undone given (done given refl)
-  undone-desk (Ok Nothing) done nothing err = same-desk (nothing refl)
-  undone-desk (Err stop) done nothing err = same-desk err
-
-  pub redone-desk : (result : Result Step (Stop VersionFull)) → ((given : List ElementValue) → result ≡ Ok (Done given) → HasRedone stored time nonce given old new) → (result ≡ Ok Nothing → new ≡ old) → OnErr result (new ≡ old) → IsDesk stored snapshot new
-  redone-desk (Ok (Done given)) done nothing err = redone given (done given refl)
-  redone-desk (Ok Nothing) done nothing err = same-desk (nothing refl)
-  redone-desk (Err stop) done nothing err = same-desk err
+pub side-ids : (direction : Direction) (stored snapshot : List ElementValue) (stacks : Stacks) → IsDesk stored snapshot stacks → HaveStoredIds stored (side direction stacks)
+side-ids Undo stored snapshot stacks desk = desk.undo
+side-ids Redo stored snapshot stacks desk = desk.redo
 
 -- a step that was planned is put
 pub planned-desk : (stored snapshot : List ElementValue) (from after new : Stacks) (answer : Step) → IsDesk stored snapshot from → new ≡ after

@@ -6,7 +6,7 @@ use board_base::{List, Stop};
 use delta::{Entry, VersionFull};
 use elem::Element;
 use elem_store::Store;
-use history::{History, Step};
+use history::{Direction, History, Step};
 use snapshot::{Snapshot, Touched};
 use std::alloc::Global;
 use std::marker::Model;
@@ -28,14 +28,10 @@ pub(crate) enum Act {
     Pending,
     /// An entry is undone, and what that gives is taken.
     Undo,
-    /// The same, planned and then put.
-    UndoPlanned,
     /// What is pending is captured, and is undone as the entry that is noted first; both planned and then put.
     UndoPending,
     /// An undo is undone, and what that gives is taken.
     Redo,
-    /// The same, planned and then put.
-    RedoPlanned,
 }
 
 /// The store, the snapshot with the ids that were stored since it was taken, and the history. Each id that the snapshot
@@ -113,11 +109,9 @@ impl Desk {
                 self.tell_stacks(told)
             }
             Act::Pending => self.pending(told),
-            Act::Undo => self.undo(told),
-            Act::UndoPlanned => self.undo_planned(alloc, told),
+            Act::Undo => self.turn(alloc, Direction::Undo, told),
             Act::UndoPending => self.undo_pending(told),
-            Act::Redo => self.redo(told),
-            Act::RedoPlanned => self.redo_planned(alloc, told),
+            Act::Redo => self.turn(alloc, Direction::Redo, told),
         }
     }
 
@@ -156,40 +150,18 @@ impl Desk {
         Ok(())
     }
 
-    /// Takes an entry back.
-    fn undo(&mut self, told: &mut Vec<u8>) -> Result<(), Fail> {
-        let answer = self.history.undo(&self.store, 9, 8);
-        self.settle(told, answer)
-    }
-
-    /// Takes an undo back.
-    fn redo(&mut self, told: &mut Vec<u8>) -> Result<(), Fail> {
-        let answer = self.history.redo(&self.store, 9, 8);
-        self.settle(told, answer)
-    }
-
-    /// Plans to take an entry back where nothing is pending, and puts it.
-    fn undo_planned(&mut self, alloc: Global, told: &mut Vec<u8>) -> Result<(), Fail> {
+    /// Takes an entry, or an undo, back where nothing is pending.
+    fn turn(
+        &mut self,
+        alloc: Global,
+        direction: Direction,
+        told: &mut Vec<u8>,
+    ) -> Result<(), Fail> {
         let pending = Entry {
             parts: List::new(alloc),
         };
         self.history.reserve()?;
-        match self.history.plan_undo(pending, &self.store, 9, 8) {
-            Ok((step, answer)) => {
-                self.history.put(step);
-                self.settle(told, Ok(answer))
-            }
-            Err(stop) => self.settle(told, Err(stop)),
-        }
-    }
-
-    /// Plans to take an undo back where nothing is pending, and puts it.
-    fn redo_planned(&mut self, alloc: Global, told: &mut Vec<u8>) -> Result<(), Fail> {
-        let pending = Entry {
-            parts: List::new(alloc),
-        };
-        self.history.reserve()?;
-        match self.history.plan_redo(pending, &self.store, 9, 8) {
+        match self.history.plan(direction, pending, &self.store, 9, 8) {
             Ok((step, answer)) => {
                 self.history.put(step);
                 self.settle(told, Ok(answer))
@@ -202,7 +174,10 @@ impl Desk {
     fn undo_pending(&mut self, told: &mut Vec<u8>) -> Result<(), Fail> {
         let (captured, pending) = self.snapshot.plan_capture(&self.store, &self.touched, &[])?;
         self.history.reserve()?;
-        match self.history.plan_undo(pending, &self.store, 9, 8) {
+        match self
+            .history
+            .plan(Direction::Undo, pending, &self.store, 9, 8)
+        {
             Ok((step, answer)) => {
                 self.snapshot.put(captured);
                 self.touched.clear();

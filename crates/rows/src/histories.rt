@@ -5,43 +5,39 @@ use std::test::Fail;
 
 #[test]
 fn an_undo_is_planned_and_put(rt: HostRuntime) -> Result<(), Fail> {
-    for undo in [Act::Undo, Act::UndoPlanned] {
-        let acts = [
-            Act::Take("rectangle", "a", 1, "f"),
-            Act::Capture,
-            Act::Take("rectangle", "a", 2, "g"),
-            Act::Capture,
-            undo,
-            undo,
-            undo,
-            Act::Redo,
-        ];
-        let told = told_of(rt.alloc(), &acts)?;
-        assert_eq!(rt;
-            told.as_slice(),
-            b"a isDeleted:true>false 1/0; a frameId:\"f\">\"g\" 2/0; a3f 1/1; a4- 0/2; nothing 0/2; a5f 1/1; ".as_slice()
-        );
-    }
+    let acts = [
+        Act::Take("rectangle", "a", 1, "f"),
+        Act::Capture,
+        Act::Take("rectangle", "a", 2, "g"),
+        Act::Capture,
+        Act::Undo,
+        Act::Undo,
+        Act::Undo,
+        Act::Redo,
+    ];
+    let told = told_of(rt.alloc(), &acts)?;
+    assert_eq!(rt;
+        told.as_slice(),
+        b"a isDeleted:true>false 1/0; a frameId:\"f\">\"g\" 2/0; a3f 1/1; a4- 0/2; nothing 0/2; a5f 1/1; ".as_slice()
+    );
     Ok(())
 }
 
 #[test]
 fn what_is_pending_is_noted_and_undone(rt: HostRuntime) -> Result<(), Fail> {
-    for redo in [Act::Redo, Act::RedoPlanned] {
-        let acts = [
-            Act::Take("rectangle", "a", 1, "f"),
-            Act::Capture,
-            Act::Take("rectangle", "a", 2, "g"),
-            Act::UndoPending,
-            redo,
-            redo,
-        ];
-        let told = told_of(rt.alloc(), &acts)?;
-        assert_eq!(rt;
-            told.as_slice(),
-            b"a isDeleted:true>false 1/0; a3f 1/1; a4g 2/0; nothing 2/0; ".as_slice()
-        );
-    }
+    let acts = [
+        Act::Take("rectangle", "a", 1, "f"),
+        Act::Capture,
+        Act::Take("rectangle", "a", 2, "g"),
+        Act::UndoPending,
+        Act::Redo,
+        Act::Redo,
+    ];
+    let told = told_of(rt.alloc(), &acts)?;
+    assert_eq!(rt;
+        told.as_slice(),
+        b"a isDeleted:true>false 1/0; a3f 1/1; a4g 2/0; nothing 2/0; ".as_slice()
+    );
     Ok(())
 }
 

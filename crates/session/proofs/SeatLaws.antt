@@ -10,25 +10,20 @@ use Rattle.board_commands.specs.declared.command.Command.{Command}
 use Rattle.effects.specs.declared.refusal.Refusal.{Refusal}
 use Rattle.reconcile.specs.Ids.{AreStrictlySorted, free_elements}
 use Rattle.history.specs.Pairs.{StackStandsFor}
+use Rattle.history.specs.declared.planned.Direction.{Direction}
 use Rattle.undoing.specs.Carrying.{taken_all}
 use Rattle.undoing.specs.Differing.{pending}
 use Rattle.undoing.specs.Steps.{Turn}
 use Rattle.replica.specs.Standing.{ReplicaStandsFor, Kept}
-use Rattle.replica.specs.State.{State, noted, captured, stored_with, outcome_on, after_outcome, after_change, after_delivery, undo_on, after_undo, after_undo_of, redo_on, after_redo, after_redo_of}
+use Rattle.replica.specs.State.{State, noted, captured, stored_with, outcome_on, after_outcome, after_change, after_delivery, turn_on, after_turn, after_turn_of}
+use Rattle.replica.proofs.CallerLemmas.{given-held, turn-held-of}
 use Rattle.session.specs.declared.seat.Seat.{Seat as KeptSeat}
 use Rattle.session.specs.declared.outcome.Outcome.{Outcome}
 use Rattle.session.specs.declared.outcome.Outcome.TheVariants.{Given, Refused}
 use Rattle.session.specs.inner.Standing.{SeatStandsFor, IsActed}
-use Rattle.session.specs.Worlds.{Seat, Act, change_on, delivered, given_of, holding, of_command, of_step, redo_of, undo_of}
+use Rattle.session.specs.Worlds.{Seat, Act, change_on, delivered, given_of, holding, of_command, of_step, turn_by}
 
 -- ---- what stays over a call, and what is stored then
-noted-held : (pairs : List Pair) (s : State) → (noted pairs s).held ≡ s.held
-noted-held [] s = refl
-noted-held (pair ∷ pairs) s = refl
-
-pub captured-held : (s : State) → (captured s).held ≡ s.held
-captured-held s = noted-held (pending s.snapshot s.stored) s
-
 noted-stored : (pairs : List Pair) (s : State) → (noted pairs s).stored ≡ s.stored
 noted-stored [] s = refl
 noted-stored (pair ∷ pairs) s = refl
@@ -37,9 +32,7 @@ pub captured-stored : (s : State) → (captured s).stored ≡ s.stored
 captured-stored s = noted-stored (pending s.snapshot s.stored) s
 
 pub outcome-held : (capture : Capture) (outcome : Result (List ElementValue) Refusal) (s : State) → (after_outcome capture outcome s).held ≡ s.held
-outcome-held Now (Ok given) s = captured-held (stored_with given s)
-outcome-held Later (Ok given) s = refl
-outcome-held Never (Ok given) s = refl
+outcome-held capture (Ok given) s = given-held capture given s
 outcome-held capture (Err refusal) s = refl
 
 pub outcome-stored : (capture : Capture) (outcome : Result (List ElementValue) Refusal) (s : State) → (after_outcome capture outcome s).stored ≡ taken_all (given_of (of_command outcome)) s.stored
@@ -48,25 +41,10 @@ outcome-stored Later (Ok given) s = refl
 outcome-stored Never (Ok given) s = refl
 outcome-stored capture (Err refusal) s = refl
 
-pub undo-held : (found : Option (Result Turn (List ℕ))) (s : State) → (after_undo_of found s).held ≡ s.held
-undo-held None s = captured-held s
-undo-held (Some (Err id)) s = refl
-undo-held (Some (Ok turn)) s = refl
-
-pub undo-stored : (found : Option (Result Turn (List ℕ))) (s : State) → (after_undo_of found s).stored ≡ taken_all (given_of (of_step found)) s.stored
-undo-stored None s = captured-stored s
-undo-stored (Some (Err id)) s = refl
-undo-stored (Some (Ok turn)) s = refl
-
-pub redo-held : (found : Option (Result Turn (List ℕ))) (s : State) → (after_redo_of found s).held ≡ s.held
-redo-held None s = captured-held s
-redo-held (Some (Err id)) s = refl
-redo-held (Some (Ok turn)) s = refl
-
-pub redo-stored : (found : Option (Result Turn (List ℕ))) (s : State) → (after_redo_of found s).stored ≡ taken_all (given_of (of_step found)) s.stored
-redo-stored None s = captured-stored s
-redo-stored (Some (Err id)) s = refl
-redo-stored (Some (Ok turn)) s = refl
+pub turn-stored : (direction : Direction) (found : Option (Result Turn (List ℕ))) (s : State) → (after_turn_of direction found s).stored ≡ taken_all (given_of (of_step found)) s.stored
+turn-stored direction None s = captured-stored s
+turn-stored direction (Some (Err id)) s = refl
+turn-stored direction (Some (Ok turn)) s = refl
 
 -- ---- a seat
 -- its replica comes to a state with the same held ids, and so many updates more are counted
@@ -115,37 +93,22 @@ unfolding change_on
 change-state command capture time nonce s replica stands = stands
 
 -- ---- undo and redo
-pub undo-told : (time nonce : ℕ) (s : State) (answer : Option (Result Turn (List ℕ))) → undo_on time nonce s ≡ answer → of_step answer ≡ (undo_of time nonce s).outcome
-unfolding undo_of
-undo-told time nonce s answer is = sym (ap of_step is)
+module _ (direction : Direction) (time nonce : ℕ) (s : State) where
+  pub turn-told : (answer : Option (Result Turn (List ℕ))) → turn_on direction time nonce s ≡ answer → of_step answer ≡ (turn_by direction time nonce s).outcome
+  unfolding turn_by
+  turn-told answer is = sym (ap of_step is)
 
-pub undo-left : (time nonce : ℕ) (s : State) (id : List ℕ) → undo_on time nonce s ≡ Some (Err id) → (undo_of time nonce s).state ≡ s
-unfolding undo_of
-undo-left time nonce s id is = ap (λ found. after_undo_of found s) is
+  pub turn-left : (id : List ℕ) → turn_on direction time nonce s ≡ Some (Err id) → (turn_by direction time nonce s).state ≡ s
+  unfolding turn_by
+  turn-left id is = ap (λ found. after_turn_of direction found s) is
 
-pub undo_of-held : (time nonce : ℕ) (s : State) → (undo_of time nonce s).state.held ≡ s.held
-unfolding undo_of
-undo_of-held time nonce s = undo-held (undo_on time nonce s) s
+  pub turn_by-held : (turn_by direction time nonce s).state.held ≡ s.held
+  unfolding turn_by
+  turn_by-held = turn-held-of direction (turn_on direction time nonce s) s
 
-pub undo-state : (time nonce : ℕ) (s : State) (replica : Kept) → ReplicaStandsFor replica (after_undo time nonce s) → ReplicaStandsFor replica (undo_of time nonce s).state
-unfolding undo_of
-undo-state time nonce s replica stands = stands
-
-pub redo-told : (time nonce : ℕ) (s : State) (answer : Option (Result Turn (List ℕ))) → redo_on time nonce s ≡ answer → of_step answer ≡ (redo_of time nonce s).outcome
-unfolding redo_of
-redo-told time nonce s answer is = sym (ap of_step is)
-
-pub redo-left : (time nonce : ℕ) (s : State) (id : List ℕ) → redo_on time nonce s ≡ Some (Err id) → (redo_of time nonce s).state ≡ s
-unfolding redo_of
-redo-left time nonce s id is = ap (λ found. after_redo_of found s) is
-
-pub redo_of-held : (time nonce : ℕ) (s : State) → (redo_of time nonce s).state.held ≡ s.held
-unfolding redo_of
-redo_of-held time nonce s = redo-held (redo_on time nonce s) s
-
-pub redo-state : (time nonce : ℕ) (s : State) (replica : Kept) → ReplicaStandsFor replica (after_redo time nonce s) → ReplicaStandsFor replica (redo_of time nonce s).state
-unfolding redo_of
-redo-state time nonce s replica stands = stands
+  pub turn-state : (replica : Kept) → ReplicaStandsFor replica (after_turn direction time nonce s) → ReplicaStandsFor replica (turn_by direction time nonce s).state
+  unfolding turn_by
+  turn-state replica stands = stands
 
 -- ---- a delivery, and held ids
 pub delivered-stands : (list : List ElementValue) (old : KeptSeat) (s : Seat) (new : KeptSeat) → SeatStandsFor old s → ReplicaStandsFor new.replica (after_delivery list s.state)

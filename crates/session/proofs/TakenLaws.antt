@@ -10,16 +10,18 @@ use Rattle.elem_store.proofs.CallerLemmas.{Contains-head, Contains-cons, Contain
 use Rattle.board_commands.specs.declared.command.Capture.{Capture}
 use Rattle.board_commands.specs.declared.command.Command.{Command}
 use Rattle.reconcile.specs.Ids.{is_held, free_elements}
+use Rattle.history.specs.declared.planned.Direction.{Direction}
+use Rattle.history.specs.declared.planned.Direction.TheVariants as directions
 use Rattle.undoing.specs.Carrying.{taken_all}
 use Rattle.undoing.proofs.CallerLemmas.{taken_all-stored}
-use Rattle.replica.specs.State.{State, outcome_on, undo_on, redo_on}
+use Rattle.replica.specs.State.{State, outcome_on, turn_on}
 use Rattle.session_text.specs.declared.event.Event.{Event}
 use Rattle.session_text.specs.declared.event.Event.TheVariants.{Change, Update, Deliver, Hold, Release, Undo, Redo}
 use Rattle.session_text.specs.declared.event.Pick.{Pick}
 use Rattle.session_text.specs.declared.event.Pick.TheVariants.{All, One}
 use Rattle.session_text.specs.declared.session.Session.{Session}
-use Rattle.session.specs.Worlds.{Seat, World, Act, fresh, delivered, holding, with_id, without_id, acted, given_of, change_on, undo_of, redo_of, seat_at, state_at, nonce_at, after_act, picked, all_picked, after_event, after_events, opened, opening_elements, world_after, all_elements}
-use Rattle.session.proofs.SeatLaws.{outcome-stored, undo-stored, redo-stored}
+use Rattle.session.specs.Worlds.{Seat, World, Act, fresh, delivered, holding, with_id, without_id, acted, given_of, change_on, turn_by, seat_at, state_at, nonce_at, after_act, after_turn_at, picked, all_picked, after_event, after_events, opened, opening_elements, world_after, all_elements}
+use Rattle.session.proofs.SeatLaws.{outcome-stored, turn-stored}
 
 -- ---- what holds of each seat
 module _ (P : Seat → Type 0) where
@@ -60,13 +62,9 @@ pub change-stored : (command : Command) (capture : Capture) (time nonce : ℕ) (
 unfolding change_on
 change-stored command capture time nonce s = outcome-stored capture (outcome_on command time nonce s) s
 
-pub undo_of-stored : (time nonce : ℕ) (s : State) → (undo_of time nonce s).state.stored ≡ taken_all (given_of (undo_of time nonce s).outcome) s.stored
-unfolding undo_of
-undo_of-stored time nonce s = undo-stored (undo_on time nonce s) s
-
-pub redo_of-stored : (time nonce : ℕ) (s : State) → (redo_of time nonce s).state.stored ≡ taken_all (given_of (redo_of time nonce s).outcome) s.stored
-unfolding redo_of
-redo_of-stored time nonce s = redo-stored (redo_on time nonce s) s
+pub turn_by-stored : (direction : Direction) (time nonce : ℕ) (s : State) → (turn_by direction time nonce s).state.stored ≡ taken_all (given_of (turn_by direction time nonce s).outcome) s.stored
+unfolding turn_by
+turn_by-stored direction time nonce s = turn-stored direction (turn_on direction time nonce s) s
 
 pub fresh-stores : StoresTaken fresh
 unfolding stored_of
@@ -78,6 +76,10 @@ at-stores w at all = each-at StoresTaken w.seats at fresh-stores all
 act-stores : (at : ℕ) (act : Act) (w : World) → act.state.stored ≡ taken_all (given_of act.outcome) (state_at w at).stored → AllByRecursion StoresTaken w.seats → AllByRecursion StoresTaken (after_act at act w).seats
 act-stores at act w is all = each-set StoresTaken w.seats at (acted act (seat_at w at)) (acted-stores (seat_at w at) act is (at-stores w at all)) all
 
+turn-stores : (direction : Direction) (at time : ℕ) (w : World) → AllByRecursion StoresTaken w.seats → AllByRecursion StoresTaken (after_turn_at direction at time w).seats
+turn-stores direction at time w all =
+    act-stores at (turn_by direction time (nonce_at w at) (state_at w at)) w (turn_by-stored direction time (nonce_at w at) (state_at w at)) all
+
 event-stores : (event : Event) (w : World) → AllByRecursion StoresTaken w.seats → AllByRecursion StoresTaken (after_event event w).seats
 event-stores (Change at time capture command) w all =
     act-stores at (change_on command capture time (nonce_at w at) (state_at w at)) w (change-stored command capture time (nonce_at w at) (state_at w at)) all
@@ -86,8 +88,8 @@ event-stores (Deliver to picks) w all =
     each-set StoresTaken w.seats to (delivered (all_picked w.messages picks) (seat_at w to)) (delivered-stores (all_picked w.messages picks) (seat_at w to) (at-stores w to all)) all
 event-stores (Hold at id) w all = each-set StoresTaken w.seats at (holding (with_id id (state_at w at).held) (seat_at w at)) (at-stores w at all) all
 event-stores (Release at id) w all = each-set StoresTaken w.seats at (holding (without_id id (state_at w at).held) (seat_at w at)) (at-stores w at all) all
-event-stores (Undo at time) w all = act-stores at (undo_of time (nonce_at w at) (state_at w at)) w (undo_of-stored time (nonce_at w at) (state_at w at)) all
-event-stores (Redo at time) w all = act-stores at (redo_of time (nonce_at w at) (state_at w at)) w (redo_of-stored time (nonce_at w at) (state_at w at)) all
+event-stores (Undo at time) w all = turn-stores directions.Undo at time w all
+event-stores (Redo at time) w all = turn-stores directions.Redo at time w all
 
 events-store : (events : List Event) (w : World) → AllByRecursion StoresTaken w.seats → AllByRecursion StoresTaken (after_events events w).seats
 events-store [] w all = all
@@ -192,8 +194,8 @@ module _ (opening : List ElementValue) where
       each-set (TookMade w.messages) w.seats to (delivered list (seat_at w to)) (delivered-made w.messages list (seat_at w to) (all-picked-made w.messages picks) (at-made w to all)) all
   event-made (Hold at id) w all = each-set (TookMade w.messages) w.seats at (holding (with_id id (state_at w at).held) (seat_at w at)) (at-made w at all) all
   event-made (Release at id) w all = each-set (TookMade w.messages) w.seats at (holding (without_id id (state_at w at).held) (seat_at w at)) (at-made w at all) all
-  event-made (Undo at time) w all = act-made at (undo_of time (nonce_at w at) (state_at w at)) w all
-  event-made (Redo at time) w all = act-made at (redo_of time (nonce_at w at) (state_at w at)) w all
+  event-made (Undo at time) w all = act-made at (turn_by directions.Undo time (nonce_at w at) (state_at w at)) w all
+  event-made (Redo at time) w all = act-made at (turn_by directions.Redo time (nonce_at w at) (state_at w at)) w all
 
   events-made : (events : List Event) (w : World) → AllByRecursion (TookMade w.messages) w.seats → AllByRecursion (TookMade (after_events events w).messages) (after_events events w).seats
   events-made [] w all = all

@@ -12,8 +12,10 @@ use Rattle.board_commands.specs.declared.command.Capture.{Capture}
 use Rattle.board_commands.specs.declared.command.Command.{Command}
 use Rattle.effects.specs.declared.refusal.Refusal.{Refusal}
 use Rattle.effects.specs.declared.refusal.Refusal.TheVariants.{VersionFull}
+use Rattle.history.specs.declared.planned.Direction.{Direction}
+use Rattle.history.specs.declared.planned.Direction.TheVariants as directions
 use Rattle.undoing.specs.Steps.{Turn}
-use Rattle.replica.specs.State.{State, nothing, outcome_on, after_change, after_delivery, undo_on, after_undo, redo_on, after_redo}
+use Rattle.replica.specs.State.{State, nothing, outcome_on, after_change, after_delivery, turn_on, after_turn}
 use Rattle.session_text.specs.declared.session.Session.{Session}
 use Rattle.session_text.specs.declared.event.Event.{Event}
 use Rattle.session_text.specs.declared.event.Event.TheVariants.{Change, Update, Deliver, Hold, Release, Undo, Redo}
@@ -75,11 +77,11 @@ unfoldable pub change_on : Command → Capture → ℕ → ℕ → State → Act
 change_on command capture time nonce s =
     record { state = after_change command capture time nonce s; outcome = of_command (outcome_on command time nonce s) }
 
-unfoldable pub undo_of : ℕ → ℕ → State → Act
-undo_of time nonce s = record { state = after_undo time nonce s; outcome = of_step (undo_on time nonce s) }
-
-unfoldable pub redo_of : ℕ → ℕ → State → Act
-redo_of time nonce s = record { state = after_redo time nonce s; outcome = of_step (redo_on time nonce s) }
+unfoldable pub turn_by : Direction → ℕ → ℕ → State → Act
+turn_by direction time nonce s = record {
+  state = after_turn direction time nonce s;
+  outcome = of_step (turn_on direction time nonce s);
+}
 
 -- the elements that an outcome gives; none where it is a refusal
 abbrev pub given_of : Outcome → List ElementValue
@@ -117,6 +119,11 @@ after_act at act w = record {
   refused = with_refused w.events act.outcome w.refused;
 }
 
+-- after an undo, or a redo
+abbrev pub after_turn_at : Direction → ℕ → ℕ → World → World
+after_turn_at direction at time w =
+    after_act at (turn_by direction time (nonce_at w at) (state_at w at)) w
+
 -- A replica came to this without making a message.
 abbrev pub after_seat : ℕ → Seat → World → World
 after_seat at seat w = record w { seats = slice_set w.seats at seat; events = w.events + 1 }
@@ -141,8 +148,8 @@ after_event (Hold at id) w =
     after_seat at (holding (with_id id (state_at w at).held) (seat_at w at)) w
 after_event (Release at id) w =
     after_seat at (holding (without_id id (state_at w at).held) (seat_at w at)) w
-after_event (Undo at time) w = after_act at (undo_of time (nonce_at w at) (state_at w at)) w
-after_event (Redo at time) w = after_act at (redo_of time (nonce_at w at) (state_at w at)) w
+after_event (Undo at time) w = after_turn_at directions.Undo at time w
+after_event (Redo at time) w = after_turn_at directions.Redo at time w
 
 abbrev pub after_events : List Event → World → World
 after_events [] w = w

@@ -5,7 +5,7 @@ ghost use Rattle.elem.specs.Facts.{greatest_whole};
 ghost use Rattle.board_commands.specs.Limits.{IsWithinLimits};
 ghost use Rattle.session.specs.inner.Standing.{IsActed, SeatStandsFor};
 ghost use Rattle.session.specs.Worlds as worlds;
-ghost use Rattle.session.specs.Worlds.{change_on, delivered, fresh, holding, redo_of, undo_of, with_id, without_id};
+ghost use Rattle.session.specs.Worlds.{change_on, delivered, fresh, holding, turn_by, with_id, without_id};
 
 use crate::counting::sum_of;
 use crate::outcome::Outcome;
@@ -14,7 +14,7 @@ use board_commands::{Capture, Command};
 use delta::VersionFull;
 use effects::Refusal;
 use elem::Element;
-use history::Step;
+use history::{Direction, Step};
 use json_text::Text;
 use replica::Replica;
 use std::alloc::{AllocError, Global};
@@ -61,34 +61,19 @@ impl Seat {
         }
     }
 
-    /// Undoes a step.
-    pub(crate) fn undo(&mut self, time: u64, nonce: u64) -> Result<Outcome, AllocError>
+    /// Undoes, or redoes, a step.
+    pub(crate) fn turn(
+        &mut self,
+        direction: Direction,
+        time: u64,
+        nonce: u64,
+    ) -> Result<Outcome, AllocError>
         requires time { time ≤ greatest_whole }
         requires nonce { nonce ≤ greatest_whole }
         ensures { IfOk result (λ outcome. (s : worlds.Seat) → SeatStandsFor self.old s
-            → IsActed (undo_of time nonce s.state) s outcome self.new) }
+            → IsActed (turn_by direction time nonce s.state) s outcome self.new) }
     {
-        match self.replica.undo(time, nonce) {
-            Ok(Step::Done(given)) => {
-                self.count(given.as_slice().len() as u64)?;
-                Ok(Outcome::Given(given))
-            }
-            Ok(Step::Nothing) => Ok(Outcome::Refused(None)),
-            Err(Stop::Fault(VersionFull(id))) => {
-                Ok(Outcome::Refused(Some(Refusal::VersionFull(id))))
-            }
-            Err(Stop::Memory) => Err(AllocError),
-        }
-    }
-
-    /// Redoes a step.
-    pub(crate) fn redo(&mut self, time: u64, nonce: u64) -> Result<Outcome, AllocError>
-        requires time { time ≤ greatest_whole }
-        requires nonce { nonce ≤ greatest_whole }
-        ensures { IfOk result (λ outcome. (s : worlds.Seat) → SeatStandsFor self.old s
-            → IsActed (redo_of time nonce s.state) s outcome self.new) }
-    {
-        match self.replica.redo(time, nonce) {
+        match self.replica.turn(direction, time, nonce) {
             Ok(Step::Done(given)) => {
                 self.count(given.as_slice().len() as u64)?;
                 Ok(Outcome::Given(given))

@@ -6,7 +6,7 @@ ghost use Rattle.board_commands.specs.Limits.{IsWithinLimits};
 ghost use Rattle.session_text.specs.Facts.{IsAmong, IsEventWithinLimits};
 ghost use Rattle.session.specs.inner.Standing.{IsWorldAfter, IsNoted, SeatsStandFor, WorldStandsFor};
 ghost use Rattle.drawn_words.specs.Words.{next_generator, next_word};
-ghost use Rattle.session.specs.Worlds.{after_event, delivered, fresh, given_of, opened, opening_elements, with_refused};
+ghost use Rattle.session.specs.Worlds.{after_event, after_turn_at, delivered, fresh, given_of, opened, opening_elements, with_refused};
 
 use crate::outcome::Outcome;
 use crate::picking::all_picked;
@@ -16,6 +16,7 @@ use board_base::List;
 use board_commands::{Capture, Command};
 use drawn_words::{draw_word, generator_of};
 use elem::Element;
+use history::Direction;
 use json_text::Text;
 use rand_pcg::Pcg32;
 use session_text::{Event, Pick, Session};
@@ -67,8 +68,8 @@ impl World {
             Event::Deliver { to, picks } => self.deliver(*to, picks),
             Event::Hold { at, id } => self.hold(*at, id),
             Event::Release { at, id } => self.release(*at, id),
-            Event::Undo { at, time } => self.undo(*at, *time),
-            Event::Redo { at, time } => self.redo(*at, *time),
+            Event::Undo { at, time } => self.turn(Direction::Undo, *at, *time),
+            Event::Redo { at, time } => self.turn(Direction::Redo, *at, *time),
         }
     }
 
@@ -96,32 +97,17 @@ impl World {
         Ok(())
     }
 
-    /// A user undoes a step.
-    fn undo(&mut self, at: u64, time: u64) -> Result<(), AllocError>
+    /// A user undoes, or redoes, a step.
+    fn turn(&mut self, direction: Direction, at: u64, time: u64) -> Result<(), AllocError>
         requires at { at < vec_len self.old.seats }
         requires replicas { vec_len self.old.seats ≤ 64 }
         requires room { self.old.events + 1 < 2 ^ 64 }
         requires time { time ≤ greatest_whole }
-        ensures { OnOk result (IsWorldAfter self.old (after_event (Event.Undo at time)) self.new) }
+        ensures { OnOk result (IsWorldAfter self.old (after_turn_at direction at time) self.new) }
     {
         let nonce = draw(&mut self.generator, at);
         let seat = &mut self.seats[at as usize];
-        let outcome = seat.undo(time, nonce)?;
-        self.note(outcome)?;
-        Ok(())
-    }
-
-    /// A user redoes a step.
-    fn redo(&mut self, at: u64, time: u64) -> Result<(), AllocError>
-        requires at { at < vec_len self.old.seats }
-        requires replicas { vec_len self.old.seats ≤ 64 }
-        requires room { self.old.events + 1 < 2 ^ 64 }
-        requires time { time ≤ greatest_whole }
-        ensures { OnOk result (IsWorldAfter self.old (after_event (Event.Redo at time)) self.new) }
-    {
-        let nonce = draw(&mut self.generator, at);
-        let seat = &mut self.seats[at as usize];
-        let outcome = seat.redo(time, nonce)?;
+        let outcome = seat.turn(direction, time, nonce)?;
         self.note(outcome)?;
         Ok(())
     }

@@ -14,17 +14,20 @@ use Rattle.board_commands.specs.declared.command.Command.{Command}
 use Rattle.effects.specs.declared.refusal.Refusal.{Refusal}
 use Rattle.board_commands.specs.Limits.{IsWithinLimits}
 use Rattle.effects.proofs.CallerLemmas.{given-seen}
+use Rattle.history.specs.Stacks.{chosen, other}
+use Rattle.history.specs.declared.planned.Direction.{Direction}
+use Rattle.history.specs.declared.planned.Direction.TheVariants as directions
 use Rattle.undoing.specs.Carrying.{taken_all}
 use Rattle.undoing.specs.Differing.{pending}
 use Rattle.undoing.specs.Steps.{Turn, step}
-use Rattle.replica.specs.Back.{Alters, IsStoredChange, changed, changed_all, AreChanges, Call, IsDone, undone_all, redone_all, AreUndos, AreRedos}
-use Rattle.replica.specs.State.{State, noted, stored_with, outcome_on, after_outcome, after_delivery, undo_on, redo_on, after_undo_of, after_redo_of, after_undo, after_redo}
+use Rattle.replica.specs.Back.{Alters, IsStoredChange, changed, changed_all, AreChanges, AreTurns, Call, IsDone, turned_all}
+use Rattle.replica.specs.State.{State, noted, stored_with, outcome_on, after_outcome, after_delivery, entries, turn_on, after_turn_of, after_turn}
 use Rattle.replica.proofs.CallerLemmas.{empty-stays}
 use Rattle.session_text.specs.declared.event.Event.{Event}
 use Rattle.session_text.specs.declared.event.Event.TheVariants.{Change, Update, Deliver, Hold, Release, Undo, Redo}
-use Rattle.session.specs.Worlds.{Seat, World, Act, fresh, delivered, holding, with_id, without_id, of_command, change_on, undo_of, redo_of, given_of, acted, seat_at, state_at, nonce_at, after_act, all_picked, after_event, after_events}
+use Rattle.session.specs.Worlds.{Seat, World, Act, fresh, delivered, holding, with_id, without_id, of_command, change_on, turn_by, given_of, acted, seat_at, state_at, nonce_at, after_act, after_turn_at, all_picked, after_event, after_events}
 use Rattle.board_commands.specs.Written.{IsWrittenCommand}
-use Rattle.session_laws.specs.Turning.{KeepsAway, IsChangeAt, IsUndoAt, IsRedoAt, AreChangesAt, AreUndosAt, AreRedosAt}
+use Rattle.session_laws.specs.Turning.{KeepsAway, AreAmong, IsChangeAt, IsTurnAt, AreChangesAt}
 use Rattle.session_laws.proofs.SoundStates.{IsKept, AreGiven, command-given}
 use Rattle.session_laws.proofs.SoundWorlds.{IsKeptWorld, IsKeptEvent, seat-kept, nonce-small, event-kept}
 
@@ -40,29 +43,17 @@ unheld-noted (pair ∷ entry) s snapshot = refl
 unheld-changed : (given : List ElementValue) (s : State) → unheld (changed given s) ≡ changed given (unheld s)
 unheld-changed given s = unheld-noted (pending s.snapshot (taken_all given s.stored)) (stored_with given s) (taken_all given s.stored)
 
-noted-undo : (entry : List Pair) (s : State) → (noted entry (unheld s)).undo ≡ (noted entry s).undo
-noted-undo [] s = refl
-noted-undo (pair ∷ entry) s = refl
+noted-entries : (direction : Direction) (entry : List Pair) (s : State) → entries direction (noted entry (unheld s)) ≡ entries direction (noted entry s)
+noted-entries direction [] s = refl
+noted-entries direction (pair ∷ entry) s = refl
 
-noted-redo : (entry : List Pair) (s : State) → (noted entry (unheld s)).redo ≡ (noted entry s).redo
-noted-redo [] s = refl
-noted-redo (pair ∷ entry) s = refl
+pub unheld-turn_on : (direction : Direction) (time nonce : ℕ) (s : State) → turn_on direction time nonce (unheld s) ≡ turn_on direction time nonce s
+unheld-turn_on direction time nonce s =
+    λ i. step s.stored time nonce (noted-entries direction (pending s.snapshot s.stored) s i) (noted-entries (other direction) (pending s.snapshot s.stored) s i)
 
-pub unheld-undo_on : (time nonce : ℕ) (s : State) → undo_on time nonce (unheld s) ≡ undo_on time nonce s
-unheld-undo_on time nonce s =
-    λ i. step s.stored time nonce (noted-undo (pending s.snapshot s.stored) s i) (noted-redo (pending s.snapshot s.stored) s i)
-
-pub unheld-redo_on : (time nonce : ℕ) (s : State) → redo_on time nonce (unheld s) ≡ redo_on time nonce s
-unheld-redo_on time nonce s =
-    λ i. step s.stored time nonce (noted-redo (pending s.snapshot s.stored) s i) (noted-undo (pending s.snapshot s.stored) s i)
-
-unheld-undone : (time nonce : ℕ) (s : State) (turn : Turn) → undo_on time nonce s ≡ Some (Ok turn) → unheld (after_undo time nonce s) ≡ after_undo time nonce (unheld s)
-unheld-undone time nonce s turn found =
-    ap (λ o. unheld (after_undo_of o s)) found ∙ sym (ap (λ o. after_undo_of o (unheld s)) (unheld-undo_on time nonce s ∙ found))
-
-unheld-redone : (time nonce : ℕ) (s : State) (turn : Turn) → redo_on time nonce s ≡ Some (Ok turn) → unheld (after_redo time nonce s) ≡ after_redo time nonce (unheld s)
-unheld-redone time nonce s turn found =
-    ap (λ o. unheld (after_redo_of o s)) found ∙ sym (ap (λ o. after_redo_of o (unheld s)) (unheld-redo_on time nonce s ∙ found))
+unheld-turned : (direction : Direction) (time nonce : ℕ) (s : State) (turn : Turn) → turn_on direction time nonce s ≡ Some (Ok turn) → unheld (after_turn direction time nonce s) ≡ after_turn direction time nonce (unheld s)
+unheld-turned direction time nonce s turn found =
+    ap (λ o. unheld (after_turn_of direction o s)) found ∙ sym (ap (λ o. after_turn_of direction o (unheld s)) (unheld-turn_on direction time nonce s ∙ found))
 
 -- ---- what a command gives is a change of what is stored
 not-deleted : (b : Bool) → not b ≡ true → b ≡ false
@@ -103,13 +94,18 @@ module _ (s : State) (kept : IsKept s) (command : Command) (time nonce : ℕ)
       by (Ok given) told some = (given, refl, given-changes given told some)
       by (Err refusal) told some = absurd (some refl)
 
-undo_of-state : (time nonce : ℕ) (s : State) → (undo_of time nonce s).state ≡ after_undo time nonce s
-unfolding undo_of
-undo_of-state time nonce s = refl
+turn_by-state : (direction : Direction) (time nonce : ℕ) (s : State) → (turn_by direction time nonce s).state ≡ after_turn direction time nonce s
+unfolding turn_by
+turn_by-state direction time nonce s = refl
 
-redo_of-state : (time nonce : ℕ) (s : State) → (redo_of time nonce s).state ≡ after_redo time nonce s
-unfolding redo_of
-redo_of-state time nonce s = refl
+-- what a turn is as an event
+turn-within : (direction : Direction) (replicas at time : ℕ) → IsKeptEvent replicas (chosen direction (Undo at time) (Redo at time)) → time ≤ greatest_whole
+turn-within directions.Undo replicas at time is = is.within
+turn-within directions.Redo replicas at time is = is.within
+
+turn-after : (direction : Direction) (at time : ℕ) (w : World) → after_event (chosen direction (Undo at time) (Redo at time)) w ≡ after_turn_at direction at time w
+turn-after directions.Undo at time w = refl
+turn-after directions.Redo at time w = refl
 
 delivered-state : (list : List ElementValue) (s : Seat) → (delivered list s).state ≡ after_delivery list s.state
 unfolding delivered
@@ -151,9 +147,9 @@ module _ (replicas : ℕ) (few : replicas ≤ 64) (at : ℕ) (among : at < repli
     keeps-away (Release other id) away =
         put-unheld other (holding (without_id id (state_at w other).held) (seat_at w other)) (λ same. ap (λ (i : ℕ). unheld (state_at w i)) same)
     keeps-away (Undo other time) apart =
-        ap (λ (seat : Seat). unheld seat.state) (other-put other (acted (undo_of time (nonce_at w other) (state_at w other)) (seat_at w other)) apart)
+        ap (λ (seat : Seat). unheld seat.state) (other-put other (acted (turn_by directions.Undo time (nonce_at w other) (state_at w other)) (seat_at w other)) apart)
     keeps-away (Redo other time) apart =
-        ap (λ (seat : Seat). unheld seat.state) (other-put other (acted (redo_of time (nonce_at w other) (state_at w other)) (seat_at w other)) apart)
+        ap (λ (seat : Seat). unheld seat.state) (other-put other (acted (turn_by directions.Redo time (nonce_at w other) (state_at w other)) (seat_at w other)) apart)
 
     small : nonce_at w at ≤ greatest_whole
     small = nonce-small w at (omega arith)
@@ -175,30 +171,22 @@ module _ (replicas : ℕ) (few : replicas ≤ 64) (at : ℕ) (among : at < repli
           done.2,
         )
 
-    undo-here : (event : Event) → IsKeptEvent replicas event → IsUndoAt at event w
-        → (call : Call) × (unheld (state_at (after_event event w) at) ≡ after_undo call.time call.nonce (unheld (state_at w at))) × IsDone call (undo_on call.time call.nonce (unheld (state_at w at)))
-    undo-here event is undo =
-        let it = subst (IsKeptEvent replicas) undo.is is in
+    turn-here : (direction : Direction) (event : Event) → IsKeptEvent replicas event → IsTurnAt direction at event w
+        → (call : Call) × (unheld (state_at (after_event event w) at) ≡ after_turn direction call.time call.nonce (unheld (state_at w at))) × IsDone call (turn_on direction call.time call.nonce (unheld (state_at w at)))
+    turn-here direction event is turn =
         let s : State = state_at w at in
         let nonce : ℕ = nonce_at w at in (
-          record { time = undo.time; nonce = nonce },
-          ap (λ (e : Event). unheld (state_at (after_event e w) at)) undo.is
-              ∙ ap unheld (acted-here (undo_of undo.time nonce s) ∙ undo_of-state undo.time nonce s)
-              ∙ unheld-undone undo.time nonce s undo.turn undo.found,
-          record { time = it.within; nonce = small; turn = undo.turn; is = unheld-undo_on undo.time nonce s ∙ undo.found },
-        )
-
-    redo-here : (event : Event) → IsKeptEvent replicas event → IsRedoAt at event w
-        → (call : Call) × (unheld (state_at (after_event event w) at) ≡ after_redo call.time call.nonce (unheld (state_at w at))) × IsDone call (redo_on call.time call.nonce (unheld (state_at w at)))
-    redo-here event is redo =
-        let it = subst (IsKeptEvent replicas) redo.is is in
-        let s : State = state_at w at in
-        let nonce : ℕ = nonce_at w at in (
-          record { time = redo.time; nonce = nonce },
-          ap (λ (e : Event). unheld (state_at (after_event e w) at)) redo.is
-              ∙ ap unheld (acted-here (redo_of redo.time nonce s) ∙ redo_of-state redo.time nonce s)
-              ∙ unheld-redone redo.time nonce s redo.turn redo.found,
-          record { time = it.within; nonce = small; turn = redo.turn; is = unheld-redo_on redo.time nonce s ∙ redo.found },
+          record { time = turn.time; nonce = nonce },
+          ap (λ (e : Event). unheld (state_at (after_event e w) at)) turn.is
+              ∙ ap (λ (v : World). unheld (state_at v at)) (turn-after direction at turn.time w)
+              ∙ ap unheld (acted-here (turn_by direction turn.time nonce s) ∙ turn_by-state direction turn.time nonce s)
+              ∙ unheld-turned direction turn.time nonce s turn.turn turn.found,
+          record {
+            time = turn-within direction replicas at turn.time (subst (IsKeptEvent replicas) turn.is is);
+            nonce = small;
+            turn = turn.turn;
+            is = unheld-turn_on direction turn.time nonce s ∙ turn.found;
+          },
         )
 
   -- ---- several events
@@ -209,17 +197,12 @@ module _ (replicas : ℕ) (few : replicas ≤ 64) (at : ℕ) (among : at < repli
     pub changes : AreChanges givens s
     pub comes : now ≡ changed_all givens s
 
-  pub record UndosLead (n : ℕ) (s now : State) : Type 0 where
+  -- so many undos, or redos, do
+  pub record TurnsLead (direction : Direction) (n : ℕ) (s now : State) : Type 0 where
     pub calls : List Call
     pub many : length calls ≡ n
-    pub done : AreUndos calls s
-    pub comes : now ≡ undone_all calls s
-
-  pub record RedosLead (n : ℕ) (s now : State) : Type 0 where
-    pub calls : List Call
-    pub many : length calls ≡ n
-    pub done : AreRedos calls s
-    pub comes : now ≡ redone_all calls s
+    pub done : AreTurns direction calls s
+    pub comes : now ≡ turned_all direction calls s
 
   -- the state after events, without its held ids
   abbrev pub comes_to : List Event → World → State
@@ -240,32 +223,17 @@ module _ (replicas : ℕ) (few : replicas ≤ 64) (at : ℕ) (among : at < repli
       subst (λ s. ChangesLead (suc n) s (comes_to events (after_event event w))) (keeps-away w kept event are.0)
       (changes-lead events (after_event event w) (suc n) all.1 (event-kept replicas few event w all.0 kept) are.1)
 
-  pub undos-lead : (events : List Event) (w : World) (n : ℕ) → AllByRecursion (IsKeptEvent replicas) events → IsKeptWorld replicas w → AreUndosAt at events w n → UndosLead n (unheld (state_at w at)) (comes_to events w)
-  undos-lead [] w zero all kept are = record { calls = []; many = refl; done = tt; comes = refl }
-  undos-lead [] w (suc n) all kept are = absurd are
-  undos-lead (event ∷ events) w zero all kept are =
-      subst (λ s. UndosLead zero s (comes_to events (after_event event w))) (keeps-away w kept event are.0)
-      (undos-lead events (after_event event w) zero all.1 (event-kept replicas few event w all.0 kept) are.1)
-  undos-lead (event ∷ events) w (suc n) all kept (inl are) =
-      let here = undo-here w kept event all.0 are.0 in
-      let rest = subst (λ s. UndosLead n s (comes_to events (after_event event w))) here.1
-      (undos-lead events (after_event event w) n all.1 (event-kept replicas few event w all.0 kept) are.1) in
+  pub turns-lead : (direction : Direction) (events : List Event) (w : World) (n : ℕ) → AllByRecursion (IsKeptEvent replicas) events → IsKeptWorld replicas w → AreAmong (IsTurnAt direction) at events w n → TurnsLead direction n (unheld (state_at w at)) (comes_to events w)
+  turns-lead direction [] w zero all kept are = record { calls = []; many = refl; done = tt; comes = refl }
+  turns-lead direction [] w (suc n) all kept are = absurd are
+  turns-lead direction (event ∷ events) w zero all kept are =
+      subst (λ s. TurnsLead direction zero s (comes_to events (after_event event w))) (keeps-away w kept event are.0)
+      (turns-lead direction events (after_event event w) zero all.1 (event-kept replicas few event w all.0 kept) are.1)
+  turns-lead direction (event ∷ events) w (suc n) all kept (inl are) =
+      let here = turn-here w kept direction event all.0 are.0 in
+      let rest = subst (λ s. TurnsLead direction n s (comes_to events (after_event event w))) here.1
+      (turns-lead direction events (after_event event w) n all.1 (event-kept replicas few event w all.0 kept) are.1) in
       record { calls = here.0 ∷ rest.calls; many = ap suc rest.many; done = (here.2, rest.done); comes = rest.comes }
-  undos-lead (event ∷ events) w (suc n) all kept (inr are) =
-      subst (λ s. UndosLead (suc n) s (comes_to events (after_event event w))) (keeps-away w kept event are.0)
-      (undos-lead events (after_event event w) (suc n) all.1 (event-kept replicas few event w all.0 kept) are.1)
-
-  pub redos-lead : (events : List Event) (w : World) (n : ℕ) → AllByRecursion (IsKeptEvent replicas) events → IsKeptWorld replicas w → AreRedosAt at events w n → RedosLead n (unheld (state_at w at)) (comes_to events w)
-  redos-lead [] w zero all kept are = record { calls = []; many = refl; done = tt; comes = refl }
-  redos-lead [] w (suc n) all kept are = absurd are
-  redos-lead (event ∷ events) w zero all kept are =
-      subst (λ s. RedosLead zero s (comes_to events (after_event event w))) (keeps-away w kept event are.0)
-      (redos-lead events (after_event event w) zero all.1 (event-kept replicas few event w all.0 kept) are.1)
-  redos-lead (event ∷ events) w (suc n) all kept (inl are) =
-      let here = redo-here w kept event all.0 are.0 in
-      let rest = subst (λ s. RedosLead n s (comes_to events (after_event event w))) here.1
-      (redos-lead events (after_event event w) n all.1 (event-kept replicas few event w all.0 kept) are.1) in
-      record { calls = here.0 ∷ rest.calls; many = ap suc rest.many; done = (here.2, rest.done); comes = rest.comes }
-  redos-lead (event ∷ events) w (suc n) all kept (inr are) =
-      subst (λ s. RedosLead (suc n) s (comes_to events (after_event event w))) (keeps-away w kept event are.0)
-      (redos-lead events (after_event event w) (suc n) all.1 (event-kept replicas few event w all.0 kept) are.1)
+  turns-lead direction (event ∷ events) w (suc n) all kept (inr are) =
+      subst (λ s. TurnsLead direction (suc n) s (comes_to events (after_event event w))) (keeps-away w kept event are.0)
+      (turns-lead direction events (after_event event w) (suc n) all.1 (event-kept replicas few event w all.0 kept) are.1)

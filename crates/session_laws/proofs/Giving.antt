@@ -14,13 +14,15 @@ use Rattle.board_commands.specs.declared.command.Capture.TheVariants.{Now, Later
 use Rattle.board_commands.specs.declared.command.Command.{Command}
 use Rattle.effects.specs.declared.refusal.Refusal.{Refusal}
 use Rattle.effects.proofs.CallerLemmas.{created-nonce, given-rise, given-kind, given-cases}
+use Rattle.history.specs.declared.planned.Direction.{Direction}
+use Rattle.history.specs.declared.planned.Direction.TheVariants as directions
 use Rattle.undoing.specs.Carrying.{taken_all}
 use Rattle.undoing.specs.Differing.{pending}
 use Rattle.undoing.specs.Steps.{Turn}
 use Rattle.undoing.proofs.CallerLemmas.{taken_all-stored, taken_all-rising}
-use Rattle.replica.specs.State.{State, noted, captured, stored_with, after_outcome, outcome_on, undo_on, redo_on, after_undo_of, after_redo_of}
-use Rattle.session.specs.Worlds.{Seat, Act, fresh, delivered, acted, given_of, of_command, of_step, change_on, undo_of, redo_of}
-use Rattle.session.proofs.CallerLemmas.{outcome-stored, undo-stored, redo-stored}
+use Rattle.replica.specs.State.{State, noted, captured, stored_with, after_outcome, outcome_on, turn_on, after_turn_of}
+use Rattle.session.specs.Worlds.{Seat, Act, fresh, delivered, acted, given_of, of_command, of_step, change_on, turn_by}
+use Rattle.session.proofs.CallerLemmas.{outcome-stored, turn-stored}
 use Rattle.session_laws.proofs.Entries.{IsOrdered, AreOrdered, pending-ordered, given-found, given-version, given-nonce, IsOrderedTurn, turn-ordered}
 
 -- the ids of the elements rise, each has the nonce, and each is of a higher version than the stored one of its id
@@ -139,41 +141,27 @@ module _ (s : State) (time nonce : ℕ) (rise : are_rising (ids_of s.stored) ≡
   own-stacks : AreStacksOrdered (captured s)
   own-stacks = captured-ordered s rise are
 
-  undo-answer : (answer : Option (Result Turn (List ℕ))) → undo_on time nonce s ≡ answer
-      → AreStacksOrdered (after_undo_of answer s) × IsFresh s.stored nonce (given_of (of_step answer))
-  undo-answer None is = (own-stacks, none-fresh s.stored nonce)
-  undo-answer (Some (Err id)) is = (are, none-fresh s.stored nonce)
-  undo-answer (Some (Ok turn)) is =
+  turn-answer : (direction : Direction) (answer : Option (Result Turn (List ℕ))) → turn_on direction time nonce s ≡ answer
+      → AreStacksOrdered (after_turn_of direction answer s) × IsFresh s.stored nonce (given_of (of_step answer))
+  turn-answer direction None is = (own-stacks, none-fresh s.stored nonce)
+  turn-answer direction (Some (Err id)) is = (are, none-fresh s.stored nonce)
+  turn-answer directions.Undo (Some (Ok turn)) is =
       let own = turn-ordered s.stored time nonce (captured s).undo (captured s).redo turn own-stacks.undo own-stacks.redo is in
       (record { undo = own.from; redo = own.to }, turn-fresh turn own)
-
-  undo-is : IsOwnAct s nonce (undo_of time nonce s)
-  unfolding undo_of
-  undo-is =
-      let own = undo-answer (undo_on time nonce s) refl in
-      record { stored = undo-stored (undo_on time nonce s) s; undo = own.0.undo; redo = own.0.redo; gives = own.1 }
-
-  redo-answer : (answer : Option (Result Turn (List ℕ))) → redo_on time nonce s ≡ answer
-      → AreStacksOrdered (after_redo_of answer s) × IsFresh s.stored nonce (given_of (of_step answer))
-  redo-answer None is = (own-stacks, none-fresh s.stored nonce)
-  redo-answer (Some (Err id)) is = (are, none-fresh s.stored nonce)
-  redo-answer (Some (Ok turn)) is =
+  turn-answer directions.Redo (Some (Ok turn)) is =
       let own = turn-ordered s.stored time nonce (captured s).redo (captured s).undo turn own-stacks.redo own-stacks.undo is in
       (record { undo = own.to; redo = own.from }, turn-fresh turn own)
 
-  redo-is : IsOwnAct s nonce (redo_of time nonce s)
-  unfolding redo_of
-  redo-is =
-      let own = redo-answer (redo_on time nonce s) refl in
-      record { stored = redo-stored (redo_on time nonce s) s; undo = own.0.undo; redo = own.0.redo; gives = own.1 }
+  turn-is : (direction : Direction) → IsOwnAct s nonce (turn_by direction time nonce s)
+  unfolding turn_by
+  turn-is direction =
+      let own = turn-answer direction (turn_on direction time nonce s) refl in
+      record { stored = turn-stored direction (turn_on direction time nonce s) s; undo = own.0.undo; redo = own.0.redo; gives = own.1 }
 
 -- each is so at a replica that is ready
 module _ (s : Seat) (ready : IsReady s) (time nonce : ℕ) where
   pub change-own : (command : Command) (capture : Capture) → IsOwnAct s.state nonce (change_on command capture time nonce s.state)
   change-own command capture = change-is s.state time nonce ready.stores.ordered (record { undo = ready.undo; redo = ready.redo }) command capture
 
-  pub undo-own : IsOwnAct s.state nonce (undo_of time nonce s.state)
-  undo-own = undo-is s.state time nonce ready.stores.ordered (record { undo = ready.undo; redo = ready.redo })
-
-  pub redo-own : IsOwnAct s.state nonce (redo_of time nonce s.state)
-  redo-own = redo-is s.state time nonce ready.stores.ordered (record { undo = ready.undo; redo = ready.redo })
+  pub turn-own : (direction : Direction) → IsOwnAct s.state nonce (turn_by direction time nonce s.state)
+  turn-own = turn-is s.state time nonce ready.stores.ordered (record { undo = ready.undo; redo = ready.redo })

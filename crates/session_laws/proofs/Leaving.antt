@@ -10,6 +10,9 @@ use Rattle.elem_store.specs.Updates.{element_of, ids_of}
 use Rattle.delta.specs.Pairs.{Pair}
 use Rattle.delta.specs.Placed.{item_of}
 use Rattle.delta.proofs.CallerLemmas.{scalars-same-but-stamp, item-member}
+use Rattle.history.specs.Stacks.{other}
+use Rattle.history.specs.declared.planned.Direction.{Direction}
+use Rattle.history.specs.declared.planned.Direction.TheVariants as directions
 use Rattle.undoing.specs.Carrying.{taken_all}
 use Rattle.undoing.specs.Differing.{differ}
 use Rattle.undoing.specs.Entries.{IsEntry, AreEntries, IsGiven}
@@ -17,7 +20,7 @@ use Rattle.undoing.specs.Leaving.{Leaves, LeavesOthers, StepLeavesOthers}
 use Rattle.undoing.specs.Steps.{Turn, stamped, given, step}
 use Rattle.undoing.specs.Undoing.{undone}
 use Rattle.undoing.proofs.CallerLemmas.{differ-false, found-is, undone-leaves, given-each, given-all, given-rise, given-taken, step-turn, sought-entries, undone-stamp, undone-element, restamped}
-use Rattle.replica.specs.State.{State, captured, undo_on, redo_on, after_undo_of, after_redo_of, after_undo, after_redo}
+use Rattle.replica.specs.State.{State, captured, entries, turn_on, after_turn_of, after_turn}
 use Rattle.replica.proofs.CallerLemmas.{taken-at, taken-else}
 use Rattle.session_text.specs.Facts.{IsSession}
 use Rattle.session_text.specs.declared.session.Session.{Session}
@@ -107,6 +110,10 @@ step-leaves stored time nonce from to turn are rise entries others is =
           (leaves-others stored are rise time nonce t.seen.entry own.entry);
     }
 
+side-entries : (direction : Direction) (s : State) → IsKept s → AreEntries (entries direction s)
+side-entries directions.Undo s kept = kept.undo_entries
+side-entries directions.Redo s kept = kept.redo_entries
+
 module _ (session : Session) (is : IsSession session) (count at : ℕ) (among : at < session.replicas) (time nonce : ℕ) (turn : Turn) where
   abbrev s : State
   s = state_at (world_after session count) at
@@ -114,14 +121,8 @@ module _ (session : Session) (is : IsSession session) (count at : ℕ) (among : 
   kept : IsKept s
   kept = (seat-kept session.replicas (world_after session count) (world-kept session is count) at among).state
 
-  pub undo-leaves : undo_on time nonce s ≡ Some (Ok turn) → StepLeavesOthers (captured s).undo (captured s).redo s.stored (after_undo time nonce s).stored
-  undo-leaves found =
+  pub turn-leaves : (direction : Direction) → turn_on direction time nonce s ≡ Some (Ok turn) → StepLeavesOthers (entries direction (captured s)) (entries (other direction) (captured s)) s.stored (after_turn direction time nonce s).stored
+  turn-leaves direction found =
       let was = captured-kept s kept in
-      subst (λ (t : State). StepLeavesOthers (captured s).undo (captured s).redo s.stored t.stored) (sym (ap (λ o. after_undo_of o s) found))
-      (step-leaves s.stored time nonce (captured s).undo (captured s).redo turn kept.stored_elements kept.stored_rise was.undo_entries was.redo_entries found)
-
-  pub redo-leaves : redo_on time nonce s ≡ Some (Ok turn) → StepLeavesOthers (captured s).redo (captured s).undo s.stored (after_redo time nonce s).stored
-  redo-leaves found =
-      let was = captured-kept s kept in
-      subst (λ (t : State). StepLeavesOthers (captured s).redo (captured s).undo s.stored t.stored) (sym (ap (λ o. after_redo_of o s) found))
-      (step-leaves s.stored time nonce (captured s).redo (captured s).undo turn kept.stored_elements kept.stored_rise was.redo_entries was.undo_entries found)
+      subst (λ (t : State). StepLeavesOthers (entries direction (captured s)) (entries (other direction) (captured s)) s.stored t.stored) (sym (ap (λ o. after_turn_of direction o s) found))
+      (step-leaves s.stored time nonce (entries direction (captured s)) (entries (other direction) (captured s)) turn kept.stored_elements kept.stored_rise (side-entries direction (captured s) was) (side-entries (other direction) (captured s) was) found)

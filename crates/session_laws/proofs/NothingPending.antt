@@ -15,13 +15,15 @@ use Rattle.board_commands.specs.declared.command.Command.{Command}
 use Rattle.effects.specs.declared.refusal.Refusal.{Refusal}
 use Rattle.undoing.specs.Differing.{pending}
 use Rattle.undoing.specs.Steps.{Turn}
+use Rattle.history.specs.declared.planned.Direction.{Direction}
+use Rattle.history.specs.declared.planned.Direction.TheVariants as directions
 use Rattle.replica.specs.Back.{HasNothingPending, IsCaptured}
-use Rattle.replica.specs.State.{State, noted, captured, stored_with, outcome_on, after_outcome, after_delivery, undo_on, redo_on, after_undo_of, after_redo_of}
+use Rattle.replica.specs.State.{State, noted, captured, stored_with, outcome_on, after_outcome, after_delivery, turn_on, after_turn_of}
 use Rattle.session_text.specs.Facts.{IsSession}
 use Rattle.session_text.specs.declared.event.Event.{Event}
 use Rattle.session_text.specs.declared.event.Event.TheVariants.{Change, Update, Deliver, Hold, Release, Undo, Redo}
 use Rattle.session_text.specs.declared.session.Session.{Session}
-use Rattle.session.specs.Worlds.{Seat, World, fresh, delivered, holding, with_id, without_id, change_on, undo_of, redo_of, acted, seat_at, state_at, nonce_at, all_picked, after_event, after_events, opening_elements, opened, world_after}
+use Rattle.session.specs.Worlds.{Seat, World, fresh, delivered, holding, with_id, without_id, change_on, turn_by, acted, seat_at, state_at, nonce_at, all_picked, after_event, after_events, opening_elements, opened, world_after}
 use Rattle.session_laws.specs.Turning.{IsLaterAt}
 use Rattle.session_laws.proofs.SoundStates.{IsKept, kept-nothing, command-given}
 use Rattle.session_laws.proofs.SoundWorlds.{IsKeptWorld, IsKeptEvent, seat-kept, nonce-small, picked-elements, event-kept, opening-are, opened-kept, world-kept, cut}
@@ -37,15 +39,10 @@ noted-stored (pair ∷ entry) s = refl
 captured-still : (s : State) → IsCaptured (captured s)
 captured-still s = ap (map unstamped) (sym (noted-stored (pending s.snapshot s.stored) s))
 
-undo-still : (found : Option (Result Turn (List ℕ))) (s : State) → IsCaptured s → IsCaptured (after_undo_of found s)
-undo-still None s still = captured-still s
-undo-still (Some (Err id)) s still = still
-undo-still (Some (Ok turn)) s still = refl
-
-redo-still : (found : Option (Result Turn (List ℕ))) (s : State) → IsCaptured s → IsCaptured (after_redo_of found s)
-redo-still None s still = captured-still s
-redo-still (Some (Err id)) s still = still
-redo-still (Some (Ok turn)) s still = refl
+turn-still : (direction : Direction) (found : Option (Result Turn (List ℕ))) (s : State) → IsCaptured s → IsCaptured (after_turn_of direction found s)
+turn-still direction None s still = captured-still s
+turn-still direction (Some (Err id)) s still = still
+turn-still direction (Some (Ok turn)) s still = refl
 
 outcome-still : (capture : Capture) (o : Result (List ElementValue) Refusal) (s : State) → IsKept s → ((given : List ElementValue) → o ≡ Ok given → AreElements given) → (capture ≡ Later → ⊥) → IsCaptured s → IsCaptured (after_outcome capture o s)
 outcome-still Now (Ok given) s kept are soon still = captured-still (stored_with given s)
@@ -57,13 +54,9 @@ delivery-still : (list : List ElementValue) (s : State) → IsKept s → AreElem
 delivery-still list s kept are still =
     carried-captured s (free_elements s.held list) kept (All-filter (λ (e : ElementValue). not (is_held s.held e.id)) (λ e. IsElement e × HasValidTexts e) list are) still
 
-undo_of-still : (time nonce : ℕ) (s : State) → IsCaptured s → IsCaptured (undo_of time nonce s).state
-unfolding undo_of
-undo_of-still time nonce s still = undo-still (undo_on time nonce s) s still
-
-redo_of-still : (time nonce : ℕ) (s : State) → IsCaptured s → IsCaptured (redo_of time nonce s).state
-unfolding redo_of
-redo_of-still time nonce s still = redo-still (redo_on time nonce s) s still
+turn_by-still : (direction : Direction) (time nonce : ℕ) (s : State) → IsCaptured s → IsCaptured (turn_by direction time nonce s).state
+unfolding turn_by
+turn_by-still direction time nonce s still = turn-still direction (turn_on direction time nonce s) s still
 
 delivered-still : (list : List ElementValue) (s : Seat) → IsKept s.state → AreElements list → IsCaptured s.state → IsCaptured (delivered list s).state
 unfolding delivered
@@ -106,9 +99,9 @@ module _ (replicas : ℕ) (few : replicas ≤ 64) (at : ℕ) (among : at < repli
     event-still (Hold other id) is soon = put-still other (holding (with_id id (state_at w other).held) (seat_at w other)) (λ same. still-at other same)
     event-still (Release other id) is soon = put-still other (holding (without_id id (state_at w other).held) (seat_at w other)) (λ same. still-at other same)
     event-still (Undo other time) is soon =
-        put-still other (acted (undo_of time (nonce_at w other) (state_at w other)) (seat_at w other)) (λ same. undo_of-still time (nonce_at w other) (state_at w other) (still-at other same))
+        put-still other (acted (turn_by directions.Undo time (nonce_at w other) (state_at w other)) (seat_at w other)) (λ same. turn_by-still directions.Undo time (nonce_at w other) (state_at w other) (still-at other same))
     event-still (Redo other time) is soon =
-        put-still other (acted (redo_of time (nonce_at w other) (state_at w other)) (seat_at w other)) (λ same. redo_of-still time (nonce_at w other) (state_at w other) (still-at other same))
+        put-still other (acted (turn_by directions.Redo time (nonce_at w other) (state_at w other)) (seat_at w other)) (λ same. turn_by-still directions.Redo time (nonce_at w other) (state_at w other) (still-at other same))
 
   events-still : (events : List Event) (w : World) → IsKeptWorld replicas w → AllByRecursion (IsKeptEvent replicas) events → AllByRecursion (λ (event : Event). IsLaterAt at event → ⊥) events
       → IsCaptured (state_at w at) → IsCaptured (state_at (after_events events w) at)

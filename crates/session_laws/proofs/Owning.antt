@@ -7,6 +7,7 @@ use Rattle.std.proofs.lemmas.Option.{same_Some}
 use Rattle.elem.specs.ElementValue.{ElementValue}
 use Rattle.elem_store.specs.Updates.{element_of, IsFreeOfClashes}
 use Rattle.elem_store.proofs.CallerLemmas.{member}
+use Rattle.history.specs.declared.planned.Direction.TheVariants as directions
 use Rattle.session_text.specs.Facts.{IsAmong, IsSession}
 use Rattle.session_text.specs.declared.event.Event.{Event}
 use Rattle.session_text.specs.declared.event.Event.TheVariants.{Change, Update, Deliver, Hold, Release, Undo, Redo}
@@ -15,11 +16,11 @@ use Rattle.session.specs.declared.report.Report.{Report}
 use Rattle.session.specs.Clashes.{HaveClashes}
 use Rattle.session.specs.Reports.{IsReportOf}
 use Rattle.drawn_words.specs.Words.{next_word}
-use Rattle.session.specs.Worlds.{Seat, World, Act, fresh, delivered, holding, with_id, without_id, acted, given_of, change_on, undo_of, redo_of, seat_at, state_at, nonce_at, all_picked, after_act, after_seat, after_event, after_events, opened, opening_elements, all_elements, world_after, last_world}
+use Rattle.session.specs.Worlds.{Seat, World, Act, fresh, delivered, holding, with_id, without_id, acted, given_of, change_on, turn_by, seat_at, state_at, nonce_at, all_picked, after_act, after_seat, after_event, after_events, opened, opening_elements, all_elements, world_after, last_world}
 use Rattle.session.proofs.CallerLemmas.{flat, clashes-same}
 use Rattle.session_laws.specs.Own.{IsOwnEvent, HasOwnUpdates}
 use Rattle.session_laws.proofs.Seats.{at-set, at-replicated, Keeps, seat-keeps, act-keeps, delivered-keeps, opened-seats, opened-takes, put-there, flat-more}
-use Rattle.session_laws.proofs.Giving.{IsReady, fresh-ready, delivered-ready, IsOwnAct, acted-ready, change-own, undo-own, redo-own}
+use Rattle.session_laws.proofs.Giving.{IsReady, fresh-ready, delivered-ready, IsOwnAct, acted-ready, change-own, turn-own}
 use Rattle.session_laws.proofs.Ties.{AreAlike, free-more, none-free, free-of-clashes, covered}
 
 -- ---- an element that a replica made
@@ -144,9 +145,9 @@ module _ (replicas : ℕ) (opening : List ElementValue) where
         let ready = own.ready at in
         seat-owns w at (holding (without_id id (state_at w at).held) (seat_at w at)) (record { stores = ready.stores; undo = ready.undo; redo = ready.redo }) (λ e c. c) own
     event-owns (Undo at time) w l h own =
-        act-owns most w own at l (undo_of time (nonce_at w at) (state_at w at)) (undo-own (seat_at w at) (own.ready at) time (nonce_at w at))
+        act-owns most w own at l (turn_by directions.Undo time (nonce_at w at) (state_at w at)) (turn-own (seat_at w at) (own.ready at) time (nonce_at w at) directions.Undo)
     event-owns (Redo at time) w l h own =
-        act-owns most w own at l (redo_of time (nonce_at w at) (state_at w at)) (redo-own (seat_at w at) (own.ready at) time (nonce_at w at))
+        act-owns most w own at l (turn_by directions.Redo time (nonce_at w at) (state_at w at)) (turn-own (seat_at w at) (own.ready at) time (nonce_at w at) directions.Redo)
 
     events-own : (events : List Event) (w : World) → AllByRecursion (IsAmong replicas) events → AllByRecursion IsOwnEvent events → IsOwnWorld replicas opening w → IsOwnWorld replicas opening (after_events events w)
     events-own [] w places all own = own

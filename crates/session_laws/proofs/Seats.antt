@@ -5,10 +5,11 @@ use Rattle.std.proofs.lemmas.List.{length-replicate}
 use Rattle.std.proofs.lemmas.List.Elements.{Contains-append_left, Contains-append_right}
 use Rattle.elem.specs.ElementValue.{ElementValue}
 use Rattle.reconcile.specs.Ids.{free_elements}
+use Rattle.history.specs.declared.planned.Direction.TheVariants as directions
 use Rattle.session_text.specs.declared.event.Event.{Event}
 use Rattle.session_text.specs.declared.event.Event.TheVariants.{Change, Update, Deliver, Hold, Release, Undo, Redo}
 use Rattle.session_text.specs.declared.session.Session.{Session}
-use Rattle.session.specs.Worlds.{Seat, World, Act, fresh, delivered, holding, with_id, without_id, acted, given_of, change_on, undo_of, redo_of, seat_at, state_at, nonce_at, all_picked, after_act, after_seat, after_event, after_events, opened, opening_elements}
+use Rattle.session.specs.Worlds.{Seat, World, Act, fresh, delivered, holding, with_id, without_id, acted, given_of, change_on, turn_by, seat_at, state_at, nonce_at, all_picked, after_act, after_seat, after_event, after_events, opened, opening_elements}
 use Rattle.session.proofs.CallerLemmas.{flat}
 
 -- ---- replicas by their numbers
@@ -62,8 +63,8 @@ event-keeps (Deliver to picks) w =
     seat-keeps w to (delivered (all_picked w.messages picks) (seat_at w to)) (delivered-keeps (all_picked w.messages picks) (seat_at w to))
 event-keeps (Hold at id) w = seat-keeps w at (holding (with_id id (state_at w at).held) (seat_at w at)) (λ e c. c)
 event-keeps (Release at id) w = seat-keeps w at (holding (without_id id (state_at w at).held) (seat_at w at)) (λ e c. c)
-event-keeps (Undo at time) w = act-keeps w at (undo_of time (nonce_at w at) (state_at w at))
-event-keeps (Redo at time) w = act-keeps w at (redo_of time (nonce_at w at) (state_at w at))
+event-keeps (Undo at time) w = act-keeps w at (turn_by directions.Undo time (nonce_at w at) (state_at w at))
+event-keeps (Redo at time) w = act-keeps w at (turn_by directions.Redo time (nonce_at w at) (state_at w at))
 
 pub events-keep : (events : List Event) (w : World) → Keeps w (after_events events w)
 events-keep [] w at e c = c

@@ -20,6 +20,8 @@ use Rattle.board_commands.specs.declared.command.Command.{Command}
 use Rattle.effects.specs.declared.refusal.Refusal.{Refusal}
 use Rattle.board_commands.specs.Limits.{IsWithinLimits}
 use Rattle.effects.proofs.CallerLemmas.{absent, given-rise, given-taken, given-kind}
+use Rattle.history.specs.declared.planned.Direction.{Direction}
+use Rattle.history.specs.declared.planned.Direction.TheVariants as directions
 use Rattle.undoing.specs.Carrying.{taken_all}
 use Rattle.undoing.specs.Differing.{same_kind, is_changed, pending}
 use Rattle.undoing.specs.Entries.{IsEntry, AreEntries}
@@ -28,7 +30,7 @@ use Rattle.undoing.proofs.CallerLemmas.{same_kind-true, found-is, pending-entry,
 use Rattle.snapshot.specs.Carried.{AreOfStoredKinds}
 use Rattle.snapshot.proofs.CallerLemmas.{kinds-carried_all, kinds-stored}
 use Rattle.replica.specs.Sound.{IsSoundState}
-use Rattle.replica.specs.State.{State, nothing, noted, captured, stored_with, carried_with, outcome_on, after_given, after_outcome, after_change, after_delivery, undo_on, redo_on, after_undo_of, after_redo_of, after_undo, after_redo}
+use Rattle.replica.specs.State.{State, nothing, noted, captured, stored_with, carried_with, outcome_on, after_given, after_outcome, after_change, after_delivery, turn_on, after_turn_of, after_turn}
 use Rattle.replica.proofs.CallerLemmas.{taken-at, taken-else}
 use Rattle.board_commands.specs.Written.{IsWrittenCommand}
 use Rattle.given_elements.proofs.CallerLemmas.{board-given}
@@ -309,34 +311,25 @@ module _ (s : State) (kept : IsKept s) (time nonce : ℕ) (early : time ≤ grea
   own-ids stack ids = subst (λ es. HaveIds (IsStoredIn es) stack) same-stored ids
 
   -- what a step of undo or redo gives is of elements
-  pub undo-turn : (turn : Turn) → undo_on time nonce s ≡ Some (Ok turn) → IsKeptTurn s.stored turn
-  undo-turn turn is =
+  pub turn-of : (direction : Direction) (turn : Turn) → turn_on direction time nonce s ≡ Some (Ok turn) → IsKeptTurn s.stored turn
+  turn-of directions.Undo turn is =
       let was = captured-kept s kept in
       step-kept s.stored time nonce (captured s).undo (captured s).redo turn kept.stored_elements was.undo_entries was.redo_entries
       (own-ids (captured s).undo was.undo_ids) (own-ids (captured s).redo was.redo_ids) early small is
-
-  pub redo-turn : (turn : Turn) → redo_on time nonce s ≡ Some (Ok turn) → IsKeptTurn s.stored turn
-  redo-turn turn is =
+  turn-of directions.Redo turn is =
       let was = captured-kept s kept in
       step-kept s.stored time nonce (captured s).redo (captured s).undo turn kept.stored_elements was.redo_entries was.undo_entries
       (own-ids (captured s).redo was.redo_ids) (own-ids (captured s).undo was.undo_ids) early small is
 
-  undo-kept-of : (found : Option (Result Turn (List ℕ))) → ((turn : Turn) → found ≡ Some (Ok turn) → IsKeptTurn s.stored turn) → IsKept (after_undo_of found s)
-  undo-kept-of None turns = captured-kept s kept
-  undo-kept-of (Some (Err id)) turns = kept
-  undo-kept-of (Some (Ok turn)) turns =
+  turns-kept : (direction : Direction) (found : Option (Result Turn (List ℕ))) → ((turn : Turn) → found ≡ Some (Ok turn) → IsKeptTurn s.stored turn) → IsKept (after_turn_of direction found s)
+  turns-kept direction None turns = captured-kept s kept
+  turns-kept direction (Some (Err id)) turns = kept
+  turns-kept directions.Undo (Some (Ok turn)) turns =
       let own = turns turn refl in
       turn-kept turn turn.from turn.to own own.from own.to own.from_ids own.to_ids
-
-  redo-kept-of : (found : Option (Result Turn (List ℕ))) → ((turn : Turn) → found ≡ Some (Ok turn) → IsKeptTurn s.stored turn) → IsKept (after_redo_of found s)
-  redo-kept-of None turns = captured-kept s kept
-  redo-kept-of (Some (Err id)) turns = kept
-  redo-kept-of (Some (Ok turn)) turns =
+  turns-kept directions.Redo (Some (Ok turn)) turns =
       let own = turns turn refl in
       turn-kept turn turn.to turn.from own own.to own.from own.to_ids own.from_ids
 
-  pub undo-kept : IsKept (after_undo time nonce s)
-  undo-kept = undo-kept-of (undo_on time nonce s) undo-turn
-
-  pub redo-kept : IsKept (after_redo time nonce s)
-  redo-kept = redo-kept-of (redo_on time nonce s) redo-turn
+  pub after-kept : (direction : Direction) → IsKept (after_turn direction time nonce s)
+  after-kept direction = turns-kept direction (turn_on direction time nonce s) (turn-of direction)

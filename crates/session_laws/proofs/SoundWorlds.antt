@@ -13,8 +13,10 @@ use Rattle.effects.specs.declared.refusal.Refusal.{Refusal}
 use Rattle.board_commands.specs.Limits.{IsWithinLimits}
 use Rattle.undoing.specs.Steps.{Turn}
 use Rattle.reconcile.specs.Ids.{is_held, free_elements}
+use Rattle.history.specs.declared.planned.Direction.{Direction}
+use Rattle.history.specs.declared.planned.Direction.TheVariants as directions
 use Rattle.replica.specs.Sound.{IsSoundState}
-use Rattle.replica.specs.State.{State, outcome_on, undo_on, redo_on}
+use Rattle.replica.specs.State.{State, outcome_on, turn_on}
 use Rattle.scene_file.specs.declared.scene.Scene.{Scene}
 use Rattle.session_text.specs.Facts.{IsAmong, IsEventWithinLimits, BringsElements, IsSession}
 use Rattle.session_text.specs.declared.event.Event.{Event}
@@ -23,9 +25,9 @@ use Rattle.session_text.specs.declared.event.Pick.{Pick}
 use Rattle.session_text.specs.declared.event.Pick.TheVariants.{All as Whole, One}
 use Rattle.session_text.specs.declared.session.Session.{Session}
 use Rattle.drawn_words.proofs.CallerLemmas.{word-below}
-use Rattle.session.specs.Worlds.{Seat, World, Act, fresh, delivered, holding, with_id, without_id, of_command, of_step, change_on, undo_of, redo_of, given_of, acted, seat_at, state_at, nonce_at, after_act, after_seat, picked, all_picked, after_event, after_events, opening_elements, opened, world_after}
+use Rattle.session.specs.Worlds.{Seat, World, Act, fresh, delivered, holding, with_id, without_id, of_command, of_step, change_on, turn_by, given_of, acted, seat_at, state_at, nonce_at, after_act, after_seat, picked, all_picked, after_event, after_events, opening_elements, opened, world_after}
 use Rattle.board_commands.specs.Written.{IsWrittenCommand}
-use Rattle.session_laws.proofs.SoundStates.{IsKept, kept-sound, kept-nothing, change-kept, command-given, delivery-kept, undo-kept, redo-kept, undo-turn, redo-turn}
+use Rattle.session_laws.proofs.SoundStates.{IsKept, kept-sound, kept-nothing, change-kept, command-given, delivery-kept, after-kept, turn-of}
 
 -- an element as its type keeps it
 abbrev Is : ElementValue → Type 0
@@ -118,18 +120,11 @@ module _ (s : State) (kept : IsKept s) (time nonce : ℕ) (early : time ≤ grea
     command-elements (outcome_on command time nonce s) (λ given told. (command-given s kept command time nonce given limits written early small told).elements),
   )
 
-  undo_of-kept : IsKept (undo_of time nonce s).state × AreElements (given_of (undo_of time nonce s).outcome)
-  unfolding undo_of
-  undo_of-kept = (
-    undo-kept s kept time nonce early small,
-    step-elements (undo_on time nonce s) (λ turn is. (undo-turn s kept time nonce early small turn is).elements),
-  )
-
-  redo_of-kept : IsKept (redo_of time nonce s).state × AreElements (given_of (redo_of time nonce s).outcome)
-  unfolding redo_of
-  redo_of-kept = (
-    redo-kept s kept time nonce early small,
-    step-elements (redo_on time nonce s) (λ turn is. (redo-turn s kept time nonce early small turn is).elements),
+  turn_by-kept : (direction : Direction) → IsKept (turn_by direction time nonce s).state × AreElements (given_of (turn_by direction time nonce s).outcome)
+  unfolding turn_by
+  turn_by-kept direction = (
+    after-kept s kept time nonce early small direction,
+    step-elements (turn_on direction time nonce s) (λ turn is. (turn-of s kept time nonce early small direction turn is).elements),
   )
 
 delivered-kept : (list : List ElementValue) (s : Seat) → AreElements list → IsKeptSeat s → IsKeptSeat (delivered list s)
@@ -178,12 +173,12 @@ module _ (replicas : ℕ) (few : replicas ≤ 64) where
       after_seat-kept replicas w kept at (holding ids (seat_at w at)) (holding-kept ids (seat_at w at) (seat-kept replicas w kept at is.among))
   event-kept (Undo at time) w is kept =
       let small : nonce_at w at ≤ greatest_whole = nonce-small w at (let l = is.among in omega arith) in
-      let own = undo_of-kept (state_at w at) (seat-kept replicas w kept at is.among).state time (nonce_at w at) is.within small in
-      after_act-kept replicas w kept at (undo_of time (nonce_at w at) (state_at w at)) is.among own.0 own.1
+      let own = turn_by-kept (state_at w at) (seat-kept replicas w kept at is.among).state time (nonce_at w at) is.within small directions.Undo in
+      after_act-kept replicas w kept at (turn_by directions.Undo time (nonce_at w at) (state_at w at)) is.among own.0 own.1
   event-kept (Redo at time) w is kept =
       let small : nonce_at w at ≤ greatest_whole = nonce-small w at (let l = is.among in omega arith) in
-      let own = redo_of-kept (state_at w at) (seat-kept replicas w kept at is.among).state time (nonce_at w at) is.within small in
-      after_act-kept replicas w kept at (redo_of time (nonce_at w at) (state_at w at)) is.among own.0 own.1
+      let own = turn_by-kept (state_at w at) (seat-kept replicas w kept at is.among).state time (nonce_at w at) is.within small directions.Redo in
+      after_act-kept replicas w kept at (turn_by directions.Redo time (nonce_at w at) (state_at w at)) is.among own.0 own.1
 
   pub events-kept : (events : List Event) (w : World) → AllByRecursion (IsKeptEvent replicas) events → IsKeptWorld replicas w → IsKeptWorld replicas (after_events events w)
   events-kept [] w all kept = kept

@@ -5,14 +5,15 @@ use Rattle.std.proofs.lemmas.List.Elements.{Contains-append_left, Contains-appen
 use Rattle.elem.specs.ElementValue.{ElementValue}
 use Rattle.elem_store.specs.Updates.{HaveSameUpdates}
 use Rattle.elem_store.proofs.CallerLemmas.{Contains-cases}
+use Rattle.history.specs.declared.planned.Direction.TheVariants as directions
 use Rattle.session_text.specs.Sessions.{messages_of, made_after}
 use Rattle.session_text.specs.declared.event.Event.{Event}
 use Rattle.session_text.specs.declared.event.Event.TheVariants.{Change, Update, Deliver, Hold, Release, Undo, Redo}
 use Rattle.session_text.specs.declared.event.Pick.{Pick}
 use Rattle.session_text.specs.declared.event.Pick.TheVariants.{All}
 use Rattle.session_text.specs.declared.session.Session.{Session}
-use Rattle.session.specs.Worlds.{Seat, World, Act, fresh, delivered, holding, without_id, acted, change_on, undo_of, redo_of, seat_at, state_at, nonce_at, picked, all_picked, after_act, after_event, after_events, opened, opening_elements, all_elements, last_world}
-use Rattle.session.proofs.CallerLemmas.{flat, change-held, undo_of-held, redo_of-held, taken-made, events-append, world-last}
+use Rattle.session.specs.Worlds.{Seat, World, Act, fresh, delivered, holding, without_id, acted, change_on, turn_by, seat_at, state_at, nonce_at, picked, all_picked, after_act, after_event, after_events, opened, opening_elements, all_elements, last_world}
+use Rattle.session.proofs.CallerLemmas.{flat, change-held, turn_by-held, taken-made, events-append, world-last}
 use Rattle.session_laws.specs.Told.{IsNoHold, HasNoHolds, IsDelivery, IsToldAll}
 use Rattle.session_laws.proofs.Seats.{at-set, at-replicated, numbered, events-keep, events-seats, opened-seats, opened-takes, delivered-takes, put-there}
 
@@ -39,8 +40,8 @@ event-holds_none (Hold at id) w h none = absurd h
 event-holds_none (Release at id) w h none =
     at-set (λ (i : ℕ) (t : Seat). t.state.held ≡ []) w.seats at (holding (without_id id (state_at w at).held) (seat_at w at))
     (ap (without_id id) (none at)) none
-event-holds_none (Undo at time) w h none = act-holds_none at (undo_of time (nonce_at w at) (state_at w at)) w (undo_of-held time (nonce_at w at) (state_at w at)) none
-event-holds_none (Redo at time) w h none = act-holds_none at (redo_of time (nonce_at w at) (state_at w at)) w (redo_of-held time (nonce_at w at) (state_at w at)) none
+event-holds_none (Undo at time) w h none = act-holds_none at (turn_by directions.Undo time (nonce_at w at) (state_at w at)) w (turn_by-held directions.Undo time (nonce_at w at) (state_at w at)) none
+event-holds_none (Redo at time) w h none = act-holds_none at (turn_by directions.Redo time (nonce_at w at) (state_at w at)) w (turn_by-held directions.Redo time (nonce_at w at) (state_at w at)) none
 
 events-hold_none : (events : List Event) (w : World) → AllByRecursion IsNoHold events → HoldNothing w → HoldNothing (after_events events w)
 events-hold_none [] w all none = none

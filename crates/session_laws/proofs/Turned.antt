@@ -6,6 +6,7 @@ use Rattle.elem.specs.ElementValue.{ElementValue}
 use Rattle.elem.specs.Order.{unstamped}
 use Rattle.delta.specs.Pairs.{Pair}
 use Rattle.undoing.specs.Differing.{pending}
+use Rattle.history.specs.declared.planned.Direction.TheVariants as directions
 use Rattle.replica.specs.Back.{IsAs, HasNothingPending, IsCaptured, IsFound, changed, changed_all, AreChanges, undone_all, redone_all, AreUndos, AreRedos}
 use Rattle.replica.specs.Sound.{IsSoundState}
 use Rattle.replica.specs.State.{State, noted, captured, stored_with, undo_on, redo_on}
@@ -17,7 +18,7 @@ use Rattle.session.specs.Worlds.{World, state_at, after_events, world_after}
 use Rattle.session_laws.specs.Turning.{AreChangesAt, AreUndosAt, AreRedosAt}
 use Rattle.session_laws.proofs.SoundStates.{kept-sound}
 use Rattle.session_laws.proofs.SoundWorlds.{IsKeptWorld, IsKeptEvent, seat-kept, events-kept, all-parts, world-kept, rest-kept}
-use Rattle.session_laws.proofs.AtReplica.{unheld, unheld-undo_on, unheld-redo_on, changes-lead, undos-lead, redos-lead}
+use Rattle.session_laws.proofs.AtReplica.{unheld, unheld-turn_on, changes-lead, turns-lead}
 
 -- ---- held ids play no part in what holds of a state
 unheld-sound : (s : State) → IsSoundState s → IsSoundState (unheld s)
@@ -80,7 +81,7 @@ module _ (replicas : ℕ) (few : replicas ≤ 64) (w : World) (kept : IsKeptWorl
         let s : State = unheld (state_at w at) in
         let next : World = after changes in
         let lead = changes-lead replicas few at among changes w n all kept are in
-        let lead' = undos-lead replicas few at among undos next n all' (events-kept replicas few changes w all kept) are' in
+        let lead' = turns-lead replicas few at among directions.Undo undos next n all' (events-kept replicas few changes w all kept) are' in
         let done : AreUndos lead'.calls (changed_all lead.givens s) = subst (AreUndos lead'.calls) lead.comes lead'.done in
         let comes : unheld (state_at (after_events undos next) at) ≡ undone_all lead'.calls (changed_all lead.givens s) = lead'.comes ∙ ap (undone_all lead'.calls) lead.comes in
         let many = lead.many in
@@ -96,7 +97,7 @@ module _ (replicas : ℕ) (few : replicas ≤ 64) (w : World) (kept : IsKeptWorl
         let s : State = unheld (state_at w at) in
         let next : World = after changes in
         let lead = changes-lead replicas few at among changes w n all kept are in
-        let lead' = undos-lead replicas few at among undos next j all' (events-kept replicas few changes w all kept) are' in
+        let lead' = turns-lead replicas few at among directions.Undo undos next j all' (events-kept replicas few changes w all kept) are' in
         let done : AreUndos lead'.calls (changed_all lead.givens s) = subst (AreUndos lead'.calls) lead.comes lead'.done in
         let comes : unheld (state_at (after_events undos next) at) ≡ undone_all lead'.calls (changed_all lead.givens s) = lead'.comes ∙ ap (undone_all lead'.calls) lead.comes in
         let many = lead.many in
@@ -104,7 +105,7 @@ module _ (replicas : ℕ) (few : replicas ≤ 64) (w : World) (kept : IsKeptWorl
         let t : State = state_at (after_events undos next) at in
         step-found t.stored time nonce (captured t).undo (captured t).redo (λ none.
         undo-is_found s lead.givens sound still lead.changes lead'.calls (omega arith) done (omega arith) time nonce
-        (ap (undo_on time nonce) (sym comes) ∙ unheld-undo_on time nonce t ∙ none))
+        (ap (undo_on time nonce) (sym comes) ∙ unheld-turn_on directions.Undo time nonce t ∙ none))
 
     -- while undos are left, redo does
     redo-then : (changes undos redos : List Event) (n j k : ℕ) → AllByRecursion (IsKeptEvent replicas) changes → AllByRecursion (IsKeptEvent replicas) undos → AllByRecursion (IsKeptEvent replicas) redos
@@ -118,8 +119,8 @@ module _ (replicas : ℕ) (few : replicas ≤ 64) (w : World) (kept : IsKeptWorl
         let kept-2 = events-kept replicas few changes w all kept in
         let kept-3 = events-kept replicas few undos w-2 all-2 kept-2 in
         let lead = changes-lead replicas few at among changes w n all kept are in
-        let lead-2 = undos-lead replicas few at among undos w-2 j all-2 kept-2 are-2 in
-        let lead-3 = redos-lead replicas few at among redos w-3 k all-3 kept-3 are-3 in
+        let lead-2 = turns-lead replicas few at among directions.Undo undos w-2 j all-2 kept-2 are-2 in
+        let lead-3 = turns-lead replicas few at among directions.Redo redos w-3 k all-3 kept-3 are-3 in
         let undone : AreUndos lead-2.calls (changed_all lead.givens s) = subst (AreUndos lead-2.calls) lead.comes lead-2.done in
         let comes-2 : unheld (state_at w-3 at) ≡ undone_all lead-2.calls (changed_all lead.givens s) = lead-2.comes ∙ ap (undone_all lead-2.calls) lead.comes in
         let redone : AreRedos lead-3.calls (undone_all lead-2.calls (changed_all lead.givens s)) = subst (AreRedos lead-3.calls) comes-2 lead-3.done in
@@ -131,7 +132,7 @@ module _ (replicas : ℕ) (few : replicas ≤ 64) (w : World) (kept : IsKeptWorl
         let t : State = state_at (after_events redos w-3) at in
         step-found t.stored time nonce (captured t).redo (captured t).undo (λ none.
         redo-is_found s lead.givens sound still lead.changes lead-2.calls (omega arith) undone lead-3.calls (omega arith) redone (omega arith) time nonce
-        (ap (redo_on time nonce) (sym comes-3) ∙ unheld-redo_on time nonce t ∙ none))
+        (ap (redo_on time nonce) (sym comes-3) ∙ unheld-turn_on directions.Redo time nonce t ∙ none))
 
     again-then : (again others undos redos : List Event) (r l : ℕ) → AllByRecursion (IsKeptEvent replicas) again → AllByRecursion (IsKeptEvent replicas) others
         → AllByRecursion (IsKeptEvent replicas) undos → AllByRecursion (IsKeptEvent replicas) redos
@@ -148,8 +149,8 @@ module _ (replicas : ℕ) (few : replicas ≤ 64) (w : World) (kept : IsKeptWorl
         let kept-4 = events-kept replicas few undos w-3 all-3 kept-3 in
         let lead = changes-lead replicas few at among again w r all kept are in
         let lead-2 = changes-lead replicas few at among others w-2 l all-2 kept-2 are-2 in
-        let lead-3 = undos-lead replicas few at among undos w-3 (r + l) all-3 kept-3 are-3 in
-        let lead-4 = redos-lead replicas few at among redos w-4 r all-4 kept-4 are-4 in
+        let lead-3 = turns-lead replicas few at among directions.Undo undos w-3 (r + l) all-3 kept-3 are-3 in
+        let lead-4 = turns-lead replicas few at among directions.Redo redos w-4 r all-4 kept-4 are-4 in
         let givens : List (List ElementValue) = lead.givens ++ lead-2.givens in
         let comes-3 : unheld (state_at w-3 at) ≡ changed_all givens s =
         lead-2.comes ∙ ap (changed_all lead-2.givens) lead.comes ∙ sym (changed-append lead.givens lead-2.givens s) in

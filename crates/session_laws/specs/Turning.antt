@@ -5,8 +5,11 @@ use Rattle.elem_store.specs.Updates.{takings}
 use Rattle.reconcile.specs.Ids.{free_elements}
 use Rattle.board_commands.specs.declared.command.Capture.TheVariants.{Now, Later}
 use Rattle.board_commands.specs.declared.command.Command.{Command}
+use Rattle.history.specs.Stacks.{chosen}
+use Rattle.history.specs.declared.planned.Direction.{Direction}
+use Rattle.history.specs.declared.planned.Direction.TheVariants as directions
 use Rattle.undoing.specs.Steps.{Turn}
-use Rattle.replica.specs.State.{undo_on, redo_on}
+use Rattle.replica.specs.State.{turn_on}
 use Rattle.session_text.specs.declared.event.Event.{Event}
 use Rattle.session_text.specs.declared.event.Event.TheVariants.{Change, Update, Deliver, Hold, Release, Undo, Redo}
 use Rattle.session.specs.Worlds.{World, change_on, given_of, state_at, nonce_at, all_picked, after_event}
@@ -34,18 +37,12 @@ pub record IsChangeAt (at : ℕ) (event : Event) (w : World) : Type 0 where
 abbrev pub IsLaterAt : ℕ → Event → Type 0
 IsLaterAt at event = (time : ℕ) × (command : Command) × (event ≡ Change at time Later command)
 
--- An undo at the replica that finds an entry and isn't refused; a redo that does.
-pub record IsUndoAt (at : ℕ) (event : Event) (w : World) : Type 0 where
+-- An undo, or a redo, at the replica that finds an entry and isn't refused.
+pub record IsTurnAt (direction : Direction) (at : ℕ) (event : Event) (w : World) : Type 0 where
   pub time : ℕ
-  pub is : event ≡ Undo at time
+  pub is : event ≡ chosen direction (Undo at time) (Redo at time)
   pub turn : Turn
-  pub found : undo_on time (nonce_at w at) (state_at w at) ≡ Some (Ok turn)
-
-pub record IsRedoAt (at : ℕ) (event : Event) (w : World) : Type 0 where
-  pub time : ℕ
-  pub is : event ≡ Redo at time
-  pub turn : Turn
-  pub found : redo_on time (nonce_at w at) (state_at w at) ≡ Some (Ok turn)
+  pub found : turn_on direction time (nonce_at w at) (state_at w at) ≡ Some (Ok turn)
 
 -- So many of the events are such at the replica, each in the world that the events before it come to, and all others
 -- keep away from it.
@@ -62,7 +59,7 @@ abbrev pub AreChangesAt : ℕ → List Event → World → ℕ → Type 0
 AreChangesAt at events w n = AreAmong IsChangeAt at events w n
 
 abbrev pub AreUndosAt : ℕ → List Event → World → ℕ → Type 0
-AreUndosAt at events w n = AreAmong IsUndoAt at events w n
+AreUndosAt at events w n = AreAmong (IsTurnAt directions.Undo) at events w n
 
 abbrev pub AreRedosAt : ℕ → List Event → World → ℕ → Type 0
-AreRedosAt at events w n = AreAmong IsRedoAt at events w n
+AreRedosAt at events w n = AreAmong (IsTurnAt directions.Redo) at events w n

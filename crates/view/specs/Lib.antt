@@ -1,3 +1,4 @@
+pub mod Kept
 pub mod Settled
 pub mod Shown
 pub mod Steps

@@ -1,10 +1,9 @@
 -- Sorted by their ids, the elements and the new ones are those with each new one at its place.
-use Rattle.std.proofs.Common.{◌≡◌, ◌++◌, [], rules, sym, ap, ◌∙◌, subst}
+use Rattle.std.proofs.Common.{◌≡◌, ◌++◌, rules, subst}
 use Rattle.std.specs.List.Sorted.{IsPermutation}
 use Rattle.std.proofs.lemmas.List.Sorted.{answers_always, ranks_by}
 use Rattle.std.specs.Cmp.Lexicographic.{nat_list_cmp_total}
 use Rattle.elem.specs.ElementValue.{ElementValue}
-use Rattle.effects.specs.Changed.{with_created}
 use Rattle.effects.proofs.SortedLaws.{lower, with_created-sorted}
 use Rattle.effects.proofs.changing.with_created.Goals as goal
 

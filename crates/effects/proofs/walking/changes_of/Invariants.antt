@@ -1,10 +1,12 @@
-use Rattle.std.proofs.Common.{◌≡◌, None, find, take}
-use Rattle.effects.specs.Changed.{changes_of, is_full}
+use Rattle.std.proofs.Common.{◌≡◌, ◌++◌, find}
+use Rattle.std.specs.List.{filter_map}
+use Rattle.effects.specs.Concerning.{change_at, is_full_at}
 use Rattle.effects.specs.Prepared.{made_by}
 use Rattle.effects.proofs.walking.changes_of.Given as goal
 
-abbrev pub invariant-loop-i : goal.invariant-loop-i
-invariant-loop-i l = record {
-  made : l.changed.items ≡ changes_of (made_by l.effect) l.time l.nonce (take l.i l.store.elements);
-  free : find (is_full (made_by l.effect)) (take l.i l.store.elements) ≡ None;
+-- what is changed and what comes of the ids that are left is all
+abbrev pub invariant-loop-id : goal.invariant-loop-id
+invariant-loop-id l = record {
+  made : l.changed.items ++ filter_map (change_at l.store.elements (made_by l.effect) l.time l.nonce) l.id-iterator ≡ filter_map (change_at l.store.elements (made_by l.effect) l.time l.nonce) l.ids.keys;
+  free : find (is_full_at l.store.elements (made_by l.effect)) l.id-iterator ≡ find (is_full_at l.store.elements (made_by l.effect)) l.ids.keys;
 }

@@ -4,6 +4,7 @@ use Rattle.index_repair.specs.Keyed.{HaveKeysOrNone}
 use Rattle.view.specs.Shown.{live_elements, shown, IsView}
 use Rattle.view.proofs.CallerLemmas.{HaveDistinctIds-rising, live_elements-live, live_elements-rise}
 use Rattle.live_view.proofs.drawing.kept_of.Goals as goal
+use Rattle.live_view.proofs.drawing.kept_of.Goals.{After-table_of}
 
 pub shown_of-requires : goal.shown_of-requires
 shown_of-requires c =
@@ -14,16 +15,24 @@ pub table_of-requires : goal.table_of-requires
 table_of-requires c =
     rw c.in_ok-live.ensures.exact (HaveDistinctIds-rising (live_elements c.args.store.now.elements) (live_elements-rise c.args.store.now.elements c.in_ok-live.ensures.ordered))
 
-pub invariant_of-result : goal.invariant_of-result
-invariant_of-result c =
+view : (c : After-table_of) → IsView c.in_ok-live.live.items c.into_vec-shown.result.items
+view c =
     let stored = c.args.store.now.elements in
     let copy = c.from_vec.ensures ∙ c.in_ok-elements_copied.ensures in
+    subst (λ live. IsView live c.into_vec-shown.result.items) (sym c.in_ok-live.ensures.exact) (record {
+      exact = c.into_vec-shown.ensures ∙ (c.in_ok-shown.ensures.exact ∙ ap shown (copy ∙ c.in_ok-live.ensures.exact));
+      ordered = live_elements-rise stored c.in_ok-live.ensures.ordered;
+      all_live = live_elements-live stored;
+      keys = subst HaveKeysOrNone (copy ∙ c.in_ok-live.ensures.exact) c.in_ok-shown.ensures.keys;
+    })
+
+pub unsettled_of-requires : goal.unsettled_of-requires
+unsettled_of-requires c = view (goal.at.unsettled_of-requires c).After-table_of
+
+pub invariant_of-result : goal.invariant_of-result
+invariant_of-result c =
     record {
-      view = subst (λ live. IsView live c.into_vec.result.items) (sym c.in_ok-live.ensures.exact) (record {
-        exact = c.into_vec.ensures ∙ (c.in_ok-shown.ensures.exact ∙ ap shown (copy ∙ c.in_ok-live.ensures.exact));
-        ordered = live_elements-rise stored c.in_ok-live.ensures.ordered;
-        all_live = live_elements-live stored;
-        keys = subst HaveKeysOrNone (copy ∙ c.in_ok-live.ensures.exact) c.in_ok-shown.ensures.keys;
-      });
+      view = view (goal.at.invariant_of-result c).After-table_of;
       table = c.in_ok-table.ensures;
+      others = c.in_ok-unsettled.ensures;
     }

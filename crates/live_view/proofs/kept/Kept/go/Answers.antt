@@ -7,12 +7,14 @@ use Rattle.links.specs.Rows.{has_row}
 use Rattle.view.specs.Shown.{IsView}
 use Rattle.live_view.specs.inner.Coming.{rekeyed, HasGone}
 use Rattle.live_view.specs.Putting.{all_put}
-use Rattle.live_view.specs.Reached.{HaveRowsOf}
+use Rattle.view.specs.Kept.{AreOthersAsStored, HaveRowsOf}
+use Rattle.live_view.specs.inner.Unsettled.{touched_ids, HasNoted}
 use Rattle.live_view.proofs.ComingLaws.{HasGone-without, IsView-without, fits-without', all-within, gone-already}
 use Rattle.live_view.proofs.Redrawn.{at_place}
 use Rattle.live_view.proofs.RowLaws.{rows-without}
+use Rattle.live_view.proofs.UnsettledLaws.{others-kept, others-without}
 use Rattle.live_view.proofs.kept.Kept.go.Goals as goal
-use Rattle.live_view.proofs.kept.Kept.go.Goals.{After-rows_of}
+use Rattle.live_view.proofs.kept.Kept.go.Goals.{After-put_all, After-remove-2}
 
 -- the place of an element is one of the list's
 within : (es : List ElementValue) (id : List ℕ) (i : ℕ) → IsAt es id i → i < length es
@@ -35,37 +37,69 @@ keys_without-requires-clause-within c = within c.self.inside.shown.items c.index
 pub remove-requires-2 : goal.remove-requires-2
 remove-requires-2 c = omega (arith, within c.self.inside.live.items c.args.id.now c.in-Ok.at c.in-Ok.ensures.found, c.self.inside.live.ok.0)
 
-held : (c : After-rows_of) → (slice_get c.self.inside.live.items c.in-Ok.at ≡ Some c.index-e.result.now) × (c.index-e.result.now.id ≡ c.args.id.now)
+held : (c : After-put_all) → (slice_get c.self.inside.live.items c.in-Ok.at ≡ Some c.index-e.result.now) × (c.index-e.result.now.id ≡ c.args.id.now)
 held c = at_place (λ (d : ElementValue). d.id ≡ c.args.id.now) c.self.inside.live.items c.in-Ok.at c.index-e.result.now c.in-Ok.ensures.found c.index-e.ensures
 
-view : (c : After-rows_of) → IsView (remove c.self.inside.live.items c.in-Ok.at)
+view : (c : After-put_all) → IsView (remove c.self.inside.live.items c.in-Ok.at)
     (rekeyed c.in-Some-2.rekeying.start c.in-Some-2.rekeying.keys (remove (all_put c.in-Some-3.puts.items c.self.inside.shown.items) c.in-Some.place))
 view c =
     IsView-without c.self.inside.live.items c.self.inside.shown.items c.self.invariant.view c.index-e.result.now c.in-Ok.at c.in-Some.place c.in-Some-2.rekeying.start c.in-Some-3.puts.items c.in-Some-2.rekeying.keys
     (held c).0 c.in-Some.ensures (rw c.in-Some-2.is at c.in_ok-rekeying.ensures) (rw c.in-Some-3.is at c.in_ok-puts.ensures)
 
-gone : (c : After-rows_of) → HasGone c.self.inside.live.items c.index-e.result.now.id (remove c.self.inside.live.items c.in-Ok.at)
+gone : (c : After-put_all) → HasGone c.self.inside.live.items c.index-e.result.now.id (remove c.self.inside.live.items c.in-Ok.at)
 gone c =
     HasGone-without c.self.inside.live.items c.self.inside.shown.items c.self.invariant.view c.index-e.result.now c.in-Ok.at c.in-Some.place c.in-Some-2.rekeying.start c.in-Some-3.puts.items c.in-Some-2.rekeying.keys
     (held c).0 c.in-Some.ensures (rw c.in-Some-2.is at c.in_ok-rekeying.ensures) (rw c.in-Some-3.is at c.in_ok-puts.ensures)
+
+pub touched-requires : goal.touched-requires
+touched-requires c =
+    let before = (rw c.in-Some-2.is at c.in_ok-rekeying.ensures).begins.before in
+    omega (arith, before, within c.self.inside.shown.items c.index-e.result.now.id c.in-Some.place c.in-Some.ensures)
+
+pub invariant_of-self : goal.invariant_of-self
+invariant_of-self c = record {
+  view = c.self.invariant.view;
+  table = c.self.invariant.table;
+  others = others-kept c.self.inside.live.items c.self.inside.shown.items c.self.inside.unsettled c.note_all.new.unsettled c.self.invariant.others c.note_all.ensures.kept;
+}
 
 pub put_all-requires : goal.put_all-requires
 put_all-requires c = all-within c.self.inside.shown.items c.in-Some-3.puts.items (rw c.in-Some-3.is at c.in_ok-puts.ensures).beside.placed
 
 pub set_keys-requires : goal.set_keys-requires
 set_keys-requires c =
-    let d = (goal.at.set_keys-requires c).After-rows_of in
+    let d = (goal.at.set_keys-requires c).After-put_all in
     let shown_is = c.remove.ensures.items ∙ ap (λ es. remove es c.in-Some.place) c.put_all.ensures.items in
     rw shown_is
     (fits-without' c.self.inside.live.items c.self.inside.shown.items c.self.invariant.view c.index-e.result.now c.in-Ok.at c.in-Some.place c.in-Some-2.rekeying.start c.in-Some-3.puts.items c.in-Some-2.rekeying.keys
     (held d).0 c.in-Some.ensures (rw c.in-Some-2.is at c.in_ok-rekeying.ensures) (rw c.in-Some-3.is at c.in_ok-puts.ensures))
 
-pub invariant_of-self : goal.invariant_of-self
-invariant_of-self c =
-    let d = (goal.at.invariant_of-self c).After-rows_of in
+-- what is touched is noted
+noted : (c : After-put_all) → AreOthersAsStored c.note_all.new.unsettled (remove c.self.inside.live.items c.in-Ok.at)
+    (rekeyed c.in-Some-2.rekeying.start c.in-Some-2.rekeying.keys (remove (all_put c.in-Some-3.puts.items c.self.inside.shown.items) c.in-Some.place))
+noted c =
+    let ids_are = c.in_ok-ids.ensures ∙ ap (λ n. touched_ids c.self.inside.shown.items c.in-Some-3.puts.items n c.in-Some-2.rekeying.start c.in-Some-2.rekeying.keys) (sym (held c).1) in
+    others-without c.self.inside.live.items c.self.inside.shown.items c.self.inside.unsettled c.note_all.new.unsettled c.self.invariant.others c.note_all.ensures.kept
+    c.index-e.result.now c.in-Some.place c.in-Some-2.rekeying.start c.in-Some-3.puts.items c.in-Some-2.rekeying.keys (remove c.self.inside.live.items c.in-Ok.at)
+    c.in-Some.ensures (rw c.in-Some-3.is at c.in_ok-puts.ensures) (rw c.in-Some-2.is at c.in_ok-rekeying.ensures) (gone c)
+    (subst (λ ids. HasNoted ids c.note_all.new.unsettled) ids_are c.in_ok-note_all.ensures.noted)
+
+-- the lists once it is gone
+shown-is : (c : After-remove-2) → c.set_keys.new.elements.items
+    ≡ rekeyed c.in-Some-2.rekeying.start c.in-Some-2.rekeying.keys (remove (all_put c.in-Some-3.puts.items c.self.inside.shown.items) c.in-Some.place)
+shown-is c = c.set_keys.ensures ∙ ap (rekeyed c.in-Some-2.rekeying.start c.in-Some-2.rekeying.keys) (c.remove.ensures.items ∙ ap (λ es. remove es c.in-Some.place) c.put_all.ensures.items)
+
+pub settle_all-requires : goal.settle_all-requires
+settle_all-requires c =
+    let at' = goal.at.settle_all-requires c in
+    subst₂ IsView (sym c.remove-2.ensures.items) (sym (shown-is at'.After-remove-2)) (view at'.After-put_all)
+
+pub invariant_of-self-2 : goal.invariant_of-self-2
+invariant_of-self-2 c =
+    let d = (goal.at.invariant_of-self-2 c).After-put_all in
     let live = c.self.inside.live.items in
     let live_is = c.remove-2.ensures.items in
-    let shown_is = c.set_keys.ensures ∙ ap (rekeyed c.in-Some-2.rekeying.start c.in-Some-2.rekeying.keys) (c.remove.ensures.items ∙ ap (λ es. remove es c.in-Some.place) c.put_all.ensures.items) in
+    let shown_is = shown-is (goal.at.invariant_of-self-2 c).After-remove-2 in
     let known = element-at live c.self.invariant.view.ordered c.index-e.result.now.id c.in-Ok.at c.index-e.result.now (held d).0 refl in
     let old_rows = c.in_ok-rows.rows in
     record {
@@ -74,10 +108,11 @@ invariant_of-self c =
           (rows-without live (remove live c.in-Ok.at) c.index-e.result.now c.self.inside.table.rows old_rows c.replace.new.self.rows c.self.invariant.table known c.in_ok-rows.ensures.exact
           (λ row. c.replace.ensures.rows row ∙ ap (λ ns. has_row ns row || (has_row c.self.inside.table.rows row && not (has_row old_rows row))) c.new.ensures)
           (gone d));
+      others = c.settle_all.ensures (subst₂ (AreOthersAsStored c.note_all.new.unsettled) (sym live_is) (sym shown_is) (noted (goal.at.invariant_of-self-2 c).After-put_all));
     }
 
 pub returns-clause-new : goal.returns-clause-new
 returns-clause-new c ok =
-    let d = (goal.at.returns-clause-new c).After-rows_of in
+    let d = (goal.at.returns-clause-new c).After-put_all in
     subst₂ (λ ls ms. HasGone ls c.args.id.now ms) c.self.view_is (sym c.remove-2.ensures.items)
     (subst (λ n. HasGone c.self.inside.live.items n (remove c.self.inside.live.items c.in-Ok.at)) (held d).1 (gone d))

@@ -1,7 +1,8 @@
 use Rattle.std.proofs.Common.{sym, ap, ◌∙◌, map, subst}
 use Rattle.live_view.specs.Changes.{redrawn_as, IsRedrawn}
 use Rattle.live_view.proofs.LiveLaws.{rows-redrawn}
-use Rattle.live_view.proofs.Redrawn.{IsView-put, held-redrawn}
+use Rattle.live_view.proofs.Redrawn.{IsView-put, held-redrawn, shown-redrawn_at}
+use Rattle.live_view.proofs.UnsettledLaws.{others-redrawn}
 use Rattle.live_view.proofs.kept.Kept.redraw.Goals as goal
 
 is : (c : goal.After-replace-2) → IsRedrawn c.self.inside.live.items c.args.redrawing.held c.args.redrawing.held_at c.args.redrawing.shown_at c.args.redrawing.shown
@@ -11,6 +12,8 @@ pub invariant_of-self : goal.invariant_of-self
 invariant_of-self c = rw (c.replace.ensures.items, c.replace-2.ensures.items) (record {
   view = IsView-put _ _ _ _ _ _ c.self.invariant.view (is c);
   table = rw (held-redrawn _ c.self.inside.shown.items _ _ _ _ c.self.invariant.view (is c)) (rows-redrawn c.args.redrawing.held c.self.inside.live.items c.self.inside.table.rows c.self.invariant.table);
+  others = rw (held-redrawn _ c.self.inside.shown.items _ _ _ _ c.self.invariant.view (is c), shown-redrawn_at _ c.self.inside.shown.items _ _ _ _ c.self.invariant.view (is c))
+      (others-redrawn c.args.redrawing.held c.self.inside.live.items c.self.inside.shown.items c.self.inside.unsettled c.self.invariant.others);
 })
 
 pub returns : goal.returns

@@ -1,18 +1,22 @@
--- What is shown has distinct ids, as what is stored has.
-use Rattle.std.proofs.Common.{bytes_eq, subst, sym}
-use Rattle.std.specs.Cmp.Lexicographic.{nat_list_eq_equiv}
-use Rattle.std.proofs.lemmas.Map.Keys.{IsDistinct-IsPermutation}
-use Rattle.elem.specs.Order.{HaveDistinctIds}
+-- What a command may rely on of a board: the view and what it keeps beside what is shown.
+use Rattle.std.specs.Prelude.{◌≡◌, IsPermutation}
+use Rattle.std.proofs.Common.{subst, sym}
 use Rattle.elem_store.specs.Updates.{ids_of}
+use Rattle.view.specs.Kept.{AreOthersAsStored, HaveRowsOf}
 use Rattle.view.specs.Shown.{live_elements}
-use Rattle.view.proofs.CallerLemmas.{HaveDistinctIds-rising, live_elements-rise}
 use Rattle.replica.proofs.board.Board.given.Goals as goal
 
-pub changed-requires-clause-stored : goal.changed-requires-clause-stored
-changed-requires-clause-stored c = c.requires.board.0.0.stored_rise
-
-pub changed-requires-clause-shown : goal.changed-requires-clause-shown
-changed-requires-clause-shown c =
+pub changed-requires-clause-lookup : goal.changed-requires-clause-lookup
+changed-requires-clause-lookup c =
     let sound = c.requires.board.0.0 in
-    let live = subst HaveDistinctIds (sym sound.view) (HaveDistinctIds-rising (live_elements c.args.self.now.store.elements) (live_elements-rise c.args.self.now.store.elements sound.stored_rise)) in
-    IsDistinct-IsPermutation bytes_eq nat_list_eq_equiv.symm (ids_of c.args.self.now.view) (ids_of c.elements-shown.result.now) c.elements-shown.ensures.ids live
+    record {
+      ordered = sound.stored_rise;
+      ids = subst (λ live. IsPermutation (ids_of live) (ids_of c.elements.result.now))
+          sound.view c.elements.ensures.ids;
+      keys = c.elements.ensures.keys;
+      settled = c.elements.ensures.settled;
+      table = subst (λ live. HaveRowsOf live c.names.result.now.rows) sound.view c.names.ensures;
+      others = subst (λ live. AreOthersAsStored c.unsettled.result.now live c.elements.result.now)
+          sound.view (subst (AreOthersAsStored c.unsettled.result.now c.args.self.now.view)
+          (sym c.elements.ensures.exact) c.unsettled.ensures);
+    }

@@ -9,7 +9,7 @@ pub put_step-requires-clause-given : goal.put_step-requires-clause-given
 put_step-requires-clause-given c =
     let board = c.self.inside.board in
     let p = planned-told (told board) (told board) c.self.inside.held c.args.self.now c.self.view_is c.self.invariant.0 c.args.plan c.requires.planned in
-    planned-gives c.args.plan.undo board.store.elements c.args.plan.time c.args.plan.nonce c.args.plan.step (noted p.entry board.history.stacks) (put_step c.args.plan.history board.history.stacks) p.comes
+    planned-gives c.args.plan.direction board.store.elements c.args.plan.time c.args.plan.nonce c.args.plan.step (noted p.entry board.history.stacks) (put_step c.args.plan.history board.history.stacks) p.comes
 
 pub put_step-requires-clause-fits : goal.put_step-requires-clause-fits
 put_step-requires-clause-fits c =

@@ -1,0 +1,10 @@
+use Rattle.std.proofs.Common.{◌≡◌, ℕ, List, ◌||◌, nat_cmp}
+use Rattle.std.specs.BTreeSet.{contains}
+use Rattle.std.specs.Cmp.Lexicographic.{slice_cmp}
+use Rattle.effects.specs.Naming.{is_among}
+use Rattle.effects.proofs.concerning.add_set.Given as goal
+
+-- those that are there and those that are left are all
+abbrev pub invariant-loop-id : goal.invariant-loop-id
+invariant-loop-id l =
+    (id : List ℕ) → (contains (slice_cmp nat_cmp) l.ids id || is_among l.id-iterator id) ≡ (contains (slice_cmp nat_cmp) l.others id || contains (slice_cmp nat_cmp) l.initial.ids id)

@@ -1,0 +1,37 @@
+-- Ids of elements that may be shown otherwise than they are stored, before a change and after it. This project's own.
+use Rattle.std.specs.Prelude.{◌≡◌, ℕ, ◌+◌, List, [], ◌∷◌, ◌++◌, length, take, drop, map, false}
+use Rattle.std.specs.BTreeSet.{BTreeSet, contains}
+use Rattle.std.specs.Cmp.Lexicographic.{slice_cmp}
+use Rattle.std.specs.Ordering.{nat_cmp}
+use Rattle.elem.specs.ElementValue.{ElementValue}
+use Rattle.elem_store.specs.Updates.{ids_of}
+use Rattle.live_view.specs.declared.places.Put.{Put}
+use Rattle.live_view.specs.Reached.{is_among}
+
+-- the ids of the old set are in the new one
+abbrev pub StillHas : BTreeSet (List ℕ) → BTreeSet (List ℕ) → Type 0
+StillHas old new =
+    (id : List ℕ) → contains (slice_cmp nat_cmp) new id ≡ false
+    → contains (slice_cmp nat_cmp) old id ≡ false
+
+-- these ids are in a set
+abbrev pub HasNoted : List (List ℕ) → BTreeSet (List ℕ) → Type 0
+HasNoted ids set =
+    (id : List ℕ) → contains (slice_cmp nat_cmp) set id ≡ false → is_among ids id ≡ false
+
+-- the id of an element that is put
+abbrev pub put_id : Put → List ℕ
+put_id put = put.e.id
+
+abbrev pub put_ids : List Put → List (List ℕ)
+put_ids puts = map put_id puts
+
+-- the ids of so many elements from a place on
+abbrev pub run_ids : ℕ → ℕ → List ElementValue → List (List ℕ)
+run_ids start count drawn = ids_of (take count (drop start drawn))
+
+-- The ids of what is shown anew where one element comes or goes: those of what is put, its own, and those of the run
+-- whose keys are set, with the one that comes among them or not.
+abbrev pub touched_ids : List ElementValue → List Put → List ℕ → ℕ → List (List ℕ) → List (List ℕ)
+touched_ids drawn puts id start keys =
+    (put_ids puts ++ id ∷ []) ++ run_ids start (length keys + 1) drawn
