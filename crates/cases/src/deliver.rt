@@ -1,6 +1,6 @@
 //! A replica that is delivered many elements at once, and then one after the other again.
 
-use crate::follow::{are_same, element_of_text};
+use crate::follow::{are_shown, element_of_text};
 use crate::given::{count_of, given};
 use crate::told::{push_number, push_truth};
 use board_base::{List, Stop};
@@ -40,7 +40,7 @@ fn push_taken(
         taken = taken.saturating_add(replica.deliver(slice::from_ref(e))?);
     }
     push_number(line, "taken", taken)?;
-    push_truth(line, "equal", are_same(replica.view().elements(), last))
+    push_truth(line, "equal", are_shown(replica.view(), last))
 }
 
 /// A rectangle for each key, in this version; their ids rise.

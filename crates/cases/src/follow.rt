@@ -12,6 +12,7 @@ use rand_pcg::Pcg32;
 use replica::Replica;
 use scene_json::{members, shaped};
 use std::alloc::{AllocError, Global};
+use live_view::LiveView;
 use view::view_of;
 
 /// What is drawn for an element: its version, how many ids there are, and how many of them are named by others.
@@ -66,7 +67,21 @@ fn follow(
 /// Whether a replica shows the view of its store made anew.
 fn is_shown(alloc: Global, replica: &Replica) -> Result<bool, AllocError> {
     let view = view_of(alloc, replica.store())?;
-    Ok(are_same(view.elements(), replica.view().elements()))
+    Ok(are_shown(replica.view(), view.elements()))
+}
+
+/// Whether these are the elements that a view shows.
+pub fn are_shown(view: &LiveView, elements: &[Element]) -> bool {
+    let shown = view.elements();
+    if shown.len() != elements.len() {
+        return false;
+    }
+    for (e, other) in shown.iter().zip(elements) {
+        if !same(e.get(), other) {
+            return false;
+        }
+    }
+    true
 }
 
 /// Whether two lists have the same elements.

@@ -5,7 +5,7 @@ use crate::given::given;
 use crate::keys::push_end;
 use crate::told::push_member_of;
 use board_base::Stop;
-use elem::Element;
+use elem::{Element, SharedElement};
 use elem_store::Store;
 use json_text::{Raw, Text, push_quote};
 use live_view::LiveView;
@@ -31,15 +31,18 @@ impl Drop for Board {
 }
 
 impl Model for Board {
-    ghost use Rattle.std.specs.Prelude.{◌≡◌, List};
+    ghost use Rattle.std.specs.Prelude.{◌≡◌, List, true};
+    ghost use Rattle.frac_keys.specs.Rising.{are_rising};
     ghost use Rattle.elem.specs.ElementValue.{ElementValue};
+    ghost use Rattle.elem_store.specs.Updates.{ids_of};
     ghost use Rattle.view.specs.Shown.{live_elements};
 
     ghost Value = { List ElementValue };
 
     ghost view = { λ b. b.store.elements };
 
-    ghost invariant = { λ b. b.view ≡ live_elements b.store.elements };
+    ghost invariant = { λ b. (b.view ≡ live_elements b.store.elements)
+        × (are_rising (ids_of b.store.elements) ≡ true) };
 }
 
 impl Board {
@@ -56,7 +59,6 @@ impl Board {
         let Board { store, view } = self;
         let id = e.id.try_clone()?;
         let (mut store, mut view) = (store, view);
-        store.tell();
         match store.take(e) {
             Ok(_) => {}
             Err(_) => return Err(AllocError),
@@ -74,7 +76,7 @@ impl Board {
     }
 
     /// What the view shows.
-    fn shown(&self) -> &[Element] {
+    fn shown(&self) -> &[SharedElement] {
         self.view.elements()
     }
 }
@@ -107,14 +109,14 @@ pub fn push_viewed(alloc: Global, line: &mut Vec<u8>, value: &Raw) -> Result<(),
 }
 
 /// Appends the id and the key of each element.
-pub fn push_keyed(line: &mut Vec<u8>, elements: &[Element]) -> Result<(), AllocError> {
+pub fn push_keyed(line: &mut Vec<u8>, elements: &[SharedElement]) -> Result<(), AllocError> {
     line.push(b'[')?;
     for (i, e) in elements.iter().enumerate() {
         push_comma(line, i)?;
         line.push(b'[')?;
-        push_quote(line, &e.id)?;
+        push_quote(line, e.id())?;
         line.push(b',')?;
-        push_end(line, &e.index)?;
+        push_end(line, &e.get().index)?;
         line.push(b']')?;
     }
     line.push(b']')?;

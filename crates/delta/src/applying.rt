@@ -27,14 +27,13 @@ pub fn apply(alloc: Global, part: &Part, now: &Element) -> Result<Element, Alloc
     requires { part.now.id ≡ now.now.id }
     ensures applied { IfOk result (IsApplied part.now now.now) }
     ensures element { IfOk result IsElement }
+    ensures given { IfOk result (λ _. IsElement now.now) }
     ensures stamp { IfOk result (KeepsStamp now.now) }
 {
     let mut e = now.try_clone()?;
     if are_one_kind(&part.kind, &now.kind) {
         apply_all(alloc, &mut e, &part.changes)?;
     }
-    // Whoever reads a field knows that it is an element.
-    let _ = &e.deleted;
     Ok(e)
 }
 
@@ -42,7 +41,9 @@ pub fn apply(alloc: Global, part: &Part, now: &Element) -> Result<Element, Alloc
 fn apply_all(alloc: Global, e: &mut Element, changes: &List<Change>) -> Result<(), AllocError>
     requires rise { are_rising (change_names changes.now) ≡ true }
     requires each { AllByRecursion (IsChange e.old.kind) changes.now }
-    ensures { OnOk result (Changes changes.now e.old e.new) }
+    requires element { IsElement e.old }
+    ensures changes { OnOk result (Changes changes.now e.old e.new) }
+    ensures element { OnOk result (IsElement e.new) }
 {
     for change in changes.as_slice() {
         apply_change(alloc, e, change)?;
@@ -53,7 +54,8 @@ fn apply_all(alloc: Global, e: &mut Element, changes: &List<Change>) -> Result<(
 /// Applies a change.
 fn apply_change(alloc: Global, e: &mut Element, change: &Change) -> Result<(), AllocError>
     requires { IsChange e.old.kind change.now }
-    ensures { OnOk result (Changes (change.now ∷ []) e.old e.new) }
+    ensures changes { OnOk result (Changes (change.now ∷ []) e.old e.new) }
+    ensures element { OnOk result (IsElement e.new) }
 {
     match change {
         Change::Scalar {
@@ -73,7 +75,8 @@ fn change_groups(
     before: &List<Text>,
     after: &List<Text>,
 ) -> Result<(), AllocError>
-    ensures { OnOk result (Changes (Change.Groups before.now after.now ∷ []) e.old e.new) }
+    ensures changes { OnOk result (Changes (Change.Groups before.now after.now ∷ []) e.old e.new) }
+    ensures element { OnOk result (IsElement e.new) }
 {
     e.groups = join(alloc, before, after, &e.groups)?;
     Ok(())
@@ -86,7 +89,8 @@ fn change_bound(
     before: &List<BoundRef>,
     after: &List<BoundRef>,
 ) -> Result<(), AllocError>
-    ensures { OnOk result (Changes (Change.Bound before.now after.now ∷ []) e.old e.new) }
+    ensures changes { OnOk result (Changes (Change.Bound before.now after.now ∷ []) e.old e.new) }
+    ensures element { OnOk result (IsElement e.new) }
 {
     e.bound = join(alloc, before, after, &e.bound)?;
     Ok(())
@@ -101,7 +105,8 @@ fn set_scalar(
 ) -> Result<(), AllocError>
     requires free { list_any (bytes_eq name.now) other_names ≡ false }
     requires value { IsScalar (headers.header_named e.old.kind name.now) value.now }
-    ensures { OnOk result (IsScalarSet e.old e.new name.now value.now) }
+    ensures set { OnOk result (IsScalarSet e.old e.new name.now value.now) }
+    ensures element { OnOk result (IsElement e.new) }
 {
     match (header_named(&e.kind, name), value) {
         (Some(header), Some(value)) => set_header(alloc, e, header, value),
@@ -125,7 +130,8 @@ fn set_member(
     requires free { list_any (bytes_eq name.now) other_names ≡ false }
     requires other { headers.header_named e.old.kind name.now ≡ None }
     requires value { IsScalar None value }
-    ensures { OnOk result (IsScalarSet e.old e.new name.now value) }
+    ensures set { OnOk result (IsScalarSet e.old e.new name.now value) }
+    ensures element { OnOk result (IsElement e.new) }
 {
     let mut rest = std::mem::replace(&mut e.rest, List::new(alloc)).into_vec();
     put_value(&mut rest, name, value)?;

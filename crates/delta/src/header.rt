@@ -3,6 +3,7 @@
 ghost use Rattle.std.specs.Prelude.{◌≡◌, ℕ, Option, List, IfOk, IfSome, OnOk, IsTrue, bytes_eq};
 ghost use Rattle.json_text.specs.Value.{IsCompact};
 ghost use Rattle.frac_keys.specs.Keys.{is_key};
+ghost use Rattle.elem.specs.Facts.{IsElement};
 ghost use Rattle.elem.specs.Texts.{text_or_null, truth_text};
 ghost use Rattle.delta.specs.Facts.{IsAccepted};
 ghost use Rattle.delta.specs.Headers as headers;
@@ -128,7 +129,8 @@ pub(crate) fn set_header(
 ) -> Result<(), AllocError>
     requires own { BelongsTo e.old.kind header }
     requires accepted { IsAccepted header value.now }
-    ensures { OnOk result (IsHeaderSet e.old e.new header value.now) }
+    ensures set { OnOk result (IsHeaderSet e.old e.new header value.now) }
+    ensures element { OnOk result (IsElement e.new) }
 {
     match header {
         Header::Deleted => e.deleted = truth_in(value),

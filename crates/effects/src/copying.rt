@@ -14,7 +14,7 @@ use crate::preparing::set_of;
 use board_base::List;
 use board_commands::Spot;
 use copies::{copies, keyed_between};
-use elem::Element;
+use elem::{Element, SharedElement};
 use json_text::Text;
 use std::alloc::{AllocError, Global};
 use std::collections::BTreeSet;
@@ -23,15 +23,15 @@ use std::collections::BTreeSet;
 pub(crate) fn shown_among(
     alloc: Global,
     ids: &List<Text>,
-    shown: &[Element],
+    shown: &[SharedElement],
 ) -> Result<List<Element>, AllocError>
     ensures { IfOk result (λ list. list ≡ copying.shown_among ids.now shown.now) }
 {
     let ids = set_of(alloc, ids)?;
     let mut list = Vec::new(alloc);
     for e in shown {
-        if has_id_among(&ids, e) {
-            list.push(e.try_clone()?)?;
+        if has_id_among(&ids, e.get()) {
+            list.push(e.get().try_clone()?)?;
         }
     }
     Ok(List::from_vec(list))

@@ -8,7 +8,7 @@ ghost use Rattle.elem_store.specs.Updates.{element_of};
 ghost use Rattle.effects.specs.Lookups.{IsLookup};
 
 use crate::lookup::Lookup;
-use elem::Element;
+use elem::{Element, SharedElement};
 use json_text::Text;
 use std::cmp::Ordering;
 
@@ -24,10 +24,13 @@ pub(crate) fn shown_element<'a>(lookup: &Lookup<'a>, id: &Text) -> Option<&'a El
 }
 
 /// The element at a place.
-fn element_at(elements: &[Element], i: usize) -> Option<&Element>
+fn element_at(elements: &[SharedElement], i: usize) -> Option<&Element>
     ensures { option_copied result ≡ slice_get elements.now i }
 {
-    elements.get(i)
+    match elements.get(i) {
+        Some(e) => Some(e.get()),
+        None => None,
+    }
 }
 
 /// The place of the shown element of an id, if there is one.
@@ -46,7 +49,10 @@ fn place_by_key(lookup: &Lookup<'_>, id: &Text) -> Option<usize>
     ensures { IfSome result (IsAt lookup.now.shown.now id.now) }
 {
     let e = lookup.store.get(id)?;
-    let i = lookup.shown.binary_search_by(|s| key_order(s, e)).ok()?;
+    let i = lookup
+        .shown
+        .binary_search_by(|s| key_order(s.get(), e))
+        .ok()?;
     is_at(lookup.shown, i, id).then_some(i)
 }
 
@@ -60,7 +66,7 @@ fn key_order(e: &Element, other: &Element) -> Ordering {
 }
 
 /// Whether the element at this place is of this id.
-fn is_at(elements: &[Element], i: usize, id: &Text) -> bool
+fn is_at(elements: &[SharedElement], i: usize, id: &Text) -> bool
     ensures { IsTrue result → IsAt elements.now id.now i }
 {
     match elements.get(i) {
@@ -70,22 +76,22 @@ fn is_at(elements: &[Element], i: usize, id: &Text) -> bool
 }
 
 /// Whether an element is of this id.
-fn has_same_id(e: &Element, id: &Text) -> bool
+fn has_same_id(e: &SharedElement, id: &Text) -> bool
     ensures { IsTrue result → e.now.id ≡ id.now }
 {
-    e.id == *id
+    *e.id() == *id
 }
 
 /// The first place of an element of this id, if there is one.
-fn first_place(elements: &[Element], id: &Text) -> Option<usize>
+fn first_place(elements: &[SharedElement], id: &Text) -> Option<usize>
     ensures { result ≡ position (has_id id.now) elements.now }
 {
     elements.iter().position(|e| has_id(e, id))
 }
 
 /// Whether an element is of this id.
-fn has_id(e: &Element, id: &Text) -> bool
+fn has_id(e: &SharedElement, id: &Text) -> bool
     ensures { result ≡ has_id id.now e.now }
 {
-    *id == e.id
+    *id == *e.id()
 }

@@ -1,6 +1,6 @@
 //! What a command looks up.
 
-use elem::Element;
+use elem::SharedElement;
 use elem_store::Store;
 use json_text::Text;
 use links::LinkTable;
@@ -12,7 +12,7 @@ pub struct Lookup<'a> {
     /// What is stored.
     pub store: &'a Store,
     /// What is shown of it.
-    pub shown: &'a [Element],
+    pub shown: &'a [SharedElement],
     /// Who of the live elements names whom.
     pub names: &'a LinkTable,
     /// The ids of the live elements that may be shown otherwise than they are stored.

@@ -17,7 +17,7 @@ use crate::copying::has_id_among;
 use crate::finding::shown_place;
 use crate::lookup::Lookup;
 use board_commands::Spot;
-use elem::Element;
+use elem::{Element, SharedElement};
 use frac_keys::{Key, between};
 use json_text::Text;
 use std::alloc::{AllocError, Global};
@@ -37,7 +37,7 @@ pub(crate) struct Gap<'a> {
 pub(crate) fn keys_among(
     alloc: Global,
     ids: &BTreeSet<Text>,
-    elements: &[Element],
+    elements: &[SharedElement],
 ) -> Result<Keys, AllocError>
     ensures { IfOk result (λ keys. HasKeys keys (elements_among ids.now elements.now)) }
 {
@@ -46,7 +46,7 @@ pub(crate) fn keys_among(
         return Ok(keys);
     }
     for e in elements {
-        note_among(&mut keys, ids, e)?;
+        note_among(&mut keys, ids, e.get())?;
     }
     Ok(keys)
 }
@@ -224,13 +224,13 @@ pub(crate) fn gap_at<'a>(lookup: &Lookup<'a>, spot: &Spot, except: Option<&Text>
 }
 
 /// The key of the first of the elements but the one of this id.
-fn first_key<'a>(elements: &'a [Element], except: Option<&Text>) -> Option<&'a Key>
+fn first_key<'a>(elements: &'a [SharedElement], except: Option<&Text>) -> Option<&'a Key>
     ensures { option_copied result ≡ placing.first_key (others (option_copied except.entry) elements.now) }
 {
     let mut rest = elements;
     while let Some((e, behind)) = rest.split_first() {
         if !is_of(e, except) {
-            return e.index.as_ref();
+            return index_of(e);
         }
         rest = behind;
     }
@@ -238,13 +238,13 @@ fn first_key<'a>(elements: &'a [Element], except: Option<&Text>) -> Option<&'a K
 }
 
 /// The key of the last of the elements but the one of this id.
-fn last_key<'a>(elements: &'a [Element], except: Option<&Text>) -> Option<&'a Key>
+fn last_key<'a>(elements: &'a [SharedElement], except: Option<&Text>) -> Option<&'a Key>
     ensures { option_copied result ≡ placing.last_key (others (option_copied except.entry) elements.now) }
 {
     let mut rest = elements;
     while let Some((e, before)) = rest.split_last() {
         if !is_of(e, except) {
-            return e.index.as_ref();
+            return index_of(e);
         }
         rest = before;
     }
@@ -280,7 +280,7 @@ fn is_excepted(id: &Text, except: Option<&Text>) -> bool
 }
 
 /// The key of the element at a place, and that of the one above it, among the elements but the one of this id.
-fn gap_over<'a>(elements: &'a [Element], i: usize, except: Option<&Text>) -> Gap<'a>
+fn gap_over<'a>(elements: &'a [SharedElement], i: usize, except: Option<&Text>) -> Gap<'a>
     requires keys { HaveRisingKeys elements.now }
     requires within { i < length elements.now }
     ensures low { (e : ElementValue) → slice_get elements.now i ≡ Some e → option_copied result.low ≡ e.index }
@@ -291,17 +291,24 @@ fn gap_over<'a>(elements: &'a [Element], i: usize, except: Option<&Text>) -> Gap
     let e = &elements[i];
     let (_, above) = elements.split_at(i + 1);
     Gap {
-        low: e.index.as_ref(),
+        low: index_of(e),
         high: first_key(above, except),
     }
 }
 
 /// Whether an element is of this id, if one is given.
-fn is_of(e: &Element, id: Option<&Text>) -> bool
+fn is_of(e: &SharedElement, id: Option<&Text>) -> bool
     ensures { result ≡ placing.is_of (option_copied id.entry) e.now }
 {
     match id {
-        Some(id) => *id == e.id,
+        Some(id) => *id == *e.id(),
         None => false,
     }
+}
+
+/// The key of an element, if there is one.
+fn index_of(e: &SharedElement) -> Option<&Key>
+    ensures { option_copied result ≡ e.now.index }
+{
+    e.get().index.as_ref()
 }

@@ -2,6 +2,7 @@
 #![tactic(auto)]
 
 mod compare;
+mod copies;
 mod cursor;
 mod element;
 mod header;
@@ -12,12 +13,16 @@ mod order;
 mod parts;
 mod piece;
 mod raw;
+mod shared;
 mod source;
+mod telling;
 mod value;
 mod values;
 
+pub use copies::copies_of;
 pub use element::Element;
 pub use kind::{Kind, Role};
 pub use order::{beats, same, same_but_stamp};
 pub use parts::{Binding, BoundRef};
 pub use raw::{element_raw, push_element, push_elements};
+pub use shared::SharedElement;

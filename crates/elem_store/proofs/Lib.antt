@@ -11,5 +11,4 @@ mod Given
 pub mod Stored
 pub mod Woven
 pub mod Fronts
-mod TellingLaws
 pub mod CallerLemmas

@@ -9,7 +9,7 @@ use Rattle.std.proofs.lemmas.Bool.{false_from_ne_true, cases_eq, cases_order}
 use Rattle.std.proofs.lemmas.Cmp.{nat_list_cmp_total}
 use Rattle.std.proofs.lemmas.List.{get_or_default, get_or-take, get_or-drop, same_lists, get_or-set_same, get_or-set_other}
 use Rattle.std.proofs.lemmas.List.Edits.{length-insert}
-use Rattle.std.proofs.lemmas.List.Elements.{All-head, All-tail, All-cons, All-take, All-drop, All-append, All-set, All-weaker, filter_map-append}
+use Rattle.std.proofs.lemmas.List.Elements.{All-head, All-tail, All-cons, All-take, All-drop, All-append, All-weaker, filter_map-append}
 use Rattle.std.proofs.lemmas.List.Sorted.{searchable_from_sorted}
 use Rattle.std.proofs.lemmas.Map.Lookups.{exact_bytes}
 use Rattle.std.proofs.lemmas.Option.{slice_get-get_or, slice_get_within, get_or_from_slice_get}
@@ -233,12 +233,6 @@ get-read elements places i place x h here read =
 pub none-read : (elements : List ElementValue) (places : List ℕ) (i : ℕ) → AllWithin elements places → slice_get places i ≡ None → slice_get (elements_at elements places) i ≡ None
 none-read elements places i h none = get-at elements places i h ∙ ap (option_and_then (slice_get elements)) none
 
--- what holds of all elements holds of those at the places
-pub All-at : (P : ElementValue → Type 0) (elements : List ElementValue) (places : List ℕ) → AllWithin elements places → All P elements → All P (elements_at elements places)
-All-at P elements places h all = λ i d l.
-    let m : i < length places = rw (← length-at elements places h) l in
-    rw (read-at elements places h i 0 d m) (all (get_or places i 0) d (h i 0 m))
-
 -- no place comes twice
 pub places_differ : (elements : List ElementValue) (places : List ℕ) (o : AreInOrder elements places) (i k n : ℕ) → i < length places → k < length places → k ≢ i → get_or places k n ≢ get_or places i n
 places_differ elements places o i k n l m ne same =
@@ -307,8 +301,3 @@ module _ (elements : List ElementValue) (places : List ℕ) (o : AreInOrder elem
     ordered = (HasTaken-replaced true h).ordered;
   }
   AreInOrder-replaced false h = o
-
--- what holds of all elements and of a further one holds of those where it stands in the place of another
-pub All-replaced : (P : ElementValue → Type 0) (elements : List ElementValue) (place : ℕ) (e : ElementValue) (better : Bool) → P e → All P elements → All P (cond better (set elements place e) elements)
-All-replaced P elements place e true is all = All-set P elements place e is all
-All-replaced P elements place e false is all = all

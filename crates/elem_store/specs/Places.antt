@@ -8,7 +8,6 @@ use Rattle.std.specs.declared.cmp.Ordering.TheVariants.{Less, Greater}
 use Rattle.frac_keys.specs.Keys.{bytes_less}
 use Rattle.frac_keys.specs.Rising.{are_rising}
 use Rattle.elem.specs.ElementValue.{ElementValue}
-use Rattle.elem.specs.Said.{AreElements}
 use Rattle.elem_store.specs.Updates.{ids_of}
 
 -- the elements at these places
@@ -25,11 +24,6 @@ pub record AreInOrder (elements : List ElementValue) (places : List ℕ) : Type 
   pub within : All (λ place. place < length elements) places
   pub full : length places ≡ length elements
   pub ordered : are_rising (ids_of (elements_at elements places)) ≡ true
-
--- A store's elements, in order by their places, are elements.
-pub record IsKept (list : List ElementValue) (places : List ℕ) : Type 0 where
-  pub in_order : AreInOrder list places
-  pub elements : AreElements list
 
 -- how the id of the element at a place compares with an id
 abbrev pub order_at : List ElementValue → List ℕ → ℕ → Ordering

@@ -6,7 +6,5 @@ pub mod laws;
 mod places;
 mod shelf;
 mod store;
-mod telling;
 
 pub use store::Store;
-pub use telling::tell;

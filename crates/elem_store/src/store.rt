@@ -3,13 +3,11 @@
 ghost use Rattle.std.specs.Prelude.{◌≡◌, ◌+◌, ◌<◌, ◌≤◌, ◌≢◌, List as Items, [], ◌∷◌, ◌++◌, true, length, filter_map, slice_get, option_copied, AllPairs, Contains, IsSome, IsOk, IfOk, IfErr, OnOk, Ok, false};
 ghost use Rattle.frac_keys.specs.Rising.{are_rising};
 ghost use Rattle.elem.specs.ElementValue.{ElementValue};
-ghost use Rattle.elem.specs.Said.{AreElements};
 ghost use Rattle.elem_store.specs.Updates.{AreStored, HasTaken, element_of, ids_of, is_taken};
 
 use crate::indexed::Places;
 use crate::places::{add, find_place, moved_out, replace_beaten};
 use crate::shelf::Shelf;
-use crate::telling::tell;
 use board_base::List;
 use elem::Element;
 use json_text::Text;
@@ -37,7 +35,7 @@ impl Drop for Store {
 
 impl Model for Store {
     ghost use Rattle.std.specs.Prelude.{length};
-    ghost use Rattle.elem_store.specs.Places.{elements_at, spare_in, IsKept};
+    ghost use Rattle.elem_store.specs.Places.{elements_at, spare_in, AreInOrder};
     ghost use Rattle.elem_store.specs.Stock.{Held};
 
     ghost Value = { Held };
@@ -48,7 +46,7 @@ impl Model for Store {
       given = s.elements.items;
     } };
 
-    ghost invariant = { λ s. IsKept s.elements.items s.places.places };
+    ghost invariant = { λ s. AreInOrder s.elements.items s.places.places };
 }
 
 impl Store {
@@ -99,7 +97,6 @@ impl Store {
         ensures room { 0 < self.old.spare → IsOk result }
         ensures spare { self.old.spare ≤ self.new.spare + 1 }
     {
-        tell(&e);
         match find_place(&self.elements, &self.places, &e.id) {
             Ok(i) => {
                 let place = self.places.get(i).unwrap();
@@ -128,7 +125,8 @@ impl Store {
 
     /// The stored element of this id. It takes no memory.
     pub fn get(&self, id: &Text) -> Option<&Element>
-        ensures { option_copied result ≡ element_of self.now.elements id.now }
+        ensures element { option_copied result ≡ element_of self.now.elements id.now }
+        ensures ordered { are_rising (ids_of self.now.elements) ≡ true }
     {
         match find_place(&self.elements, &self.places, id) {
             Ok(i) => self.at(i),
@@ -139,22 +137,16 @@ impl Store {
     /// The stored element at this index, in the order of the ids. It takes no memory.
     pub fn at(&self, i: usize) -> Option<&Element>
         ensures element { option_copied result ≡ slice_get self.now.elements i }
+        ensures ordered { are_rising (ids_of self.now.elements) ≡ true }
     {
         let place = self.places.get(i)?;
         self.elements.get(place)
     }
 
-    /// Tells what a store keeps, for contracts: the ids rise, and the elements are elements. It does nothing else.
-    pub fn tell(&self)
-        ensures ordered { are_rising (ids_of self.now.elements) ≡ true }
-        ensures elements { AreElements self.now.elements }
-    {
-        let _ = &self.places;
-    }
-
     /// How many elements are stored.
     pub fn len(&self) -> usize
-        ensures { result ≡ length self.now.elements }
+        ensures exact { result ≡ length self.now.elements }
+        ensures ordered { are_rising (ids_of self.now.elements) ≡ true }
     {
         self.places.len()
     }
@@ -162,6 +154,7 @@ impl Store {
     /// The stored elements in the order in which their ids came. It takes no memory.
     pub fn given(&self) -> &[Element]
         ensures exact { result.now ≡ self.now.given }
+        ensures ordered { are_rising (ids_of self.now.elements) ≡ true }
         ensures stored { (e : ElementValue) → Contains self.now.given e → Contains self.now.elements e }
         ensures all { (e : ElementValue) → Contains self.now.elements e → Contains self.now.given e }
     {

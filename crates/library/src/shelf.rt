@@ -92,16 +92,10 @@ impl Shelf {
 
     /// The item of this id. It takes no memory.
     pub fn get(&self, id: &Text) -> Option<&Item>
-        ensures { option_copied result ≡ item_of self.now id.now }
+        ensures item { option_copied result ≡ item_of self.now id.now }
+        ensures ordered { are_rising (ids_of self.now) ≡ true }
     {
         filed_under(&self.items, id)
-    }
-
-    /// Tells what a shelf keeps, for contracts: the ids rise. It does nothing else.
-    pub fn tell(&self)
-        ensures { are_rising (ids_of self.now) ≡ true }
-    {
-        let _ = &self.items;
     }
 
     /// Appends the texts of the items, with commas between them. After want of memory a part of them may stand there.

@@ -1,4 +1,4 @@
--- What settling makes of one element rests on the elements at most three steps of naming from it.
+-- What settling makes of one element rests on the elements at most three steps of links from it.
 use Rattle.std.proofs.Common.{◌≡◌, ℕ, suc, Bool, zero, true, false, subst, inl, inr, cond, ◌&&◌, ◌||◌, List, ◌++◌, find, filter, map, Option, Some, None, Contains, All, IsTrue, bytes_eq, refl, sym, ap, ap₂, ◌∙◌}
 use Rattle.std.specs.List.{list_any}
 use Rattle.std.specs.Option.{option_map, option_or}
@@ -16,7 +16,7 @@ use Rattle.links.specs.Entries.{arrow_entry, first_entries}
 use Rattle.links.specs.Texts.{is_for_text, is_text_entry, first_text, text_of, is_text_of, keeps_container, with_settled_container, settled_texts}
 use Rattle.links.specs.Arrows.{names_target, settled_end, is_bound_to, is_true_as, arrow_entries, text_entries, listing, with_settled_links}
 use Rattle.links.specs.Settled.{settled_links}
-use Rattle.links.specs.Steps.{names_id, is_one_step, is_within, near}
+use Rattle.links.specs.Steps.{links_to, is_one_step, is_within, near}
 use Rattle.links.proofs.Among.{find-among, filter-among, any-among, Contains-among, and-same, same-and, distinct-among}
 use Rattle.links.proofs.Members.{bytes_eq-refl, map-map, filter-map, find-map, find-Some, list_any-from, list_any-same, list_any-found, one_of_id, same_bools}
 use Rattle.links.proofs.Tabled.{list_any-map}
@@ -26,21 +26,21 @@ use Rattle.links.proofs.TextLaws.{text_of-settled}
 turned : (a b : List ℕ) → bytes_eq a b ≡ true → bytes_eq b a ≡ true
 turned a b h = (bytes_eq-Decides b a).1 (sym ((bytes_eq-Decides a b).0 h))
 
-container-named : (id : List ℕ) (e : ElementValue) → names_container id e ≡ true → names_id id e ≡ true
-container-named id e h = or_left _ _ (or_left (is_id id e.container) (is_id id e.frame) (and_parts (is_text e.kind) (is_id id e.container) h).1)
+container-named : (id : List ℕ) (e : ElementValue) → names_container id e ≡ true → links_to id e ≡ true
+container-named id e h = or_left _ _ (and_parts (is_text e.kind) (is_id id e.container) h).1
 
-end-named : (id : List ℕ) (e : ElementValue) → has_end_at id e ≡ true → names_id id e ≡ true
+end-named : (id : List ℕ) (e : ElementValue) → has_end_at id e ≡ true → links_to id e ≡ true
 end-named id e h = or_right _ _ (and_parts (is_arrow e.kind) _ h).1
 
 -- an element of an id that an end names
 target-named : (e t : ElementValue) (end' : Option Binding) (id : List ℕ) → target_of end' ≡ Some id → has_id id t ≡ true → end_names t.id end' ≡ true
 target-named e t end' id is same = ap (is_id t.id) is ∙ turned id t.id same
 
-pub step-to : (e other : ElementValue) → names_id other.id e ≡ true → is_one_step e other ≡ true
+pub step-to : (e other : ElementValue) → links_to other.id e ≡ true → is_one_step e other ≡ true
 step-to e other h = or_left _ _ h
 
-step-from : (e other : ElementValue) → names_id e.id other ≡ true → is_one_step e other ≡ true
-step-from e other h = or_right (names_id other.id e) _ h
+step-from : (e other : ElementValue) → links_to e.id other ≡ true → is_one_step e other ≡ true
+step-from e other h = or_right (links_to other.id e) _ h
 
 module _ (list : List ElementValue) (among : ElementValue → Bool) where
   -- all elements one step from an element are among them
@@ -83,7 +83,7 @@ module _ (list : List ElementValue) (among : ElementValue → Bool) where
   -- ---- the links of an element
   module _ (distinct : HaveDistinctIds list) (e : ElementValue) (there : Contains list e) (own : among e ≡ true) (covers : Covers e) (containers : CoversContainers e)
       (next : (t : ElementValue) → Contains list t → is_one_step e t ≡ true → Covers t) (next_containers : (t : ElementValue) → Contains list t → is_one_step e t ≡ true → CoversContainers t) where
-    target-among : (end' : Option Binding) → ((t : ElementValue) → end_names t.id end' ≡ true → names_id t.id e ≡ true) → (o : Option (List ℕ)) → target_of end' ≡ o
+    target-among : (end' : Option Binding) → ((t : ElementValue) → end_names t.id end' ≡ true → links_to t.id e ≡ true) → (o : Option (List ℕ)) → target_of end' ≡ o
         → names_target (settled_texts (filter among list)) o ≡ names_target (settled_texts list) o
     target-among end' named None is = refl
     target-among end' named (Some id) is =
@@ -134,12 +134,12 @@ module _ (list : List ElementValue) (among : ElementValue → Bool) where
     start-among : settled_end (settled_texts (filter among list)) e.start_binding ≡ settled_end (settled_texts list) e.start_binding
     start-among =
         ap (λ b. cond b e.start_binding None)
-        (target-among e.start_binding (λ t h. or_right (is_id t.id e.container || is_id t.id e.frame) _ (or_left _ (end_names t.id e.end_binding) h)) (target_of e.start_binding) refl)
+        (target-among e.start_binding (λ t h. or_right (is_id t.id e.container) _ (or_left _ (end_names t.id e.end_binding) h)) (target_of e.start_binding) refl)
 
     end-among : settled_end (settled_texts (filter among list)) e.end_binding ≡ settled_end (settled_texts list) e.end_binding
     end-among =
         ap (λ b. cond b e.end_binding None)
-        (target-among e.end_binding (λ t h. or_right (is_id t.id e.container || is_id t.id e.frame) _ (or_right (end_names t.id e.start_binding) _ h)) (target_of e.end_binding) refl)
+        (target-among e.end_binding (λ t h. or_right (is_id t.id e.container) _ (or_right (end_names t.id e.start_binding) _ h)) (target_of e.end_binding) refl)
 
     pub links-among : with_settled_links (settled_texts (filter among list)) (with_settled_container (filter among list) e) ≡ with_settled_links (settled_texts list) (with_settled_container list e)
     links-among =
@@ -214,7 +214,7 @@ module _ (list : List ElementValue) (among : ElementValue → Bool) (id : List �
 
 -- ---- steps lead back
 step-turned : (e other : ElementValue) → is_one_step e other ≡ true → is_one_step other e ≡ true
-step-turned e other h = or_turned (names_id other.id e) (names_id e.id other) ∙ h where
+step-turned e other h = or_turned (links_to other.id e) (links_to e.id other) ∙ h where
   or_turned : (a b : Bool) → (b || a) ≡ (a || b)
   or_turned true true = refl
   or_turned true false = refl

@@ -38,15 +38,16 @@ pub fn other_parts_play_no_part()
     ensures { (list : List ElementValue) → settled_links (map unplaced list) ≡ map unplaced (settled_links list) }
 {}
 
-/// What settling makes of an element rests on the elements at most three steps of naming from it alone: where these are
-/// among the elements that are settled, it makes the same of it.
+/// What settling makes of an element rests on the elements at most three steps of links from it alone: where these are
+/// among the elements that are settled, it makes the same of it. What it frames, and what else is in its frame, plays
+/// no part.
 pub fn three_steps_are_enough()
     ensures { (list : List ElementValue) (among : ElementValue → Bool) (id : List ℕ)
         → HaveDistinctIds list → All (λ e. IsTrue (among e)) (near list id)
         → find (has_id id) (settled_links (filter among list)) ≡ find (has_id id) (settled_links list) }
 {}
 
-/// Steps of naming lead back: an element is as near another one as that is to it.
+/// Steps of links lead back: an element is as near another one as that is to it.
 pub fn steps_lead_back()
     ensures { (list : List ElementValue) (n : ℕ) (e other : ElementValue)
         → HaveDistinctIds list → Contains list e → Contains list other

@@ -3,6 +3,7 @@
 ghost use Rattle.std.specs.Prelude.{◌≡◌};
 ghost use Rattle.std.specs.Option.{option_copied};
 ghost use Rattle.links.specs.Names as names;
+ghost use Rattle.links.specs.Steps as steps;
 ghost use Rattle.links.specs.Texts as texts;
 
 use board_base::List;
@@ -103,4 +104,14 @@ pub(crate) fn has_end_at(id: &Text, e: &Element) -> bool
     ensures { result ≡ names.has_end_at id.now e.now }
 {
     is_arrow(e) && (end_names(id, &e.start_binding) || end_names(id, &e.end_binding))
+}
+
+/// Whether an element links to this id: its container or one of its ends names it, whatever its frame. It takes no
+/// memory.
+pub fn links_to(id: &Text, e: &Element) -> bool
+    ensures { result ≡ steps.links_to id.now e.now }
+{
+    container_of(e).is_some_and(|container| id == container)
+        || end_names(id, &e.start_binding)
+        || end_names(id, &e.end_binding)
 }

@@ -1,11 +1,11 @@
 //! Rows of who names whom.
 
-ghost use Rattle.std.specs.Prelude.{◌≡◌, ℕ, List as Items, ◌++◌, map, IfOk, OnOk, option_copied};
+ghost use Rattle.std.specs.Prelude.{◌≡◌, ℕ, List as Items, ◌++◌, map, bytes_eq, IfOk, OnOk, option_copied};
 ghost use Rattle.std.specs.List.{list_any, IsDistinct};
 ghost use Rattle.json_text.specs.FirstOccurrences as first;
 ghost use Rattle.links.specs.Rows as words;
 ghost use Rattle.links.specs.Rows.{id_there, is_for, same_row};
-ghost use Rattle.links.specs.Steps.{names_id};
+ghost use Rattle.links.specs.Steps.{links_to, names_id};
 
 use crate::names::ends_of;
 use crate::parts::{container_of, frame_of, id_of};
@@ -30,6 +30,19 @@ pub fn rows_of(alloc: Global, e: &Element) -> Result<List<LinkRow>, AllocError>
 {
     let named = named_ids(alloc, e)?;
     Ok(List::from_vec(rows_for(alloc, named, e)?))
+}
+
+/// The ids that an element links to, its container's and those that its ends are bound to: one id as often as it is
+/// named. It is `rows_of` without the frame. Fails only for want of memory.
+pub fn linked_ids(alloc: Global, e: &Element) -> Result<Vec<Text>, AllocError>
+    ensures { IfOk result (λ ids. (id : Items ℕ) → list_any (bytes_eq id) ids.items ≡ links_to id e.now) }
+{
+    let mut ids = Vec::new(alloc);
+    let (start, end) = ends_of(e);
+    push_id(&mut ids, start)?;
+    push_id(&mut ids, end)?;
+    push_id(&mut ids, container_of(e))?;
+    Ok(ids)
 }
 
 /// A row for each of these ids that an element names.

@@ -1,14 +1,12 @@
 -- A view where an element comes, and where one goes.
-use Rattle.std.proofs.Common.{◌≡◌, ◌⊎◌, ℕ, zero, suc, ◌+◌, ◌-◌, ◌<◌, ◌≤◌, Bool, true, false, not, cond, ◌&&◌, ◌||◌, List, [], ◌∷◌, ◌++◌, length, take, drop, insert, remove, map, filter, filter_map, get_or, slice_get, Option, Some, None, IsSomeAnd, All, Contains, bytes_eq, refl, sym, ap, ap₂, ◌∙◌, subst, inl, inr, arith, take-append-drop}
+use Rattle.std.proofs.Common.{◌≡◌, ◌⊎◌, ℕ, zero, suc, ◌+◌, ◌-◌, ◌<◌, ◌≤◌, Bool, true, false, not, cond, ◌&&◌, List, [], ◌∷◌, length, insert, remove, map, filter, filter_map, get_or, slice_get, Option, Some, None, IsSomeAnd, All, Contains, bytes_eq, refl, sym, ap, ap₂, ◌∙◌, subst, inl, inr, arith}
 use Rattle.std.specs.List.{AllByRecursion, IsDistinct, list_all}
-use Rattle.std.specs.List.Sorted.{IsPermutation}
 use Rattle.std.specs.Option.{option_map, option_or, unwrap_or}
-use Rattle.std.proofs.lemmas.Bool.{cases_Bool, and_from, and_parts, both_ways, cond-true, cond-false, false_from_ne_true}
+use Rattle.std.proofs.lemmas.Bool.{cases_Bool, and_from, and_parts, both_ways, false_from_ne_true}
 use Rattle.std.proofs.lemmas.List.{length-map, get_or_default}
 use Rattle.std.proofs.Math.ListN.{get_or-map}
-use Rattle.std.proofs.lemmas.List.Elements.{All-contains, All-weaker, recursion_from_All}
-use Rattle.std.proofs.lemmas.List.Folds.{list_all-append}
-use Rattle.std.proofs.lemmas.List.Sorted.{IsPermutation-sym, IsPermutation-trans, IsPermutation-map, All-permutation, Contains-permutation}
+use Rattle.std.proofs.lemmas.List.Elements.{All-contains, All-from_recursion, All-weaker, recursion_from_All}
+use Rattle.std.proofs.lemmas.List.Sorted.{IsPermutation-sym, IsPermutation-map, All-permutation, Contains-permutation}
 use Rattle.std.proofs.lemmas.List.Sums.{AllPass-from_list_all, list_all-from_AllPass}
 use Rattle.std.proofs.lemmas.Option.{same_Some, slice_get_within, get_or_from_slice_get}
 use Rattle.std.proofs.lemmas.Slice.Eq.{bytes_eq-Decides}
@@ -17,21 +15,23 @@ use Rattle.index_repair.specs.Repair.{repaired, NeverFall}
 use Rattle.elem.specs.ElementValue.{ElementValue}
 use Rattle.elem_store.specs.Places.{IsAt, IsGapFor}
 use Rattle.elem.specs.Order.{has_id, HaveDistinctIds}
-use Rattle.elem_store.specs.Updates.{element_of, ids_of, is_taken}
-use Rattle.elem_store.proofs.CallerLemmas.{HasTaken-insert, element-gap, is_taken-gap, element-at, same_id, of_same, of_itself, find-Some, filter-Contains, Contains-head, member}
+use Rattle.elem_store.specs.Updates.{element_of, ids_of}
+use Rattle.elem_store.proofs.CallerLemmas.{HasTaken-insert, element-gap, element-at, same_id, of_same, find-Some, filter-Contains, Contains-head, member}
+use Rattle.frames_groups.specs.Frames.{is_frame}
 use Rattle.links.proofs.CallerLemmas.{distinct-among, map-map}
 use Rattle.view.specs.Settled.{settled, unsettled}
-use Rattle.index_repair.specs.Keyed.{index_of, HaveKeysOrNone}
+use Rattle.index_repair.specs.Keyed.{index_of}
 use Rattle.view.specs.Shown.{is_live, as_stored, in_scene_order, without_index, placed, shown, AreInSceneOrder, IsView}
 use Rattle.view.specs.Steps.{settled_but_for_key}
-use Rattle.view.proofs.CallerLemmas.{AllPairs-in_order, HaveDistinctIds-permuted, scene_order, IsPermutation-in_scene_order, distinct-settled, unsettled-settled, HaveDistinctIds-rising, shown-is, shown-keys}
+use Rattle.view.proofs.CallerLemmas.{AllPairs-in_order, HaveDistinctIds-permuted, scene_order, IsPermutation-in_scene_order, distinct-settled, unsettled-settled, HaveDistinctIds-rising, shown-is}
 use Rattle.live_view.specs.declared.places.Put.{Put}
-use Rattle.live_view.specs.inner.Coming.{all_stored, part_with, part_of_ids, rekeyed, AreAround, AreOthers, ArePutBeside, HasGone, IsComing, IsGoing, IsPlaceFor}
+use Rattle.live_view.specs.inner.Coming.{all_stored, part_with, part_of_ids, rekeyed, AreAround, ArePutBeside, HasGone, IsComing, IsGoing, IsPlaceFor}
 use Rattle.live_view.specs.Putting.{puts_of, IsInPlace, IsWithin, all_put}
-use Rattle.live_view.specs.Reached.{is_among, AreStartedBy, IsStartedBy, HaveReached, HaveStepped}
+use Rattle.live_view.specs.Reached.{is_among, is_frame_there, HasMembers, IsStartedBy, HaveReached, StaysFrame}
 use Rattle.live_view.specs.Replacing.{element_after, HaveReplaced}
 use Rattle.live_view.specs.inner.Runs.{part_of, stored_keys, AreKeysWith, AreKeysWithout}
-use Rattle.live_view.proofs.NearLaws.{IsShownNear, IsView-near, ids-settled, indices-placed, keyless, kept-order}
+use Rattle.live_view.proofs.Framed.{frames-gone, frames-replaced}
+use Rattle.live_view.proofs.NearLaws.{IsView-near, ids-settled, indices-placed, keyless, kept-order}
 use Rattle.live_view.proofs.OrderedLaws.{order-with, stored-order, map-insert, map-remove, insert-moved, others_than, others-apart, others-removed, others-rise}
 use Rattle.live_view.proofs.Picked.{distinct-after, picked-in_order}
 use Rattle.live_view.proofs.PlacedLaws.{shown-distinct}
@@ -243,7 +243,7 @@ module _ (live drawn : List ElementValue) (view : IsView live drawn) where
     apart-part : HaveDistinctIds (part_with live e coming.wide)
     apart-part =
         let found = filter_map (element_after live (e ∷ [])) coming.wide in
-        distinct-settled (in_scene_order found) (HaveDistinctIds-permuted found _ (IsPermutation-in_scene_order found) (distinct-after live (e ∷ []) coming.wide coming.around.distinct))
+        distinct-settled (in_scene_order found) (HaveDistinctIds-permuted found _ (IsPermutation-in_scene_order found) (distinct-after live (e ∷ []) coming.wide coming.around.surrounded.distinct))
 
     part-is : settled (in_scene_order (filter_map (element_of (insert live at' e)) coming.wide)) ≡ part_with live e coming.wide
     part-is = λ i. settled (in_scene_order (filter_map (λ id. each-after id i) coming.wide))
@@ -314,6 +314,10 @@ module _ (live drawn : List ElementValue) (view : IsView live drawn) where
     count-puts =
         sym (length-map after_puts (λ (x : ElementValue). x.id)) ∙ ap length ids-puts ∙ length-map drawn (λ (x : ElementValue). x.id) ∙ count-drawn
 
+    stays : (is_frame e ≡ false) ⊎ HasMembers live coming.around.start e.id → StaysFrame live coming.around.start e
+    stays (inl none) = inl (ap is_frame_there none-live ∙ sym none)
+    stays (inr has) = inr has
+
     from-with : (x : ElementValue) → Contains (insert live at' e) x → Contains live x ⊎ Contains (e ∷ []) x
     from-with x c = by (has_id x.id e) refl (sym (each-with x.id) ∙ member None None (insert live at' e) x ordered-with c) where
       by : (b : Bool) → has_id x.id e ≡ b → cond (has_id x.id e) (Some e) (element_of live x.id) ≡ Some x → Contains live x ⊎ Contains (e ∷ []) x
@@ -333,8 +337,8 @@ module _ (live drawn : List ElementValue) (view : IsView live drawn) where
       wide = coming.wide;
       started = coming.around.started;
       reached = coming.around.reached;
-      more = coming.around.more;
-      distinct = coming.around.distinct;
+      surrounded = coming.around.surrounded;
+      frames_kept = frames-replaced live (insert live at' e) view.ordered ordered-with coming.around.start (e ∷ []) each-after (All-from_recursion (StaysFrame live coming.around.start) (e ∷ []) (stays coming.around.members, tt));
       others = λ id out. each-with id ∙ ap (λ b. cond b (Some e) (element_of live id)) (false_from_ne_true (has_id id e) (λ is.
           let begins : IsStartedBy coming.around.start e = All-contains (IsStartedBy coming.around.start) (e ∷ []) e coming.around.started (Contains-head e []) in
           both_ways (is_among coming.around.start id) out (ap (is_among coming.around.start) (same_id id e is) ∙ begins.0)));
@@ -435,7 +439,7 @@ module _ (live drawn : List ElementValue) (view : IsView live drawn) where
     -- the elements of the other ids are those of all ids once this one is gone
     part-order : in_scene_order (filter_map (element_of (remove live at')) going.wide) ≡ in_scene_order (filter_map (element_after live []) going.others)
     part-order =
-        picked-in_order (remove live at') going.wide ordered-without going.around.distinct
+        picked-in_order (remove live at') going.wide ordered-without going.around.surrounded.distinct
         ∙ ap (filter (λ (x : ElementValue). is_among going.wide x.id)) order-others
         ∙ filter-twice (λ (x : ElementValue). not (bytes_eq e.id x.id)) (λ (x : ElementValue). is_among going.wide x.id) (λ (x : ElementValue). is_among going.others x.id)
         (λ x. going.are.each x.id ∙ ap (λ b. not b && is_among going.wide x.id) (bytes_eq-turned x.id e.id)) (in_scene_order live)
@@ -503,7 +507,7 @@ module _ (live drawn : List ElementValue) (view : IsView live drawn) where
           by (Some y) is h =
               let found = find-Some (has_id id) (part_of_ids live going.others) y is in
               let z = one-of-ids (part_of_ids live going.others) (in_scene_order (filter_map (element_of (remove live at')) going.wide)) (ids-settled (in_scene_order (filter_map (element_after live []) going.others)) ∙ ap ids_of (sym part-order)) y found.0 in
-              let w = filter-Contains (λ (v : ElementValue). is_among going.wide v.id) (in_scene_order (remove live at')) z.0 (subst (λ es. Contains es z.0) (picked-in_order (remove live at') going.wide ordered-without going.around.distinct) z.1) in
+              let w = filter-Contains (λ (v : ElementValue). is_among going.wide v.id) (in_scene_order (remove live at')) z.0 (subst (λ es. Contains es z.0) (picked-in_order (remove live at') going.wide ordered-without going.around.surrounded.distinct) z.1) in
               both_ways (bytes_eq e.id z.0.id) (none-without z.0 w.0) (of_same e.id z.0 (same ∙ same_id id y found.1 ∙ z.2))
 
     far-without : (id : List ℕ) → is_among going.near id ≡ false
@@ -532,8 +536,8 @@ module _ (live drawn : List ElementValue) (view : IsView live drawn) where
       wide = going.wide;
       started = going.around.started;
       reached = going.around.reached;
-      more = going.around.more;
-      distinct = going.around.distinct;
+      surrounded = going.around.surrounded;
+      frames_kept = frames-gone live (remove live at') view.ordered ordered-without going.around.start e known each-without going.around.members;
       others = λ id out. each-without' id ∙ ap (λ b. cond (not b) (element_of live id) None) (false_from_ne_true (bytes_eq e.id id) (λ own.
           let begins : IsStartedBy going.around.start e = All-contains (IsStartedBy going.around.start) (e ∷ []) e going.around.started (Contains-head e []) in
           both_ways (is_among going.around.start id) out (ap (is_among going.around.start) (sym ((bytes_eq-Decides e.id id).0 own)) ∙ begins.0)));

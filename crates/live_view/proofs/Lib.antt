@@ -4,6 +4,7 @@ pub mod CopyLaws
 pub mod Followed
 pub mod FollowingLaws
 pub mod FoundLaws
+pub mod Framed
 pub mod IdLaws
 pub mod KeyPlaces
 pub mod LiveLaws

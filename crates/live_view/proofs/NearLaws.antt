@@ -1,9 +1,8 @@
 -- What is shown after elements came, went or changed: near them it is settled anew, and far from them it stays.
-use Rattle.std.proofs.Common.{◌≡◌, ◌⊎◌, ℕ, Bool, true, false, not, List, [], ◌∷◌, length, map, filter, filter_map, Option, Some, None, Contains, AllPairs, bytes_eq, refl, sym, ap, ap₂, ◌∙◌, subst, inl, inr, arith}
+use Rattle.std.proofs.Common.{◌≡◌, ◌⊎◌, ℕ, Bool, true, false, not, cond, List, [], ◌∷◌, length, map, filter, filter_map, Option, Some, None, Contains, bytes_eq, refl, sym, ap, ◌∙◌, subst, inl, inr, arith}
 use Rattle.std.specs.List.{IsDistinct, list_all}
-use Rattle.std.specs.List.Sorted.{IsPermutation}
 use Rattle.std.specs.Option.{option_map}
-use Rattle.std.proofs.lemmas.Bool.{cases_Bool, cond-true, cond-false}
+use Rattle.std.proofs.lemmas.Bool.{cases_Bool, both_ways, false_from_ne_true}
 use Rattle.std.proofs.lemmas.List.Kept.{AllPairs-filter}
 use Rattle.std.proofs.lemmas.List.Sorted.{IsPermutation-sym, Contains-permutation}
 use Rattle.frac_keys.specs.Rising.{are_rising}
@@ -14,16 +13,17 @@ use Rattle.elem_store.specs.Updates.{element_of, ids_of}
 use Rattle.elem_store.proofs.CallerLemmas.{find-Some, filter-Contains, Contains-filter, member}
 use Rattle.links.proofs.CallerLemmas.{map-map}
 use Rattle.view.specs.Settled.{settled, unsettled}
-use Rattle.index_repair.specs.Keyed.{index_of, with_index, keyed, HaveKeysOrNone}
+use Rattle.index_repair.specs.Keyed.{index_of, keyed, HaveKeysOrNone}
 use Rattle.view.specs.Shown.{is_live, comes_before, in_scene_order, without_index, placed, shown, IsView}
-use Rattle.view.specs.Steps.{settled_of, settled_but_for_key, HasAllNear}
+use Rattle.view.specs.Steps.{is_framed, settled_but_for_key, HasAllLinked, HasAllNear}
 use Rattle.view.proofs.CallerLemmas.{AllPairs-in_order, HaveDistinctIds-permuted, scene_order, IsPermutation-in_scene_order, distinct-settled, unsettled-settled, HaveDistinctIds-rising, placed-distinct, settled-alone, settled-keys, settled-unchanged}
-use Rattle.live_view.specs.Reached.{is_among, AreStartedBy, HaveReached}
+use Rattle.live_view.specs.Reached.{is_among, AreStartedBy, AreSurrounded, HaveReached}
 use Rattle.live_view.proofs.ByIds.{same-by_ids}
+use Rattle.live_view.proofs.Framed.{AreFramesKept, framed-alike}
 use Rattle.live_view.proofs.Picked.{picked-in_order, same-in_order}
 use Rattle.live_view.proofs.PlacedLaws.{keys-count, others-keyed}
-use Rattle.live_view.proofs.ReachedLaws.{IsOneOf, AreOf, all-near, all, reached-near, far-back}
-use Rattle.live_view.proofs.ShownAfter.{index-by_ids, one-of-same}
+use Rattle.live_view.proofs.ReachedLaws.{IsOneOf, AreOf, all-linked, all, far-back, surrounded-near}
+use Rattle.live_view.proofs.ShownAfter.{element-filter, index-by_ids, one-of-same}
 use Rattle.live_view.proofs.Untouched.{element-map, same_option, index-settled}
 
 -- elements with keys
@@ -112,8 +112,8 @@ pub record IsShownNear (live drawn news after new : List ElementValue) : Type 0 
   pub wide : List (List ℕ)
   pub started : AreStartedBy start news
   pub reached : HaveReached live start near
-  pub more : HaveReached live near wide
-  pub distinct : IsDistinct bytes_eq wide
+  pub surrounded : AreSurrounded live news near wide
+  pub frames_kept : AreFramesKept live after start
   pub others : (id : List ℕ) → is_among start id ≡ false → element_of after id ≡ element_of live id
   pub from : (e : ElementValue) → Contains after e → Contains live e ⊎ Contains news e
   pub ids : ids_of new ≡ ids_of (in_scene_order after)
@@ -170,31 +170,39 @@ module _ (live drawn news after new : List ElementValue) (view : IsView live dra
   own : (id : List ℕ) → is_among is.start id ≡ true → is_among is.start id ≡ true
   own id h = h
 
-  far-start : (list : List ElementValue) → AreOf live news list → (id : List ℕ) → is_among is.near id ≡ false → HasAllNear off list id
+  far-start : (list : List ElementValue) → AreOf live news list → (id : List ℕ) → is_among is.near id ≡ false → HasAllLinked off list id
   far-start list of id out =
-      all-near off list id
+      all-linked off list id
       (λ e c within. ap not (far-back live news list is.start is.started of is.start is.near is.reached own id out e c within))
+
+  started_near : (id : List ℕ) → is_among is.start id ≡ true → is_among is.near id ≡ true
+  started_near = all live news [] is.start is.started (λ e c. absurd (omega (arith, c.1))) is.start is.near is.reached own
+
+  far-stays : (id : List ℕ) → is_among is.start id ≡ false → (es : List ElementValue) → option_map without_index (element_of es id) ≡ element_of (map without_index (filter off es)) id
+  far-stays id out es =
+      ap (option_map without_index) (sym (element-filter (λ id. not (is_among is.start id)) es id ∙ ap (λ b. cond (not b) (element_of es id) None) out)) ∙ keyless (filter off es) id
+
+  far-framed : (id : List ℕ) → is_among is.near id ≡ false → is_framed (placed live) id ≡ is_framed (placed after) id
+  far-framed id out =
+      let off_start : is_among is.start id ≡ false = false_from_ne_true (is_among is.start id) (λ h. both_ways (is_among is.near id) out (started_near id h)) in
+      framed-alike live after (placed live) (placed after) is.start is.frames_kept (others-placed live view.keys) (others-placed after is.keys) (from-placed live view.keys) id off_start
+      (far-stays id off_start (placed live) ∙ ap (λ es. element_of es id) kept ∙ sym (far-stays id off_start (placed after)))
 
   alike : (id : List ℕ) → is_among is.near id ≡ false → settled_but_for_key (placed live) id ≡ settled_but_for_key (placed after) id
   alike id out =
       settled-unchanged (placed live) (placed after) off id distinct-placed distinct-placed_after kept
-      (far-start (placed live) of-live id out) (far-start (placed after) of-after id out)
+      (far-start (placed live) of-live id out) (far-start (placed after) of-after id out) (far-framed id out)
 
   drawn-is : drawn ≡ settled (placed live)
   unfolding shown
   drawn-is = view.exact
 
   -- ---- near it
-  started_near : (id : List ℕ) → is_among is.start id ≡ true → is_among is.near id ≡ true
-  started_near = all live news [] is.start is.started (λ e c. absurd (omega (arith, c.1))) is.start is.near is.reached own
-
   part-is : settled (in_scene_order (filter_map (element_of after) is.wide)) ≡ settled (filter (λ (e : ElementValue). is_among is.wide e.id) (in_scene_order after))
-  part-is = ap settled (picked-in_order after is.wide is.ordered is.distinct)
+  part-is = ap settled (picked-in_order after is.wide is.ordered is.surrounded.distinct)
 
   near-wide : (id : List ℕ) → is_among is.near id ≡ true → HasAllNear (λ (e : ElementValue). is_among is.wide e.id) (in_scene_order after) id
-  near-wide id h =
-      all-near (λ (e : ElementValue). is_among is.wide e.id) (in_scene_order after) id
-      (reached-near live news (in_scene_order after) is.start is.started of-order is.near is.wide is.more started_near id h)
+  near-wide = surrounded-near live news (in_scene_order after) is.start is.started of-order is.near is.wide is.surrounded.more started_near is.surrounded
 
   settled-near : (id : List ℕ) → is_among is.near id ≡ true
       → settled_but_for_key (in_scene_order (filter_map (element_of after) is.wide)) id ≡ settled_but_for_key (placed after) id

@@ -1,5 +1,5 @@
 -- Elements that are put at places of others of their ids and indices.
-use Rattle.std.proofs.Common.{◌≡◌, ℕ, zero, suc, ◌+◌, ◌<◌, Bool, true, false, cond, List, [], ◌∷◌, ◌++◌, length, map, filter, set, take, get_or, append-nil, Option, Some, None, IsSomeAnd, All, Contains, slice_get, bytes_eq, refl, sym, ap, ap₂, ◌∙◌, subst, inl, inr, arith}
+use Rattle.std.proofs.Common.{◌≡◌, ℕ, zero, suc, ◌+◌, ◌<◌, Bool, true, false, cond, List, [], ◌∷◌, ◌++◌, length, map, filter, set, take, get_or, append-nil, Option, Some, None, IfSome, IsSomeAnd, All, Contains, slice_get, bytes_eq, refl, sym, ap, ap₂, ◌∙◌, subst, inl, inr, arith}
 use Rattle.std.specs.Cmp.Lexicographic.{nat_list_eq_equiv}
 use Rattle.std.specs.List.{AllByRecursion, IsDistinct}
 use Rattle.std.specs.Option.{option_or}
@@ -18,6 +18,11 @@ use Rattle.view.specs.Shown.{without_index}
 use Rattle.live_view.specs.declared.places.Put.{Put}
 use Rattle.live_view.proofs.ByIds.{none_apart}
 use Rattle.live_view.specs.Putting.{puts_of, IsWithin, IsInPlace, all_put}
+
+-- what is said of what is put, if anything is, says what follows from it
+pub IfSome-weaker : {A : Type 0} (P Q : A → Type 0) → ((a : A) → P a → Q a) → (o : Option A) → IfSome o P → IfSome o Q
+IfSome-weaker P Q h None is = tt
+IfSome-weaker P Q h (Some a) is = h a is
 
 -- an element of the place's id and index leaves the ids and the indices as they are
 ids-set : (es : List ElementValue) (i : ℕ) (e : ElementValue) → IsSomeAnd (slice_get es i) (λ x. (x.id ≡ e.id) × (x.index ≡ e.index)) → ids_of (set es i e) ≡ ids_of es

@@ -1,34 +1,34 @@
 -- What is shown after elements took the places of those of their ids, with the same indices: what is far from them stays.
-use Rattle.std.proofs.Common.{◌≡◌, ◌⊎◌, ℕ, suc, Bool, true, false, not, cond, ◌&&◌, List, [], ◌∷◌, length, map, filter, filter_map, Option, Some, None, All, IsTrue, Contains, bytes_eq, refl, sym, ap, ap₂, ◌∙◌, subst, inl, inr, arith}
+use Rattle.std.proofs.Common.{◌≡◌, ◌⊎◌, ℕ, suc, Bool, true, false, not, cond, List, [], ◌∷◌, length, map, filter, filter_map, Option, Some, None, Contains, bytes_eq, refl, sym, ap, ap₂, ◌∙◌, subst, inl, inr, arith}
 use Rattle.std.specs.List.{AllByRecursion, IsDistinct, list_all}
 use Rattle.std.specs.List.Sorted.{IsPermutation}
 use Rattle.std.specs.Option.{option_map, option_or, unwrap_or}
-use Rattle.std.proofs.lemmas.Bool.{cases_Bool, both_ways, and_from, and_parts, cond-true, cond-false, false_from_ne_true, true_from_ne_false}
+use Rattle.std.proofs.lemmas.Bool.{cases_Bool, both_ways, and_from, and_parts, false_from_ne_true}
 use Rattle.std.proofs.lemmas.List.Elements.{All-contains, All-from_recursion, recursion_from_All}
 use Rattle.std.proofs.lemmas.List.Sums.{AllPass-from_list_all}
 use Rattle.std.proofs.lemmas.List.Sorted.{IsPermutation-sym, IsPermutation-map, Contains-permutation, All-permutation}
-use Rattle.std.proofs.lemmas.Option.{same_Some}
 use Rattle.frac_keys.specs.Rising.{are_rising, is_key_or_none}
 use Rattle.index_repair.specs.Repair.{repaired}
 use Rattle.elem.specs.ElementValue.{ElementValue}
 use Rattle.elem.specs.Order.{has_id, HaveDistinctIds}
 use Rattle.elem_store.specs.Updates.{element_of, ids_of}
-use Rattle.elem_store.proofs.CallerLemmas.{same_id, of_itself, find-Some, Contains-head, Contains-cons, Contains-cases, member}
+use Rattle.elem_store.proofs.CallerLemmas.{same_id, find-Some, Contains-head, Contains-cons, Contains-cases}
 use Rattle.links.proofs.CallerLemmas.{distinct-among, map-map}
 use Rattle.view.specs.Settled.{settled, unsettled}
 use Rattle.index_repair.specs.Keyed.{index_of, with_index, keyed, HaveKeysOrNone}
 use Rattle.view.specs.Shown.{is_live, in_scene_order, without_index, placed, shown, as_stored, IsView}
-use Rattle.view.specs.Steps.{settled_of, settled_but_for_key, HasAllNear}
-use Rattle.view.proofs.CallerLemmas.{AllPairs-in_order, HaveDistinctIds-permuted, in_order-only, scene_order, IsPermutation-in_scene_order, distinct-settled, unsettled-settled, HaveDistinctIds-rising, placed-distinct, shown-is, settled-alone, settled-keys, settled-unchanged}
+use Rattle.view.specs.Steps.{is_framed, settled_of, settled_but_for_key, HasAllLinked, HasAllNear}
+use Rattle.view.proofs.CallerLemmas.{AllPairs-in_order, HaveDistinctIds-permuted, in_order-only, scene_order, IsPermutation-in_scene_order, distinct-settled, unsettled-settled, HaveDistinctIds-rising, placed-distinct, settled-alone, settled-keys, settled-unchanged}
 use Rattle.live_view.specs.declared.places.Put.{Put}
 use Rattle.live_view.specs.Putting.{puts_of, IsInPlace, all_put}
 use Rattle.live_view.specs.Reached.{is_among, AreStartedBy, IsStartedBy}
 use Rattle.live_view.specs.Replacing.{element_after, AreRepairs, HaveReplaced}
 use Rattle.live_view.proofs.ByIds.{same-by_ids}
+use Rattle.live_view.proofs.Framed.{framed-alike, frames-replaced}
 use Rattle.live_view.proofs.Picked.{pairs-alike, picked-in_order}
 use Rattle.live_view.proofs.PlacedLaws.{keys-count, others-keyed, shown-distinct}
 use Rattle.live_view.proofs.PuttingLaws.{ids-all_put, indices-all_put, element-all_put}
-use Rattle.live_view.proofs.ReachedLaws.{IsOneOf, AreOf, all-near, all, reached-near, far-back}
+use Rattle.live_view.proofs.ReachedLaws.{IsOneOf, AreOf, all-linked, all, far-back, surrounded-near}
 use Rattle.live_view.proofs.Untouched.{element-map, same_option, index-settled, all-shown}
 
 -- ---- lists and options
@@ -263,10 +263,13 @@ module _ (live drawn news : List ElementValue) (held : List Put) (view : IsView 
       let L = in_scene_order live in
       ap (map without_index) placed-after ∙ others-keyed (map (as_stored news) L) (repaired (map index_of L)) (count ∙ sym (length-news L)) ∙ ap (map without_index) (sym order-after)
 
-  of-live : AreOf live news (placed live)
-  of-live e c =
+  from-live : (e : ElementValue) → Contains (placed live) e → IsOneOf live e
+  from-live e c =
       let f = one-of-same without_index (placed live) (in_scene_order live) others-live e c in
-      inl (f.0, Contains-permutation (in_scene_order live) live f.0 (IsPermutation-sym _ _ (IsPermutation-in_scene_order live)) f.1, f.2)
+      (f.0, Contains-permutation (in_scene_order live) live f.0 (IsPermutation-sym _ _ (IsPermutation-in_scene_order live)) f.1, f.2)
+
+  of-live : AreOf live news (placed live)
+  of-live e c = inl (from-live e c)
 
   of-order : AreOf live news (in_scene_order (all_put held live))
   of-order e c =
@@ -293,18 +296,10 @@ module _ (live drawn news : List ElementValue) (held : List Put) (view : IsView 
     own id is = is
 
     -- far from the new ones
-    far-start : (list : List ElementValue) → AreOf live news list → (id : List ℕ) → is_among repairs.near id ≡ false → HasAllNear (λ (e : ElementValue). not (is_among repairs.start e.id)) list id
+    far-start : (list : List ElementValue) → AreOf live news list → (id : List ℕ) → is_among repairs.near id ≡ false → HasAllLinked (λ (e : ElementValue). not (is_among repairs.start e.id)) list id
     far-start list of id out =
-        all-near (λ (e : ElementValue). not (is_among repairs.start e.id)) list id
+        all-linked (λ (e : ElementValue). not (is_among repairs.start e.id)) list id
         (λ e c within. ap not (far-back live news list repairs.start repairs.started of repairs.start repairs.near repairs.reached own id out e c within))
-
-    alike : (id : List ℕ) → is_among repairs.near id ≡ false → settled_but_for_key (placed live) id ≡ settled_but_for_key (placed (all_put held live)) id
-    alike id out =
-        settled-unchanged (placed live) (placed (all_put held live)) (λ (e : ElementValue). not (is_among repairs.start e.id)) id distinct-placed distinct-placed_after
-        (ap (λ es. map without_index (filter (λ (e : ElementValue). not (is_among repairs.start e.id)) es)) placed-live
-        ∙ same-others news repairs.start repairs.started (in_scene_order live) (repaired (map index_of (in_scene_order live)))
-        ∙ sym (ap (λ es. map without_index (filter (λ (e : ElementValue). not (is_among repairs.start e.id)) es)) placed-after))
-        (far-start (placed live) of-live id out) (far-start (placed (all_put held live)) of-after id out)
 
     started_near : (id : List ℕ) → is_among repairs.start id ≡ true → is_among repairs.near id ≡ true
     started_near = all live news [] repairs.start repairs.started (λ e c. absurd (omega (arith, c.1))) repairs.start repairs.near repairs.reached own
@@ -316,6 +311,22 @@ module _ (live drawn news : List ElementValue) (held : List Put) (view : IsView 
         (false_from_ne_true (is_among repairs.start id) (λ is. both_ways (is_among repairs.near id) out (started_near id is)))
         ∙ sym (ap (λ es. element_of es id) placed-after)
 
+    far-framed : (id : List ℕ) → is_among repairs.near id ≡ false → is_framed (placed live) id ≡ is_framed (placed (all_put held live)) id
+    far-framed id out =
+        framed-alike live (all_put held live) (placed live) (placed (all_put held live)) repairs.start
+        (frames-replaced live (all_put held live) view.ordered rising-after repairs.start news each-after repairs.frames_started)
+        others-live others-after from-live id
+        (false_from_ne_true (is_among repairs.start id) (λ is. both_ways (is_among repairs.near id) out (started_near id is)))
+        (ap (option_map without_index) (same-placed id out))
+
+    alike : (id : List ℕ) → is_among repairs.near id ≡ false → settled_but_for_key (placed live) id ≡ settled_but_for_key (placed (all_put held live)) id
+    alike id out =
+        settled-unchanged (placed live) (placed (all_put held live)) (λ (e : ElementValue). not (is_among repairs.start e.id)) id distinct-placed distinct-placed_after
+        (ap (λ es. map without_index (filter (λ (e : ElementValue). not (is_among repairs.start e.id)) es)) placed-live
+        ∙ same-others news repairs.start repairs.started (in_scene_order live) (repaired (map index_of (in_scene_order live)))
+        ∙ sym (ap (λ es. map without_index (filter (λ (e : ElementValue). not (is_among repairs.start e.id)) es)) placed-after))
+        (far-start (placed live) of-live id out) (far-start (placed (all_put held live)) of-after id out) (far-framed id out)
+
     -- near them
     shown-is-settled : drawn ≡ settled (placed live)
     unfolding shown
@@ -324,15 +335,14 @@ module _ (live drawn news : List ElementValue) (held : List Put) (view : IsView 
     part-is : settled (in_scene_order (filter_map (element_after live news) repairs.wide)) ≡ settled (filter (λ (e : ElementValue). is_among repairs.wide e.id) (in_scene_order (all_put held live)))
     part-is =
         (λ i. settled (in_scene_order (filter_map (λ id. sym (each-after id) i) repairs.wide)))
-        ∙ ap settled (picked-in_order (all_put held live) repairs.wide rising-after repairs.distinct)
+        ∙ ap settled (picked-in_order (all_put held live) repairs.wide rising-after repairs.surrounded.distinct)
 
     distinct-order : HaveDistinctIds (in_scene_order (all_put held live))
     distinct-order = HaveDistinctIds-permuted (all_put held live) _ (IsPermutation-in_scene_order (all_put held live)) apart-after
 
     near-wide : (id : List ℕ) → is_among repairs.near id ≡ true → HasAllNear (λ (e : ElementValue). is_among repairs.wide e.id) (in_scene_order (all_put held live)) id
-    near-wide id is =
-        all-near (λ (e : ElementValue). is_among repairs.wide e.id) (in_scene_order (all_put held live)) id
-        (reached-near live news (in_scene_order (all_put held live)) repairs.start repairs.started of-order repairs.near repairs.wide repairs.more started_near id is)
+    near-wide =
+        surrounded-near live news (in_scene_order (all_put held live)) repairs.start repairs.started of-order repairs.near repairs.wide repairs.surrounded.more started_near repairs.surrounded
 
     settled-near : (id : List ℕ) → is_among repairs.near id ≡ true → settled_of (filter (λ (e : ElementValue). is_among repairs.wide e.id) (in_scene_order (all_put held live))) id ≡ settled_of (in_scene_order (all_put held live)) id
     settled-near id is = settled-alone (in_scene_order (all_put held live)) (λ (e : ElementValue). is_among repairs.wide e.id) id distinct-order (near-wide id is)

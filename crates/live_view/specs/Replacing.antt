@@ -1,7 +1,7 @@
 -- Elements that take the places of those of their ids. This project's own.
-use Rattle.std.specs.Prelude.{◌≡◌, ℕ, List, Bool, true, ◌&&◌, Option, All, Contains, bytes_eq, filter, filter_map, map}
+use Rattle.std.specs.Prelude.{◌≡◌, ℕ, List, Bool, true, ◌&&◌, Option, All, bytes_eq, filter, filter_map, map}
 use Rattle.std.specs.BTreeSet.{BTreeSet}
-use Rattle.std.specs.List.{list_any, IsDistinct}
+use Rattle.std.specs.List.{list_any}
 use Rattle.std.specs.Option.{option_or}
 use Rattle.frac_keys.specs.Rising.{are_rising}
 use Rattle.elem.specs.ElementValue.{ElementValue}
@@ -13,7 +13,7 @@ use Rattle.view.specs.Settled.{settled}
 use Rattle.view.specs.Shown.{in_scene_order, without_index, IsView}
 use Rattle.live_view.specs.declared.places.Put.{Put}
 use Rattle.live_view.specs.Putting.{puts_of, IsInPlace}
-use Rattle.live_view.specs.Reached.{is_among, AreStartedBy, HaveReached}
+use Rattle.live_view.specs.Reached.{is_among, AreStartedBy, AreSurrounded, HaveReached, StaysFrame}
 use Rattle.view.specs.Kept.{AreOthersAsStored, HaveRowsOf}
 
 -- the element of an id after new ones took the places of those of their ids
@@ -35,16 +35,16 @@ AreRowsOfAll elements rows =
     (named namer : List ℕ)
     → has_row rows (record { named = named; namer = namer }) ≡ list_any (names_as named namer) elements
 
--- What is shown anew: the elements near the new ones, settled among those near these, with the keys that they are shown
--- with.
+-- What is shown anew: the elements near the new ones, and near what one of these frames no more, or anew, settled among
+-- those near these and their frames, with the keys that they are shown with.
 pub record AreRepairs (live shown news : List ElementValue) (puts : List Put) : Type 0 where
   pub start : List (List ℕ)
   pub near : List (List ℕ)
   pub wide : List (List ℕ)
   pub started : AreStartedBy start news
+  pub frames_started : All (StaysFrame live start) news
   pub reached : HaveReached live start near
-  pub more : HaveReached live near wide
-  pub distinct : IsDistinct bytes_eq wide
+  pub surrounded : AreSurrounded live news near wide
   pub placed : All (IsInPlace shown) puts
   pub drawn : map without_index (puts_of puts) ≡ map without_index
       (filter (λ (e : ElementValue). is_among near e.id)

@@ -69,7 +69,7 @@ impl LiveView {
         ensures old { OnErr result (self.new ≡ self.old) }
         ensures other { result ≡ Ok false → self.new ≡ self.old }
     {
-        if !self.is_small(ids.len()) {
+        if !is_small(store, ids.len()) {
             return Ok(false);
         }
         let alloc = self.kept.allocator();
@@ -104,18 +104,12 @@ impl LiveView {
         ensures old { OnErr result (self.new ≡ self.old) }
         ensures other { result ≡ Ok false → self.new ≡ self.old }
     {
-        if !self.is_small(changed.len()) {
+        if !is_small(store, changed.len()) {
             return Ok(false);
         }
         let alloc = self.kept.allocator();
         let news = taken_of(alloc, store, changed)?;
         self.follow(&news)
-    }
-
-    /// Whether a change of so many elements is followed near them: where more of the board changes, a view made anew
-    /// costs less.
-    fn is_small(&self, changed: usize) -> bool {
-        changed <= 4 + self.kept.len() / 8
     }
 
     /// Makes this the view of the store anew, twice, so that no change near its elements copies all of it. For want of
@@ -130,6 +124,14 @@ impl LiveView {
         *self = LiveView { kept, twin };
         Ok(())
     }
+}
+
+/// Whether a change of so many elements is followed near them: where more of the board changes, a view made anew costs
+/// less.
+fn is_small(store: &Store, changed: usize) -> bool
+    ensures { are_rising (ids_of store.now.elements) ≡ true }
+{
+    changed <= 4 + store.len() / 8
 }
 
 /// Whether a store takes the element: its id is new, or it beats the stored one.

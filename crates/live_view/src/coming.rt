@@ -1,7 +1,7 @@
 //! An element that comes to a view or goes: the runs of keys around its place are repaired, what is near it is shown
 //! anew, and nothing else that is shown changes.
 
-ghost use Rattle.std.specs.Prelude.{◌≡◌, ℕ, ◌+◌, ◌<◌, ◌≤◌, [], ◌∷◌, Ok, Some, true, false, insert, length, slice_index_or, OnErr, IfOk, IfSome, IsTrue, vec_len, vec_capacity};
+ghost use Rattle.std.specs.Prelude.{◌≡◌, ℕ, ◌+◌, ◌<◌, ◌≤◌, [], ◌∷◌, Ok, Some, true, false, insert, length, slice_index_or, IfOk, IfSome, IsTrue, OnOk};
 ghost use Rattle.frac_keys.specs.Rising.{are_rising};
 ghost use Rattle.elem.specs.ElementValue.{ElementValue};
 ghost use Rattle.elem.specs.Order as order;
@@ -15,15 +15,16 @@ ghost use Rattle.view.specs.Kept.{HaveRowsOf};
 ghost use Rattle.live_view.specs.Replacing.{HaveReplaced};
 
 use crate::ids::Ids;
-use crate::kept::Kept;
+use crate::kept::{Kept, Parts, joined};
 use crate::order::scene_order;
-use crate::places::{Put, order_of, place_of, place_shown, put_all};
-use crate::reach::{reached, started_by};
-use crate::replacing::{puts_near, settled_after};
+use crate::places::{Put, order_of, place_of, place_shown, put_all, replace};
+use crate::reach::{add_framed, reached, started_by, surrounded};
+use crate::replacing::{puts_near, settled_after, with_index};
 use crate::runs::{Rekeying, keys_with, keys_without, stored_of};
+use crate::sharing::shared_as;
 use crate::unsettled::{note_all, settle_all, touched};
 use board_base::List;
-use elem::Element;
+use elem::{Element, SharedElement};
 use frac_keys::Key;
 use json_text::Text;
 use links::{LinkTable, rows_of};
@@ -32,12 +33,11 @@ use std::alloc::{AllocError, Global};
 /// What is shown anew where an element comes: itself, and what is near it, at the places where it is shown.
 #[derive(Drop)]
 struct Coming {
-    own: Element,
-    held: Element,
+    own: SharedElement,
     puts: Vec<Put>,
 }
 
-/// The ids of what is near an element, and of what is near that.
+/// The ids of what is near an element, and of what is near that, with its frames.
 #[derive(Drop)]
 struct Around {
     near: Ids,
@@ -45,77 +45,88 @@ struct Around {
 }
 
 impl Kept {
-    /// Lets an element come whose id no one has, and tells whether it does. For want of memory nothing changes.
-    pub(crate) fn come(&mut self, e: &Element) -> Result<bool, AllocError>
+    /// With an element whose id no one has, if its place is found. Otherwise, and for want of memory, what is kept is
+    /// given up.
+    pub(crate) fn come(self, e: &SharedElement) -> Result<Option<Kept>, AllocError>
         requires { is_live e.now ≡ true }
-        ensures new { result ≡ Ok true → HaveReplaced self.old (e.now ∷ []) self.new }
-        ensures old { OnErr result (self.new ≡ self.old) }
-        ensures other { result ≡ Ok false → self.new ≡ self.old }
+        ensures { IfOk result (λ found. IfSome found (HaveReplaced self (e.now ∷ []))) }
     {
-        let alloc = *self.live.allocator();
-        let Err(at) = place_of(&self.live, &e.id) else {
-            return Ok(false);
+        let alloc = self.allocator();
+        let Parts {
+            live,
+            shown,
+            table,
+            unsettled,
+        } = self.into_parts();
+        let (mut live, mut shown, mut table, mut unsettled) = (live, shown, table, unsettled);
+        let Err(at) = place_of(&live, e.id()) else {
+            return Ok(None);
         };
-        let Some(place) = place_for(&self.live, &self.shown, e) else {
-            return Ok(false);
+        let Some(place) = place_for(&live, &shown, e.get()) else {
+            return Ok(None);
         };
-        let Some(rekeying) = keys_with(alloc, &self.live, &self.shown, place, &e.index)? else {
-            return Ok(false);
+        let index = &e.get().index;
+        let Some(rekeying) = keys_with(alloc, &live, &shown, place, index)? else {
+            return Ok(None);
         };
-        let rows = rows_of(alloc, e)?;
-        self.live.reserve(1)?;
-        self.shown.reserve(1)?;
-        self.table.reserve(rows.as_slice().len())?;
-        let Some(coming) = draw_coming(alloc, &self.live, &self.shown, &self.table, e)? else {
-            return Ok(false);
+        let Some(coming) = draw_coming(alloc, &live, &shown, &table, e)? else {
+            return Ok(None);
         };
-        let Coming { own, held, puts } = coming;
-        let ids = touched(alloc, &self.shown, &puts, &e.id, &rekeying)?;
-        note_all(&mut self.unsettled, &ids)?;
-        put_all(&mut self.shown, puts);
-        insert(&mut self.shown, place, own);
-        set_keys(&mut self.shown, rekeying);
-        insert(&mut self.live, at, held);
-        self.table.replace(&List::new(alloc), rows);
-        settle_all(&mut self.unsettled, &self.live, &self.shown, &ids);
-        Ok(true)
+        let Coming { own, puts } = coming;
+        let ids = touched(alloc, &shown, &puts, e.id(), &rekeying)?;
+        let rows = rows_of(alloc, e.get())?;
+        note_all(&mut unsettled, &ids)?;
+        put_all(&mut shown, puts);
+        insert(&mut shown, place, own)?;
+        set_keys(alloc, &mut shown, rekeying)?;
+        insert(&mut live, at, e.try_clone()?)?;
+        table.reserve(rows.as_slice().len())?;
+        table.replace(&List::new(alloc), rows);
+        settle_all(&mut unsettled, &live, &shown, &ids);
+        Ok(Some(joined(live, shown, table, unsettled)))
     }
 
-    /// Lets the element of an id go, if it is there, and tells whether it is gone. For want of memory nothing changes.
-    pub(crate) fn go(&mut self, id: &Text) -> Result<bool, AllocError>
-        ensures new { result ≡ Ok true → HasGone self.old id.now self.new }
-        ensures old { OnErr result (self.new ≡ self.old) }
-        ensures other { result ≡ Ok false → self.new ≡ self.old }
+    /// Without the element of an id, if its place is found. Otherwise, and for want of memory, what is kept is given
+    /// up.
+    pub(crate) fn go(self, id: &Text) -> Result<Option<Kept>, AllocError>
+        ensures { IfOk result (λ found. IfSome found (HasGone self id.now)) }
     {
-        let alloc = *self.live.allocator();
-        let Ok(at) = place_of(&self.live, id) else {
-            return Ok(true);
+        let alloc = self.allocator();
+        let Parts {
+            live,
+            shown,
+            table,
+            unsettled,
+        } = self.into_parts();
+        let (mut live, mut shown, mut table, mut unsettled) = (live, shown, table, unsettled);
+        let Ok(at) = place_of(&live, id) else {
+            return Ok(Some(joined(live, shown, table, unsettled)));
         };
-        let e = &self.live[at];
-        let Some(place) = place_shown(&self.live, &self.shown, e) else {
-            return Ok(false);
+        let e = live[at].try_clone()?;
+        let Some(place) = place_shown(&live, &shown, e.get()) else {
+            return Ok(None);
         };
-        let Some(rekeying) = keys_without(alloc, &self.live, &self.shown, place)? else {
-            return Ok(false);
+        let Some(rekeying) = keys_without(alloc, &live, &shown, place)? else {
+            return Ok(None);
         };
-        let Some(puts) = draw_going(alloc, &self.live, &self.shown, &self.table, e)? else {
-            return Ok(false);
+        let Some(puts) = draw_going(alloc, &live, &shown, &table, &e)? else {
+            return Ok(None);
         };
-        let rows = rows_of(alloc, e)?;
-        let ids = touched(alloc, &self.shown, &puts, id, &rekeying)?;
-        note_all(&mut self.unsettled, &ids)?;
-        put_all(&mut self.shown, puts);
-        self.shown.remove(place);
-        set_keys(&mut self.shown, rekeying);
-        self.live.remove(at);
-        self.table.replace(&rows, List::new(alloc));
-        settle_all(&mut self.unsettled, &self.live, &self.shown, &ids);
-        Ok(true)
+        let rows = rows_of(alloc, e.get())?;
+        let ids = touched(alloc, &shown, &puts, id, &rekeying)?;
+        note_all(&mut unsettled, &ids)?;
+        put_all(&mut shown, puts);
+        shown.remove(place);
+        set_keys(alloc, &mut shown, rekeying)?;
+        live.remove(at);
+        table.replace(&rows, List::new(alloc));
+        settle_all(&mut unsettled, &live, &shown, &ids);
+        Ok(Some(joined(live, shown, table, unsettled)))
     }
 }
 
 /// The place among shown elements at which an element comes, if it is found.
-fn place_for(live: &Vec<Element>, shown: &Vec<Element>, e: &Element) -> Option<usize>
+fn place_for(live: &Vec<SharedElement>, shown: &Vec<SharedElement>, e: &Element) -> Option<usize>
     requires { are_rising (ids_of live.now.items) ≡ true }
     ensures { IfSome result (IsPlaceFor (all_stored live.now.items shown.now.items) e.now) }
 {
@@ -130,52 +141,59 @@ fn place_for(live: &Vec<Element>, shown: &Vec<Element>, e: &Element) -> Option<u
 }
 
 /// Whether an element comes behind what stands before a place.
-fn comes_behind(live: &Vec<Element>, shown: &Vec<Element>, place: usize, e: &Element) -> bool
+fn comes_behind(
+    live: &Vec<SharedElement>,
+    shown: &Vec<SharedElement>,
+    place: usize,
+    e: &Element,
+) -> bool
     requires ordered { are_rising (ids_of live.now.items) ≡ true }
     requires within { place ≤ length shown.now.items }
     ensures { IsTrue result → (i : ℕ) (d : ElementValue) → i + 1 ≡ place
         → comes_before (slice_index_or
         (all_stored live.now.items shown.now.items) i d) e.now ≡ true }
 {
-    place == 0 || scene_order(stored_of(live, &shown[place - 1]), e).is_lt()
+    place == 0 || scene_order(stored_of(live, shown[place - 1].get()), e).is_lt()
 }
 
 /// Whether an element comes before what stands at a place.
-fn comes_ahead(live: &Vec<Element>, shown: &Vec<Element>, place: usize, e: &Element) -> bool
+fn comes_ahead(
+    live: &Vec<SharedElement>,
+    shown: &Vec<SharedElement>,
+    place: usize,
+    e: &Element,
+) -> bool
     requires ordered { are_rising (ids_of live.now.items) ≡ true }
     requires within { place ≤ length shown.now.items }
     ensures { IsTrue result → (d : ElementValue) → place < length shown.now.items
         → comes_before e.now (slice_index_or
         (all_stored live.now.items shown.now.items) place d) ≡ true }
 {
-    place == shown.len() || scene_order(e, stored_of(live, &shown[place])).is_lt()
+    place == shown.len() || scene_order(e, stored_of(live, shown[place].get())).is_lt()
 }
 
 /// What is shown anew where an element comes, if all of it is found.
 fn draw_coming(
     alloc: Global,
-    live: &Vec<Element>,
-    shown: &Vec<Element>,
+    live: &Vec<SharedElement>,
+    shown: &Vec<SharedElement>,
     table: &LinkTable,
-    e: &Element,
+    e: &SharedElement,
 ) -> Result<Option<Coming>, AllocError>
     requires ordered { are_rising (ids_of live.now.items) ≡ true }
     requires table { HaveRowsOf live.now.items table.now.rows }
-    ensures { IfOk result (λ found. IfSome found (λ c. (c.held ≡ e.now)
-        × IsComing live.now.items shown.now.items e.now c.own c.puts.items)) }
+    ensures { IfOk result (λ found. IfSome found
+        (λ c. IsComing live.now.items shown.now.items e.now c.own c.puts.items)) }
 {
     let around = find_around(alloc, live, table, e)?;
     let news = alone(alloc, e)?;
     let part = settled_after(alloc, live, &news, &around.wide.list)?;
-    let Some(own) = element_in(&part, &e.id)? else {
+    let Some(own) = element_in(&part, e.id())? else {
         return Ok(None);
     };
-    match puts_beside(alloc, live, shown, part, &around.near, &e.id)? {
-        Some(puts) => Ok(Some(Coming {
-            own,
-            held: e.try_clone()?,
-            puts,
-        })),
+    let own = shared_as(alloc, e, own)?;
+    match puts_beside(alloc, live, shown, part, &around.near, e.id())? {
+        Some(puts) => Ok(Some(Coming { own, puts })),
         None => Ok(None),
     }
 }
@@ -183,10 +201,10 @@ fn draw_coming(
 /// What is shown anew where an element goes, if all of it is found.
 fn draw_going(
     alloc: Global,
-    live: &Vec<Element>,
-    shown: &Vec<Element>,
+    live: &Vec<SharedElement>,
+    shown: &Vec<SharedElement>,
     table: &LinkTable,
-    e: &Element,
+    e: &SharedElement,
 ) -> Result<Option<Vec<Put>>, AllocError>
     requires ordered { are_rising (ids_of live.now.items) ≡ true }
     requires table { HaveRowsOf live.now.items table.now.rows }
@@ -194,17 +212,17 @@ fn draw_going(
         (λ found. IfSome found (λ puts. IsGoing live.now.items shown.now.items e.now puts.items)) }
 {
     let around = find_around(alloc, live, table, e)?;
-    let others = around.wide.without(alloc, &e.id)?;
+    let others = around.wide.without(alloc, e.id())?;
     let part = settled_after(alloc, live, &Vec::new(alloc), &others.list)?;
-    puts_beside(alloc, live, shown, part, &around.near, &e.id)
+    puts_beside(alloc, live, shown, part, &around.near, e.id())
 }
 
-/// What is near an element, and what is near that.
+/// What is near an element, and near what it frames, and what is near that, with its frames.
 fn find_around(
     alloc: Global,
-    live: &Vec<Element>,
+    live: &Vec<SharedElement>,
     table: &LinkTable,
-    e: &Element,
+    e: &SharedElement,
 ) -> Result<Around, AllocError>
     requires ordered { are_rising (ids_of live.now.items) ≡ true }
     requires table { HaveRowsOf live.now.items table.now.rows }
@@ -213,14 +231,16 @@ fn find_around(
     ensures near { IfOk result (λ a. AreIds a.near.list.items a.near.seen) }
     ensures wide { IfOk result (λ a. AreIds a.wide.list.items a.wide.seen) }
 {
-    let start = started_by(alloc, &alone(alloc, e)?)?;
+    let news = alone(alloc, e)?;
+    let mut start = started_by(alloc, &news)?;
+    add_framed(&mut start, e.get(), live, table)?;
     let near = reached(alloc, &start, live, table)?;
-    let wide = reached(alloc, &near, live, table)?;
+    let wide = surrounded(alloc, &near, &news, live, table)?;
     Ok(Around { near, wide })
 }
 
-/// A list of one element, copied.
-pub(crate) fn alone(alloc: Global, e: &Element) -> Result<Vec<Element>, AllocError>
+/// A list of one element.
+pub(crate) fn alone(alloc: Global, e: &SharedElement) -> Result<Vec<SharedElement>, AllocError>
     ensures { IfOk result (λ list. list.items ≡ e.now ∷ []) }
 {
     let mut list = Vec::new(alloc);
@@ -250,8 +270,8 @@ fn has_id(id: &Text, e: &Element) -> bool
 /// Those of the elements that are near, but for that of one id, at the places where they are shown, if they are found.
 fn puts_beside(
     alloc: Global,
-    live: &Vec<Element>,
-    shown: &Vec<Element>,
+    live: &Vec<SharedElement>,
+    shown: &Vec<SharedElement>,
     part: List<Element>,
     near: &Ids,
     id: &Text,
@@ -265,34 +285,56 @@ fn puts_beside(
     puts_near(alloc, live, shown, part, &others)
 }
 
-/// Inserts an element where there is room for it.
-fn insert(elements: &mut Vec<Element>, place: usize, e: Element)
-    requires place { place ≤ length elements.old.items }
-    requires room { vec_len elements.old < vec_capacity elements.old }
-    ensures { elements.new.items ≡ insert elements.old.items place e }
+/// Inserts an element at a place.
+fn insert(
+    elements: &mut Vec<SharedElement>,
+    place: usize,
+    e: SharedElement,
+) -> Result<(), AllocError>
+    requires { place ≤ length elements.old.items }
+    ensures { OnOk result (elements.new.items ≡ insert elements.old.items place e) }
 {
-    if elements.insert(place, e).is_err() {
-        unreachable!()
-    }
+    Ok(elements.insert(place, e)?)
 }
 
 /// Sets the keys of elements from a place on.
 #[tactic(auto, using(crate::proofs::RekeyedLaws::rekeyed_none))]
-fn set_keys(elements: &mut Vec<Element>, rekeying: Rekeying)
+fn set_keys(
+    alloc: Global,
+    elements: &mut Vec<SharedElement>,
+    rekeying: Rekeying,
+) -> Result<(), AllocError>
     requires { rekeying.start + length rekeying.keys ≤ length elements.old.items }
-    ensures { elements.new.items ≡ rekeyed rekeying.start rekeying.keys elements.old.items }
+    ensures { OnOk result
+        (elements.new.items ≡ rekeyed rekeying.start rekeying.keys elements.old.items) }
 {
     let mut at = rekeying.start;
     for key in rekeying.keys.into_vec() {
-        set_key(elements, at, key);
+        set_key(alloc, elements, at, key)?;
         at += 1;
     }
+    Ok(())
 }
 
 /// Sets the key of the element at a place.
-fn set_key(elements: &mut Vec<Element>, at: usize, key: Key)
+fn set_key(
+    alloc: Global,
+    elements: &mut Vec<SharedElement>,
+    at: usize,
+    key: Key,
+) -> Result<(), AllocError>
     requires { at < length elements.old.items }
-    ensures { elements.new.items ≡ rekeyed at (key ∷ []) elements.old.items }
+    ensures { OnOk result (elements.new.items ≡ rekeyed at (key ∷ []) elements.old.items) }
 {
-    elements[at].index = Some(key);
+    let keyed = keyed(alloc, &elements[at], key)?;
+    replace(elements, at, keyed);
+    Ok(())
+}
+
+/// The element with this key: itself where it has it.
+fn keyed(alloc: Global, e: &SharedElement, key: Key) -> Result<SharedElement, AllocError>
+    ensures { IfOk result (λ new. new ≡ with_index e.now key) }
+{
+    let new = with_index(e.get().try_clone()?, Some(key));
+    shared_as(alloc, e, new)
 }

@@ -14,9 +14,10 @@ ghost use Rattle.view.specs.Shown.{is_live, live_elements, placed, shown};
 use crate::kept::Kept;
 use crate::order;
 use crate::replacing::rows_of_all;
+use crate::sharing::{all_shared, all_shared_with};
 use crate::unsettled::unsettled_of;
 use board_base::List;
-use elem::Element;
+use elem::{Element, SharedElement};
 use elem_store::Store;
 use frames_groups::{settle_frames, settle_groups};
 use index_repair::with_repaired_keys;
@@ -28,9 +29,10 @@ use std::cmp::Ordering;
 pub(crate) fn kept_of(alloc: Global, store: &Store) -> Result<Kept, AllocError>
     ensures { IfOk result (λ kept. kept ≡ live_elements store.now.elements) }
 {
-    let live = live_of(alloc, store)?;
-    let shown = shown_of(alloc, List::from_vec(elements_copied(alloc, &live)?))?;
-    let shown = shown.into_vec();
+    let stored = live_of(alloc, store)?;
+    let shown = shown_of(alloc, List::from_vec(elements_copied(alloc, &stored)?))?;
+    let live = all_shared(alloc, stored)?;
+    let shown = all_shared_with(alloc, &live, shown.into_vec())?;
     let table = table_of(alloc, &live)?;
     let unsettled = unsettled_of(alloc, &live, &shown)?;
     Ok(Kept {
@@ -42,7 +44,7 @@ pub(crate) fn kept_of(alloc: Global, store: &Store) -> Result<Kept, AllocError>
 }
 
 /// The table of who names whom.
-pub(crate) fn table_of(alloc: Global, live: &Vec<Element>) -> Result<LinkTable, AllocError>
+pub(crate) fn table_of(alloc: Global, live: &Vec<SharedElement>) -> Result<LinkTable, AllocError>
     requires { HaveDistinctIds live.now.items }
     ensures { IfOk result (λ table. HaveRowsOf live.now.items table.rows) }
 {
@@ -74,8 +76,6 @@ fn live_of(alloc: Global, store: &Store) -> Result<Vec<Element>, AllocError>
     ensures exact { IfOk result (λ live. live.items ≡ live_elements store.now.elements) }
     ensures ordered { IfOk result (λ _. are_rising (ids_of store.now.elements) ≡ true) }
 {
-    // So that it is known that the ids rise.
-    store.tell();
     let mut live = Vec::new(alloc);
     for i in 0..store.len() {
         if let Some(e) = store.at(i) {
@@ -88,13 +88,20 @@ fn live_of(alloc: Global, store: &Store) -> Result<Vec<Element>, AllocError>
 }
 
 /// Whether none of the elements is deleted.
-pub(crate) fn are_live(elements: &Vec<Element>) -> bool
+pub(crate) fn are_live(elements: &Vec<SharedElement>) -> bool
     ensures { result ≡ list_all is_live elements.now.items }
 {
-    elements.iter().all(is_live)
+    elements.iter().all(is_shared_live)
 }
 
 /// Whether an element isn't deleted.
+fn is_shared_live(e: &SharedElement) -> bool
+    ensures { result ≡ is_live e.now }
+{
+    is_live(e.get())
+}
+
+/// The same.
 fn is_live(e: &Element) -> bool
     ensures { result ≡ is_live e.now }
 {
@@ -102,10 +109,7 @@ fn is_live(e: &Element) -> bool
 }
 
 /// Copies of the elements.
-pub(crate) fn elements_copied(
-    alloc: Global,
-    elements: &Vec<Element>,
-) -> Result<Vec<Element>, AllocError>
+fn elements_copied(alloc: Global, elements: &Vec<Element>) -> Result<Vec<Element>, AllocError>
     ensures { IfOk result (λ copies. copies.items ≡ elements.now.items) }
 {
     let mut copies = Vec::with_capacity(alloc, elements.len())?;

@@ -6,8 +6,9 @@ ghost use Rattle.elem_store.specs.Updates.{element_of, ids_of, AreStored, HasTak
 ghost use Rattle.live_view.specs.inner.Following.{ArePicked, AreTaken};
 ghost use Rattle.live_view.specs.Replacing.{element_after};
 
+use crate::sharing::all_shared;
 use board_base::List;
-use elem::Element;
+use elem::{Element, SharedElement};
 use elem_store::Store;
 use json_text::Text;
 use std::alloc::{AllocError, Global};
@@ -17,8 +18,6 @@ pub(crate) fn stored<'a>(store: &'a Store, id: &Text) -> Option<&'a Element>
     ensures element { option_copied result ≡ element_of store.now.elements id.now }
     ensures ordered { are_rising (ids_of store.now.elements) ≡ true }
 {
-    // So that it is known that the ids rise.
-    store.tell();
     store.get(id)
 }
 
@@ -27,13 +26,10 @@ pub(crate) fn picked(
     alloc: Global,
     store: &Store,
     ids: &[Text],
-) -> Result<Option<Vec<Element>>, AllocError>
-    ensures picked { IfOk result
+) -> Result<Option<Vec<SharedElement>>, AllocError>
+    ensures { IfOk result
         (λ found. IfSome found (λ news. ArePicked store.now.elements ids.now news.items)) }
-    ensures ordered { are_rising (ids_of store.now.elements) ≡ true }
 {
-    // So that it is known that the ids rise.
-    store.tell();
     let mut news = Store::new(alloc);
     for id in ids {
         let Some(e) = store.get(id) else {
@@ -41,7 +37,7 @@ pub(crate) fn picked(
         };
         put_in(&mut news, e)?;
     }
-    Ok(Some(stored_elements(alloc, &news)?))
+    Ok(Some(all_shared(alloc, stored_elements(alloc, &news)?)?))
 }
 
 /// What is stored of the ids of the changed elements after these are taken, in the order of the ids.
@@ -49,18 +45,15 @@ pub(crate) fn taken_of(
     alloc: Global,
     store: &Store,
     changed: &[Element],
-) -> Result<Vec<Element>, AllocError>
-    ensures taken { IfOk result (λ news. AreTaken store.now.elements changed.now news.items) }
-    ensures ordered { are_rising (ids_of store.now.elements) ≡ true }
+) -> Result<Vec<SharedElement>, AllocError>
+    ensures { IfOk result (λ news. AreTaken store.now.elements changed.now news.items) }
 {
-    // So that it is known that the ids rise.
-    store.tell();
     let mut news = Store::new(alloc);
     for e in changed {
         begin_with(&mut news, store, &e.id)?;
         put_in(&mut news, e)?;
     }
-    stored_elements(alloc, &news)
+    all_shared(alloc, stored_elements(alloc, &news)?)
 }
 
 /// Puts what is stored of an id into the store, if it has no element of this id.
@@ -70,11 +63,13 @@ fn begin_with(news: &mut Store, store: &Store, id: &Text) -> Result<(), AllocErr
         ≡ element_after store.now.elements news.old.elements other) }
     ensures known { OnOk result
         (element_of news.new.elements id.now ≡ element_after store.now.elements news.old.elements id.now) }
+    ensures ordered { are_rising (ids_of store.now.elements) ≡ true }
 {
+    let stored = store.get(id);
     if is_stored(news, id) {
         return Ok(());
     }
-    match store.get(id) {
+    match stored {
         Some(e) => put_in(news, e),
         None => Ok(()),
     }
@@ -108,8 +103,6 @@ pub(crate) fn store_after(
         (λ after. AreStored (store.now.elements ++ changed.now) after.elements) }
     ensures ordered { are_rising (ids_of store.now.elements) ≡ true }
 {
-    // So that it is known that the ids rise.
-    store.tell();
     let mut updates = stored_elements(alloc, store)?;
     push_copies(&mut updates, changed)?;
     Store::from_updates(alloc, List::from_vec(updates))
@@ -117,7 +110,8 @@ pub(crate) fn store_after(
 
 /// Copies of the stored elements.
 fn stored_elements(alloc: Global, store: &Store) -> Result<Vec<Element>, AllocError>
-    ensures { IfOk result (λ copies. copies.items ≡ store.now.elements) }
+    ensures exact { IfOk result (λ copies. copies.items ≡ store.now.elements) }
+    ensures ordered { are_rising (ids_of store.now.elements) ≡ true }
 {
     let mut copies = Vec::with_capacity(alloc, store.len())?;
     for i in 0..store.len() {

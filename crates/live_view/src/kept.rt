@@ -7,10 +7,12 @@ ghost use Rattle.view.specs.Kept.{AreOthersAsStored, HaveRowsOf};
 ghost use Rattle.view.specs.Settled.{AreSettled};
 ghost use Rattle.index_repair.specs.Keyed.{HaveRisingKeys};
 ghost use Rattle.view.specs.Shown.{live_elements, shown, bare, IsSceneOrder};
+ghost use Rattle.live_view.specs.Replacing.{IsLiveView};
 
-use crate::drawing::{elements_copied, table_of};
+use crate::drawing::table_of;
+use crate::sharing::shared_again;
 use crate::unsettled::unsettled_of;
-use elem::Element;
+use elem::SharedElement;
 use json_text::Text;
 use links::LinkTable;
 use std::alloc::{AllocError, Global};
@@ -21,15 +23,24 @@ use std::marker::Model;
 /// order of their ids.
 pub(crate) struct Kept {
     /// The live elements, as stored, in the order of their ids.
-    pub(crate) live: Vec<Element>,
+    pub(crate) live: Vec<SharedElement>,
 
     /// What is shown of them.
-    pub(crate) shown: Vec<Element>,
+    pub(crate) shown: Vec<SharedElement>,
 
     /// Who of them names whom.
     pub(crate) table: LinkTable,
 
     /// The ids of those that may be shown otherwise than they are stored.
+    pub(crate) unsettled: BTreeSet<Text>,
+}
+
+/// The parts of what is kept, while it changes.
+#[derive(Drop)]
+pub(crate) struct Parts {
+    pub(crate) live: Vec<SharedElement>,
+    pub(crate) shown: Vec<SharedElement>,
+    pub(crate) table: LinkTable,
     pub(crate) unsettled: BTreeSet<Text>,
 }
 
@@ -70,8 +81,27 @@ impl Kept {
         }
     }
 
+    /// Its parts.
+    pub(crate) fn into_parts(self) -> Parts
+        ensures same { result.live.items ≡ self }
+        ensures are { IsLiveView result.live.items result.shown.items result.table.rows result.unsettled }
+    {
+        let Kept {
+            live,
+            shown,
+            table,
+            unsettled,
+        } = self;
+        Parts {
+            live,
+            shown,
+            table,
+            unsettled,
+        }
+    }
+
     /// What is shown.
-    pub(crate) fn elements(&self) -> &[Element]
+    pub(crate) fn elements(&self) -> &[SharedElement]
         ensures exact { result.now ≡ shown self.now }
         ensures keys { HaveRisingKeys result.now }
         ensures order { (ordered : Items ElementValue) × IsSceneOrder self.now ordered
@@ -105,10 +135,28 @@ impl Kept {
     {
         let alloc = *self.live.allocator();
         Ok(Kept {
-            live: elements_copied(alloc, &self.live)?,
-            shown: elements_copied(alloc, &self.shown)?,
+            live: shared_again(alloc, &self.live)?,
+            shown: shared_again(alloc, &self.shown)?,
             table: table_of(alloc, &self.live)?,
             unsettled: unsettled_of(alloc, &self.live, &self.shown)?,
         })
+    }
+}
+
+/// What is kept of these parts.
+pub(crate) fn joined(
+    live: Vec<SharedElement>,
+    shown: Vec<SharedElement>,
+    table: LinkTable,
+    unsettled: BTreeSet<Text>,
+) -> Kept
+    requires { IsLiveView live.items shown.items table.rows unsettled }
+    ensures { result ≡ live.items }
+{
+    Kept {
+        live,
+        shown,
+        table,
+        unsettled,
     }
 }

@@ -15,6 +15,7 @@ mod redrawing;
 mod replacing;
 mod runs;
 mod sequence;
+mod sharing;
 mod unsettled;
 
 pub use live::LiveView;

@@ -12,7 +12,7 @@ ghost use Rattle.live_view.specs.Changes.{HasRedrawn};
 ghost use Rattle.live_view.specs.inner.Following.{HaveFollowed};
 
 use crate::kept::Kept;
-use elem::Element;
+use elem::{Element, SharedElement};
 use json_text::Text;
 use links::LinkTable;
 use std::alloc::{AllocError, Global};
@@ -67,7 +67,7 @@ impl LiveView {
 
     /// What is shown: the live elements in scene order, with repaired keys, and with links, frames and groups that
     /// agree. It takes no memory.
-    pub fn elements(&self) -> &[Element]
+    pub fn elements(&self) -> &[SharedElement]
         ensures exact { result.now ≡ shown self.now }
         ensures keys { HaveRisingKeys result.now }
         ensures order { (ordered : Items ElementValue) × IsSceneOrder self.now ordered
@@ -116,7 +116,7 @@ impl LiveView {
 
     /// Follows what is stored of the ids of these elements, and tells whether it is found near their places: those that
     /// keep their places at once, others one after the other, if they are few. For want of memory nothing changes.
-    pub(crate) fn follow(&mut self, news: &Vec<Element>) -> Result<bool, AllocError>
+    pub(crate) fn follow(&mut self, news: &Vec<SharedElement>) -> Result<bool, AllocError>
         requires { are_rising (ids_of news.now.items) ≡ true }
         ensures new { result ≡ Ok true → HaveFollowed self.old news.now.items self.new }
         ensures old { OnErr result (self.new ≡ self.old) }
@@ -133,7 +133,7 @@ impl LiveView {
 
     /// Lets elements take the places of those of their ids, if none is deleted and each is held with the same index,
     /// and tells whether they do. For want of memory nothing changes.
-    fn replace(&mut self, news: &Vec<Element>) -> Result<bool, AllocError>
+    fn replace(&mut self, news: &Vec<SharedElement>) -> Result<bool, AllocError>
         requires { are_rising (ids_of news.now.items) ≡ true }
         ensures new { result ≡ Ok true → HaveFollowed self.old news.now.items self.new }
         ensures old { OnErr result (self.new ≡ self.old) }
@@ -150,16 +150,16 @@ impl LiveView {
 
     /// Follows elements one after the other in the twin, which then changes places with what is kept. For want of
     /// memory nothing changes.
-    fn follow_each(&mut self, news: &Vec<Element>) -> Result<bool, AllocError>
+    fn follow_each(&mut self, news: &Vec<SharedElement>) -> Result<bool, AllocError>
         requires { are_rising (ids_of news.now.items) ≡ true }
         ensures new { result ≡ Ok true → HaveFollowed self.old news.now.items self.new }
         ensures old { OnErr result (self.new ≡ self.old) }
         ensures other { result ≡ Ok false → self.new ≡ self.old }
     {
-        let mut kept = self.twin_or_copy()?;
-        if !kept.follow_each(news)? {
+        let kept = self.twin_or_copy()?;
+        let Some(mut kept) = kept.follow_each(news)? else {
             return Ok(false);
-        }
+        };
         mem::swap(&mut self.kept, &mut kept);
         self.twin = followed_twin(Some(kept), news);
         Ok(true)
@@ -191,15 +191,11 @@ fn redrawn_twin(twin: Option<Kept>, new: &Element) -> Option<Kept>
 }
 
 /// The twin after it followed these elements, unless it is lost for want of memory.
-fn followed_twin(twin: Option<Kept>, news: &Vec<Element>) -> Option<Kept>
+fn followed_twin(twin: Option<Kept>, news: &Vec<SharedElement>) -> Option<Kept>
     requires { are_rising (ids_of news.now.items) ≡ true }
     ensures followed { IfSome result
         (λ after. IfSome twin (λ before. HaveFollowed before news.now.items after)) }
     ensures there { IsSome result → IsSome twin }
 {
-    let mut twin = twin?;
-    match twin.follow(news) {
-        Ok(true) => Some(twin),
-        _ => None,
-    }
+    twin?.follow(news).ok().flatten()
 }

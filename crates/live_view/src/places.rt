@@ -10,7 +10,7 @@ ghost use Rattle.elem_store.specs.Updates.{ids_of};
 ghost use Rattle.live_view.specs.Putting.{IsWithin, all_put};
 
 use crate::order::scene_order;
-use elem::Element;
+use elem::{Element, SharedElement};
 use json_text::Text;
 use std::cmp::Ordering;
 
@@ -18,11 +18,11 @@ use std::cmp::Ordering;
 #[derive(Drop)]
 pub(crate) struct Put {
     pub(crate) at: usize,
-    pub(crate) e: Element,
+    pub(crate) e: SharedElement,
 }
 
 /// The place of the element of an id among elements in the order of their ids, or that which it would have.
-pub(crate) fn place_of(elements: &Vec<Element>, id: &Text) -> Result<usize, usize>
+pub(crate) fn place_of(elements: &Vec<SharedElement>, id: &Text) -> Result<usize, usize>
     ensures found { IfOk result (IsAt elements.now.items id.now) }
     ensures absent { are_rising (ids_of elements.now.items) ≡ true
         → IfErr result (IsGapFor elements.now.items id.now) }
@@ -31,14 +31,28 @@ pub(crate) fn place_of(elements: &Vec<Element>, id: &Text) -> Result<usize, usiz
 }
 
 /// How the id of an element compares with another one.
-fn id_order(e: &Element, id: &Text) -> Ordering
+fn id_order(e: &SharedElement, id: &Text) -> Ordering
     ensures { result ≡ slice_cmp nat_cmp e.now.id id.now }
 {
-    e.id.as_bytes().cmp(id.as_bytes())
+    e.id().as_bytes().cmp(id.as_bytes())
 }
 
 /// The element of an id among elements in the order of their ids.
-pub(crate) fn element_of<'a>(elements: &'a Vec<Element>, id: &Text) -> Option<&'a Element>
+pub(crate) fn element_of<'a>(elements: &'a Vec<SharedElement>, id: &Text) -> Option<&'a Element>
+    requires { are_rising (ids_of elements.now.items) ≡ true }
+    ensures { option_copied result ≡ updates.element_of elements.now.items id.now }
+{
+    match shared_of(elements, id) {
+        Some(e) => Some(e.get()),
+        None => None,
+    }
+}
+
+/// The same, as it is shared.
+pub(crate) fn shared_of<'a>(
+    elements: &'a Vec<SharedElement>,
+    id: &Text,
+) -> Option<&'a SharedElement>
     requires { are_rising (ids_of elements.now.items) ≡ true }
     ensures { option_copied result ≡ updates.element_of elements.now.items id.now }
 {
@@ -49,7 +63,11 @@ pub(crate) fn element_of<'a>(elements: &'a Vec<Element>, id: &Text) -> Option<&'
 }
 
 /// The place of what is shown of this element among the shown elements, if it is found: they stand in scene order.
-pub(crate) fn place_shown(live: &Vec<Element>, shown: &Vec<Element>, e: &Element) -> Option<usize>
+pub(crate) fn place_shown(
+    live: &Vec<SharedElement>,
+    shown: &Vec<SharedElement>,
+    e: &Element,
+) -> Option<usize>
     ensures { IfSome result (IsAt shown.now.items e.now.id) }
 {
     let i = shown.binary_search_by(|s| order_of(live, s, e)).ok()?;
@@ -57,7 +75,7 @@ pub(crate) fn place_shown(live: &Vec<Element>, shown: &Vec<Element>, e: &Element
 }
 
 /// Whether the element at this place is of this id.
-fn is_at(elements: &Vec<Element>, i: usize, id: &Text) -> bool
+fn is_at(elements: &Vec<SharedElement>, i: usize, id: &Text) -> bool
     ensures { IsTrue result → IsAt elements.now.items id.now i }
 {
     match elements.get(i) {
@@ -67,22 +85,22 @@ fn is_at(elements: &Vec<Element>, i: usize, id: &Text) -> bool
 }
 
 /// Whether an element is of this id.
-fn has_id(e: &Element, id: &Text) -> bool
+fn has_id(e: &SharedElement, id: &Text) -> bool
     ensures { IsTrue result → e.now.id ≡ id.now }
 {
-    e.id == *id
+    *e.id() == *id
 }
 
 /// How the stored element of a shown one compares with another stored one in scene order.
-pub(crate) fn order_of(live: &Vec<Element>, shown: &Element, e: &Element) -> Ordering {
-    match place_of(live, &shown.id) {
-        Ok(i) => scene_order(&live[i], e),
+pub(crate) fn order_of(live: &Vec<SharedElement>, shown: &SharedElement, e: &Element) -> Ordering {
+    match place_of(live, shown.id()) {
+        Ok(i) => scene_order(live[i].get(), e),
         Err(_) => Ordering::Less,
     }
 }
 
 /// Puts elements at their places.
-pub(crate) fn put_all(elements: &mut Vec<Element>, puts: Vec<Put>)
+pub(crate) fn put_all(elements: &mut Vec<SharedElement>, puts: Vec<Put>)
     requires { All (IsWithin elements.old.items) puts.items }
     ensures items { elements.new.items ≡ all_put puts.items elements.old.items }
     ensures len { vec_len elements.new ≡ vec_len elements.old }
@@ -95,7 +113,7 @@ pub(crate) fn put_all(elements: &mut Vec<Element>, puts: Vec<Put>)
 }
 
 /// Puts the element at this place.
-pub(crate) fn replace(elements: &mut Vec<Element>, place: usize, e: Element)
+pub(crate) fn replace(elements: &mut Vec<SharedElement>, place: usize, e: SharedElement)
     requires { place < length elements.old.items }
     ensures items { elements.new.items ≡ slice_set elements.old.items place e }
     ensures len { vec_len elements.new ≡ vec_len elements.old }

@@ -6,8 +6,9 @@ ghost use Rattle.live_view.specs.Changes.{outline, redrawn_as, HasRedrawn, IsRed
 
 use crate::kept::Kept;
 use crate::places::{place_of, place_shown, replace};
+use crate::sharing::shared_as;
 use board_base::List;
-use elem::{Element, same};
+use elem::{Element, SharedElement, same};
 use std::alloc::{AllocError, Global};
 use std::mem;
 
@@ -15,9 +16,9 @@ use std::mem;
 #[derive(Drop)]
 struct Redrawing {
     held_at: usize,
-    held: Element,
+    held: SharedElement,
     shown_at: usize,
-    shown: Element,
+    shown: SharedElement,
 }
 
 impl Kept {
@@ -51,10 +52,11 @@ impl Kept {
         let Some(shown_at) = place_shown(&self.live, &self.shown, new) else {
             return Ok(None);
         };
-        let shown = redrawn(&self.shown[shown_at], new)?;
+        let held = SharedElement::copy(alloc, new)?;
+        let shown = shared_as(alloc, &held, redrawn(&self.shown[shown_at], new)?)?;
         Ok(Some(Redrawing {
             held_at,
-            held: new.try_clone()?,
+            held,
             shown_at,
             shown,
         }))
@@ -77,10 +79,10 @@ impl Kept {
 }
 
 /// Whether two elements have one outline.
-fn have_one_outline(alloc: Global, e: &Element, other: &Element) -> Result<bool, AllocError>
+fn have_one_outline(alloc: Global, e: &SharedElement, other: &Element) -> Result<bool, AllocError>
     ensures { IfOk result (λ one. IsTrue one → outline e.now ≡ outline other.now) }
 {
-    let outline = outline_of(alloc, e)?;
+    let outline = outline_of(alloc, e.get())?;
     let other_outline = outline_of(alloc, other)?;
     Ok(same(&outline, &other_outline))
 }
@@ -99,12 +101,12 @@ fn outline_of(alloc: Global, e: &Element) -> Result<Element, AllocError>
 }
 
 /// A copy of the shown element with the stamp, the file and the further members of the new one of its id.
-fn redrawn(shown: &Element, new: &Element) -> Result<Element, AllocError>
+fn redrawn(shown: &SharedElement, new: &Element) -> Result<Element, AllocError>
     requires id { new.now.id ≡ shown.now.id }
     requires kind { new.now.kind ≡ shown.now.kind }
     ensures { IfOk result (λ e. e ≡ redrawn_as new.now shown.now) }
 {
-    Ok(with_content(shown.try_clone()?, new.try_clone()?))
+    Ok(with_content(shown.get().try_clone()?, new.try_clone()?))
 }
 
 /// The shown element with the stamp, the file and the further members of the new one of its id.

@@ -20,11 +20,12 @@ use crate::drawing::settled_of;
 use crate::ids::Ids;
 use crate::kept::Kept;
 use crate::order;
-use crate::places::{Put, element_of, place_of, place_shown, put_all};
-use crate::reach::{reached, started_by};
+use crate::places::{Put, element_of, place_of, place_shown, put_all, shared_of};
+use crate::reach::{add_members, reached, started_by, surrounded};
+use crate::sharing::shared_as;
 use crate::unsettled::{add_ids, ids_put, note_all, settle_all};
 use board_base::List;
-use elem::Element;
+use elem::{Element, SharedElement};
 use frac_keys::Key;
 use json_text::Text;
 use links::{LinkRow, LinkTable, rows_of};
@@ -33,7 +34,7 @@ use std::alloc::{AllocError, Global};
 impl Kept {
     /// Lets elements take the places of those of their ids, if each is held with the same index, and tells whether they
     /// do. For want of memory nothing changes.
-    pub(crate) fn replace_all(&mut self, news: &Vec<Element>) -> Result<bool, AllocError>
+    pub(crate) fn replace_all(&mut self, news: &Vec<SharedElement>) -> Result<bool, AllocError>
         requires ordered { are_rising (ids_of news.now.items) ≡ true }
         requires live { list_all is_live news.now.items ≡ true }
         ensures new { result ≡ Ok true → HaveReplaced self.old news.now.items self.new }
@@ -64,18 +65,18 @@ impl Kept {
 /// The new elements at the places of those of their ids, if each is there and has the same index.
 fn held_puts(
     alloc: Global,
-    live: &Vec<Element>,
-    news: &Vec<Element>,
+    live: &Vec<SharedElement>,
+    news: &Vec<SharedElement>,
 ) -> Result<Option<Vec<Put>>, AllocError>
     ensures { IfOk result (λ found. IfSome found (λ puts. (puts_of puts.items ≡ news.now.items)
         × All (IsInPlace live.now.items) puts.items)) }
 {
     let mut puts = Vec::with_capacity(alloc, news.len())?;
     for e in news {
-        let Ok(at) = place_of(live, &e.id) else {
+        let Ok(at) = place_of(live, e.id()) else {
             return Ok(None);
         };
-        if !have_one_index(&live[at], e) {
+        if !have_one_index(live[at].get(), e.get()) {
             return Ok(None);
         }
         puts.push(Put {
@@ -93,12 +94,12 @@ fn have_one_index(e: &Element, other: &Element) -> bool
     e.index == other.index
 }
 
-/// The held elements of the new ones' ids, copied.
+/// The held elements of the new ones' ids.
 fn held_of(
     alloc: Global,
-    live: &Vec<Element>,
-    news: &Vec<Element>,
-) -> Result<Vec<Element>, AllocError>
+    live: &Vec<SharedElement>,
+    news: &Vec<SharedElement>,
+) -> Result<Vec<SharedElement>, AllocError>
     requires { are_rising (ids_of live.now.items) ≡ true }
     ensures { IfOk result
         (λ held. held.items ≡ filter_map
@@ -106,7 +107,7 @@ fn held_of(
 {
     let mut held = Vec::new(alloc);
     for new in news {
-        if let Some(e) = element_of(live, &new.id) {
+        if let Some(e) = shared_of(live, new.id()) {
             held.push(e.try_clone()?)?;
         }
     }
@@ -116,25 +117,26 @@ fn held_of(
 /// The rows of what elements name.
 pub(crate) fn rows_of_all(
     alloc: Global,
-    elements: &Vec<Element>,
+    elements: &Vec<SharedElement>,
 ) -> Result<List<LinkRow>, AllocError>
     ensures { IfOk result (AreRowsOfAll elements.now.items) }
 {
     let mut rows = Vec::new(alloc);
     for e in elements {
-        let mut more = rows_of(alloc, e)?.into_vec();
+        let mut more = rows_of(alloc, e.get())?.into_vec();
         rows.append(&mut more)?;
     }
     Ok(List::from_vec(rows))
 }
 
-/// What is near the new elements, at the places where it is shown, if these are found.
+/// What is near the new elements, and near what these frame no more or anew, at the places where it is shown, if these
+/// are found.
 fn shown_puts(
     alloc: Global,
-    live: &Vec<Element>,
-    shown: &Vec<Element>,
+    live: &Vec<SharedElement>,
+    shown: &Vec<SharedElement>,
     table: &LinkTable,
-    news: &Vec<Element>,
+    news: &Vec<SharedElement>,
 ) -> Result<Option<Vec<Put>>, AllocError>
     requires live { are_rising (ids_of live.now.items) ≡ true }
     requires news { are_rising (ids_of news.now.items) ≡ true }
@@ -143,8 +145,10 @@ fn shown_puts(
         (λ found. IfSome found
         (λ puts. AreRepairs live.now.items shown.now.items news.now.items puts.items)) }
 {
-    let near = reached(alloc, &started_by(alloc, news)?, live, table)?;
-    let wide = reached(alloc, &near, live, table)?;
+    let mut start = started_by(alloc, news)?;
+    add_members(&mut start, news, live, table)?;
+    let near = reached(alloc, &start, live, table)?;
+    let wide = surrounded(alloc, &near, news, live, table)?;
     let part = settled_after(alloc, live, news, &wide.list)?;
     puts_near(alloc, live, shown, part, &near)
 }
@@ -152,8 +156,8 @@ fn shown_puts(
 /// The elements of these ids after the new ones took their places, in scene order, settled.
 pub(crate) fn settled_after(
     alloc: Global,
-    live: &Vec<Element>,
-    news: &Vec<Element>,
+    live: &Vec<SharedElement>,
+    news: &Vec<SharedElement>,
     ids: &Vec<Text>,
 ) -> Result<List<Element>, AllocError>
     requires live { are_rising (ids_of live.now.items) ≡ true }
@@ -172,8 +176,8 @@ pub(crate) fn settled_after(
 /// The elements of these ids after the new ones took their places, copied.
 fn elements_after(
     alloc: Global,
-    live: &Vec<Element>,
-    news: &Vec<Element>,
+    live: &Vec<SharedElement>,
+    news: &Vec<SharedElement>,
     ids: &Vec<Text>,
 ) -> Result<Vec<Element>, AllocError>
     requires live { are_rising (ids_of live.now.items) ≡ true }
@@ -193,8 +197,8 @@ fn elements_after(
 
 /// The element of an id after the new ones took their places.
 fn element_after<'a>(
-    live: &'a Vec<Element>,
-    news: &'a Vec<Element>,
+    live: &'a Vec<SharedElement>,
+    news: &'a Vec<SharedElement>,
     id: &Text,
 ) -> Option<&'a Element>
     requires live { are_rising (ids_of live.now.items) ≡ true }
@@ -211,8 +215,8 @@ fn element_after<'a>(
 /// are found.
 pub(crate) fn puts_near(
     alloc: Global,
-    live: &Vec<Element>,
-    shown: &Vec<Element>,
+    live: &Vec<SharedElement>,
+    shown: &Vec<SharedElement>,
     elements: List<Element>,
     near: &Ids,
 ) -> Result<Option<Vec<Put>>, AllocError>
@@ -227,14 +231,21 @@ pub(crate) fn puts_near(
             let Some(at) = place_shown(live, shown, &e) else {
                 return Ok(None);
             };
-            let index = index_of(&shown[at])?;
             puts.push(Put {
                 at,
-                e: with_index(e, index),
+                e: drawn_as(alloc, &shown[at], e)?,
             })?;
         }
     }
     Ok(Some(puts))
+}
+
+/// The element with the key of the one that is shown, and shared with that where it is the same.
+fn drawn_as(alloc: Global, shown: &SharedElement, e: Element) -> Result<SharedElement, AllocError>
+    ensures { IfOk result (λ drawn. drawn ≡ record e { index = shown.now.index }) }
+{
+    let index = index_of(shown.get())?;
+    shared_as(alloc, shown, with_index(e, index))
 }
 
 /// The index of an element, copied.
@@ -245,7 +256,7 @@ fn index_of(e: &Element) -> Result<Option<Key>, AllocError>
 }
 
 /// The element with this index.
-fn with_index(mut e: Element, index: Option<Key>) -> Element
+pub(crate) fn with_index(mut e: Element, index: Option<Key>) -> Element
     ensures { result ≡ record e { index = index } }
 {
     e.index = index;

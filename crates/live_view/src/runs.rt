@@ -10,7 +10,7 @@ ghost use Rattle.live_view.specs.inner.Runs.{first_of, key_rises, part_of, store
 
 use crate::places::element_of;
 use board_base::List;
-use elem::Element;
+use elem::{Element, SharedElement};
 use frac_keys::Key;
 use index_repair::repair_part;
 use std::alloc::{AllocError, Global};
@@ -25,8 +25,8 @@ pub(crate) struct Rekeying {
 /// The keys around a place once an element with this index came to it, if they can be repaired apart.
 pub(crate) fn keys_with(
     alloc: Global,
-    live: &Vec<Element>,
-    shown: &Vec<Element>,
+    live: &Vec<SharedElement>,
+    shown: &Vec<SharedElement>,
     place: usize,
     index: &Option<Key>,
 ) -> Result<Option<Rekeying>, AllocError>
@@ -50,8 +50,8 @@ pub(crate) fn keys_with(
 /// The keys around a place once its element is gone, if they can be repaired apart.
 pub(crate) fn keys_without(
     alloc: Global,
-    live: &Vec<Element>,
-    shown: &Vec<Element>,
+    live: &Vec<SharedElement>,
+    shown: &Vec<SharedElement>,
     place: usize,
 ) -> Result<Option<Rekeying>, AllocError>
     requires ordered { are_rising (ids_of live.now.items) ≡ true }
@@ -76,8 +76,8 @@ pub(crate) fn keys_without(
 /// The repaired keys of a part, if it may be cut off at its end.
 fn repaired(
     alloc: Global,
-    live: &Vec<Element>,
-    shown: &Vec<Element>,
+    live: &Vec<SharedElement>,
+    shown: &Vec<SharedElement>,
     part: Vec<Option<Key>>,
     end: usize,
 ) -> Result<Option<List<Key>>, AllocError>
@@ -98,8 +98,8 @@ fn repaired(
 /// part.
 #[tactic(auto, using(crate::proofs::KeyPlaces::cut_end, crate::proofs::KeyPlaces::cut_key))]
 fn may_be_cut(
-    live: &Vec<Element>,
-    shown: &Vec<Element>,
+    live: &Vec<SharedElement>,
+    shown: &Vec<SharedElement>,
     part: &Vec<Option<Key>>,
     end: usize,
 ) -> bool
@@ -147,7 +147,7 @@ fn is_below(above: Option<&Key>, key: &Option<Key>) -> bool
 }
 
 /// The place before another one at which the keys rise, or the first one.
-fn run_start(live: &Vec<Element>, shown: &Vec<Element>, place: usize) -> usize
+fn run_start(live: &Vec<SharedElement>, shown: &Vec<SharedElement>, place: usize) -> usize
     requires ordered { are_rising (ids_of live.now.items) ≡ true }
     requires within { place ≤ length shown.now.items }
     ensures { IsRunStart (stored_keys live.now.items shown.now.items) place result }
@@ -162,7 +162,12 @@ fn run_start(live: &Vec<Element>, shown: &Vec<Element>, place: usize) -> usize
 }
 
 /// Where the run ends to which an element with this index comes at a place.
-fn end_with(live: &Vec<Element>, shown: &Vec<Element>, place: usize, index: &Option<Key>) -> usize
+fn end_with(
+    live: &Vec<SharedElement>,
+    shown: &Vec<SharedElement>,
+    place: usize,
+    index: &Option<Key>,
+) -> usize
     requires ordered { are_rising (ids_of live.now.items) ≡ true }
     requires within { place ≤ length shown.now.items }
     ensures { (place ≤ result) × (result ≤ length shown.now.items) }
@@ -174,7 +179,7 @@ fn end_with(live: &Vec<Element>, shown: &Vec<Element>, place: usize, index: &Opt
 }
 
 /// The first place from this one on at which the keys rise, or the end.
-fn run_end(live: &Vec<Element>, shown: &Vec<Element>, from: usize) -> usize
+fn run_end(live: &Vec<SharedElement>, shown: &Vec<SharedElement>, from: usize) -> usize
     requires ordered { are_rising (ids_of live.now.items) ≡ true }
     requires within { (0 < from) × (from ≤ length shown.now.items) }
     ensures { (from ≤ result) × (result ≤ length shown.now.items) }
@@ -189,7 +194,7 @@ fn run_end(live: &Vec<Element>, shown: &Vec<Element>, from: usize) -> usize
 
 /// Whether the keys rise at a place.
 #[tactic(auto, using(crate::proofs::KeyPlaces::rises_is))]
-fn rises_at(live: &Vec<Element>, shown: &Vec<Element>, at: usize) -> bool
+fn rises_at(live: &Vec<SharedElement>, shown: &Vec<SharedElement>, at: usize) -> bool
     requires ordered { are_rising (ids_of live.now.items) ≡ true }
     requires within { (0 < at) × (at < length shown.now.items) }
     ensures { result ≡ runs.rises_at (stored_keys live.now.items shown.now.items) at }
@@ -217,8 +222,8 @@ fn rises(key: &Option<Key>, next: &Option<Key>) -> bool
 #[tactic(auto, using(crate::proofs::KeyPlaces::part_none, crate::proofs::KeyPlaces::part_more))]
 fn keys_between(
     alloc: Global,
-    live: &Vec<Element>,
-    shown: &Vec<Element>,
+    live: &Vec<SharedElement>,
+    shown: &Vec<SharedElement>,
     start: usize,
     end: usize,
 ) -> Result<Vec<Option<Key>>, AllocError>
@@ -236,7 +241,11 @@ fn keys_between(
 
 /// The stored key of a place, if there is one.
 #[tactic(auto, using(crate::proofs::KeyPlaces::first_drop, crate::proofs::KeyPlaces::past_keys))]
-fn key_at<'a>(live: &'a Vec<Element>, shown: &'a Vec<Element>, at: usize) -> Option<&'a Key>
+fn key_at<'a>(
+    live: &'a Vec<SharedElement>,
+    shown: &'a Vec<SharedElement>,
+    at: usize,
+) -> Option<&'a Key>
     requires ordered { are_rising (ids_of live.now.items) ≡ true }
     requires within { at ≤ length shown.now.items }
     ensures { option_copied result ≡ first_of
@@ -253,16 +262,20 @@ fn key_at<'a>(live: &'a Vec<Element>, shown: &'a Vec<Element>, at: usize) -> Opt
 
 /// The stored index of a place.
 #[tactic(auto, using(crate::proofs::KeyPlaces::stored_index_is))]
-fn stored_index<'a>(live: &'a Vec<Element>, shown: &'a Vec<Element>, at: usize) -> &'a Option<Key>
+fn stored_index<'a>(
+    live: &'a Vec<SharedElement>,
+    shown: &'a Vec<SharedElement>,
+    at: usize,
+) -> &'a Option<Key>
     requires ordered { are_rising (ids_of live.now.items) ≡ true }
     requires within { at < length shown.now.items }
     ensures { slice_get (stored_keys live.now.items shown.now.items) at ≡ Some result.now }
 {
-    &stored_of(live, &shown[at]).index
+    &stored_of(live, shown[at].get()).index
 }
 
 /// The stored element of a shown one.
-pub(crate) fn stored_of<'a>(live: &'a Vec<Element>, shown: &'a Element) -> &'a Element
+pub(crate) fn stored_of<'a>(live: &'a Vec<SharedElement>, shown: &'a Element) -> &'a Element
     requires { are_rising (ids_of live.now.items) ≡ true }
     ensures { result.now ≡ as_stored live.now.items shown.now }
 {

@@ -1,6 +1,6 @@
 //! Elements that are followed one after the other.
 
-ghost use Rattle.std.specs.Prelude.{◌≡◌, [], ◌∷◌, Ok, true, false, OnErr};
+ghost use Rattle.std.specs.Prelude.{◌≡◌, [], ◌∷◌, Ok, true, false, OnErr, IfOk, IfSome};
 ghost use Rattle.frac_keys.specs.Rising.{are_rising};
 ghost use Rattle.elem_store.specs.Updates.{ids_of};
 ghost use Rattle.live_view.specs.inner.Following.{HaveFollowed};
@@ -8,7 +8,7 @@ ghost use Rattle.live_view.specs.inner.Following.{HaveFollowed};
 use crate::coming::alone;
 use crate::drawing::are_live;
 use crate::kept::Kept;
-use elem::Element;
+use elem::SharedElement;
 use std::alloc::{AllocError, Global};
 
 impl Kept {
@@ -17,26 +17,21 @@ impl Kept {
         *self.live.allocator()
     }
 
-    /// How many live elements there are.
-    pub(crate) fn len(&self) -> usize {
-        self.live.len()
-    }
-
-    /// Follows what is stored of the ids of these elements: all of them in their places at once, or one after the
-    /// other. It tells whether all are found near their places; otherwise, and for want of memory, some may be
-    /// followed.
-    pub(crate) fn follow(&mut self, news: &Vec<Element>) -> Result<bool, AllocError>
+    /// After it followed what is stored of the ids of these elements, all of them in their places at once, or one after
+    /// the other, if all are found near their places. Otherwise, and for want of memory, what is kept is given up.
+    pub(crate) fn follow(self, news: &Vec<SharedElement>) -> Result<Option<Kept>, AllocError>
         requires { are_rising (ids_of news.now.items) ≡ true }
-        ensures { result ≡ Ok true → HaveFollowed self.old news.now.items self.new }
+        ensures { IfOk result (λ found. IfSome found (HaveFollowed self news.now.items)) }
     {
-        if self.replace_live(news)? {
-            return Ok(true);
+        let mut kept = self;
+        if kept.replace_live(news)? {
+            return Ok(Some(kept));
         }
-        self.follow_each(news)
+        kept.follow_each(news)
     }
 
     /// Replaces elements, if none is deleted and each is held with the same index. For want of memory nothing changes.
-    pub(crate) fn replace_live(&mut self, news: &Vec<Element>) -> Result<bool, AllocError>
+    pub(crate) fn replace_live(&mut self, news: &Vec<SharedElement>) -> Result<bool, AllocError>
         requires { are_rising (ids_of news.now.items) ≡ true }
         ensures new { result ≡ Ok true → HaveFollowed self.old news.now.items self.new }
         ensures old { OnErr result (self.new ≡ self.old) }
@@ -49,37 +44,37 @@ impl Kept {
         }
     }
 
-    /// Follows elements one after the other. It tells whether all are found near their places; otherwise, and for want
-    /// of memory, some may be followed.
-    pub(crate) fn follow_each(&mut self, news: &Vec<Element>) -> Result<bool, AllocError>
+    /// After it followed elements one after the other, if all are found near their places. Otherwise, and for want of
+    /// memory, what is kept is given up.
+    pub(crate) fn follow_each(self, news: &Vec<SharedElement>) -> Result<Option<Kept>, AllocError>
         requires { are_rising (ids_of news.now.items) ≡ true }
-        ensures { result ≡ Ok true → HaveFollowed self.old news.now.items self.new }
+        ensures { IfOk result (λ found. IfSome found (HaveFollowed self news.now.items)) }
     {
-        // So that it is known that the ids rise.
-        let _ = &self.live;
+        let mut kept = self;
         for new in news {
-            if !self.follow_one(new)? {
-                return Ok(false);
-            }
+            let Some(after) = kept.follow_one(new)? else {
+                return Ok(None);
+            };
+            kept = after;
         }
-        Ok(true)
+        Ok(Some(kept))
     }
 
-    /// Follows an element: it is replaced in its place, or the one of its id goes, and it comes if it is live.
-    fn follow_one(&mut self, new: &Element) -> Result<bool, AllocError>
-        ensures { result ≡ Ok true → HaveFollowed self.old (new.now ∷ []) self.new }
+    /// After it followed an element: it is replaced in its place, or the one of its id goes, and it comes if it is live.
+    fn follow_one(self, new: &SharedElement) -> Result<Option<Kept>, AllocError>
+        ensures { IfOk result (λ found. IfSome found (HaveFollowed self (new.now ∷ []))) }
     {
-        let alloc = self.allocator();
-        let news = alone(alloc, new)?;
-        if self.replace_live(&news)? {
-            return Ok(true);
+        let mut kept = self;
+        let news = alone(kept.allocator(), new)?;
+        if kept.replace_live(&news)? {
+            return Ok(Some(kept));
         }
-        if !self.go(&new.id)? {
-            return Ok(false);
+        let Some(kept) = kept.go(new.id())? else {
+            return Ok(None);
+        };
+        if new.get().deleted {
+            return Ok(Some(kept));
         }
-        if new.deleted {
-            return Ok(true);
-        }
-        self.come(new)
+        kept.come(new)
     }
 }

@@ -14,7 +14,7 @@ ghost use Rattle.live_view.specs.inner.Unsettled.{put_ids, touched_ids, HasNoted
 
 use crate::places::{Put, element_of, place_shown};
 use crate::runs::Rekeying;
-use elem::{Element, same};
+use elem::{Element, SharedElement, same};
 use json_text::Text;
 use std::alloc::{AllocError, Global};
 use std::collections::BTreeSet;
@@ -22,8 +22,8 @@ use std::collections::BTreeSet;
 /// The ids of those elements that are shown otherwise than they are stored.
 pub(crate) fn unsettled_of(
     alloc: Global,
-    live: &Vec<Element>,
-    shown: &Vec<Element>,
+    live: &Vec<SharedElement>,
+    shown: &Vec<SharedElement>,
 ) -> Result<BTreeSet<Text>, AllocError>
     requires { IsView live.now.items shown.now.items }
     ensures { IfOk result
@@ -31,13 +31,17 @@ pub(crate) fn unsettled_of(
 {
     let mut unsettled = BTreeSet::new(alloc);
     for e in shown {
-        walk(&mut unsettled, live, e)?;
+        walk(&mut unsettled, live, e.get())?;
     }
     Ok(unsettled)
 }
 
 /// Notes the id of a shown element, if it is shown otherwise than it is stored.
-fn walk(unsettled: &mut BTreeSet<Text>, live: &Vec<Element>, e: &Element) -> Result<(), AllocError>
+fn walk(
+    unsettled: &mut BTreeSet<Text>,
+    live: &Vec<SharedElement>,
+    e: &Element,
+) -> Result<(), AllocError>
     requires { are_rising (ids_of live.now.items) ≡ true }
     ensures kept { StillHas unsettled.old unsettled.new }
     ensures walked { OnOk result (contains (slice_cmp nat_cmp) unsettled.new e.now.id ≡ false
@@ -50,7 +54,7 @@ fn walk(unsettled: &mut BTreeSet<Text>, live: &Vec<Element>, e: &Element) -> Res
 }
 
 /// Whether a shown element is stored as it is shown.
-fn is_stored(live: &Vec<Element>, e: &Element) -> bool
+fn is_stored(live: &Vec<SharedElement>, e: &Element) -> bool
     requires { are_rising (ids_of live.now.items) ≡ true }
     ensures { IsTrue result → updates.element_of live.now.items e.now.id ≡ Some e.now }
 {
@@ -83,8 +87,8 @@ fn note(unsettled: &mut BTreeSet<Text>, id: &Text) -> Result<(), AllocError>
 /// Takes out those of the ids whose elements are shown as they are stored. It takes no memory.
 pub(crate) fn settle_all(
     unsettled: &mut BTreeSet<Text>,
-    live: &Vec<Element>,
-    shown: &Vec<Element>,
+    live: &Vec<SharedElement>,
+    shown: &Vec<SharedElement>,
     ids: &Vec<Text>,
 )
     requires { IsView live.now.items shown.now.items }
@@ -97,7 +101,12 @@ pub(crate) fn settle_all(
 }
 
 /// Takes out an id, if its element is shown as it is stored.
-fn settle(unsettled: &mut BTreeSet<Text>, live: &Vec<Element>, shown: &Vec<Element>, id: &Text)
+fn settle(
+    unsettled: &mut BTreeSet<Text>,
+    live: &Vec<SharedElement>,
+    shown: &Vec<SharedElement>,
+    id: &Text,
+)
     requires { IsView live.now.items shown.now.items }
     ensures { AreOthersAsStored unsettled.old live.now.items shown.now.items
         → AreOthersAsStored unsettled.new live.now.items shown.now.items }
@@ -108,7 +117,7 @@ fn settle(unsettled: &mut BTreeSet<Text>, live: &Vec<Element>, shown: &Vec<Eleme
 }
 
 /// Whether the element of an id is shown as it is stored, or there is none.
-fn is_as_stored(live: &Vec<Element>, shown: &Vec<Element>, id: &Text) -> bool
+fn is_as_stored(live: &Vec<SharedElement>, shown: &Vec<SharedElement>, id: &Text) -> bool
     requires { IsView live.now.items shown.now.items }
     ensures { IsTrue result → updates.element_of shown.now.items id.now
         ≡ updates.element_of live.now.items id.now }
@@ -120,12 +129,12 @@ fn is_as_stored(live: &Vec<Element>, shown: &Vec<Element>, id: &Text) -> bool
 }
 
 /// Whether a stored element is shown as it is stored.
-fn is_shown(live: &Vec<Element>, shown: &Vec<Element>, e: &Element) -> bool
+fn is_shown(live: &Vec<SharedElement>, shown: &Vec<SharedElement>, e: &Element) -> bool
     requires { IsView live.now.items shown.now.items }
     ensures { IsTrue result → updates.element_of shown.now.items e.now.id ≡ Some e.now }
 {
     match place_shown(live, shown, e) {
-        Some(at) => same(&shown[at], e),
+        Some(at) => same(shown[at].get(), e),
         None => false,
     }
 }
@@ -133,7 +142,7 @@ fn is_shown(live: &Vec<Element>, shown: &Vec<Element>, e: &Element) -> bool
 /// The ids of what is shown anew where the element of an id comes or goes, copied.
 pub(crate) fn touched(
     alloc: Global,
-    shown: &Vec<Element>,
+    shown: &Vec<SharedElement>,
     puts: &Vec<Put>,
     id: &Text,
     rekeying: &Rekeying,
@@ -156,23 +165,23 @@ pub(crate) fn ids_put(alloc: Global, puts: &Vec<Put>) -> Result<Vec<Text>, Alloc
 {
     let mut ids = Vec::with_capacity(alloc, puts.len())?;
     for put in puts {
-        ids.push(put.e.id.try_clone()?)?;
+        ids.push(put.e.id().try_clone()?)?;
     }
     Ok(ids)
 }
 
 /// Adds the ids of elements.
-pub(crate) fn add_ids(ids: &mut Vec<Text>, elements: &[Element]) -> Result<(), AllocError>
+pub(crate) fn add_ids(ids: &mut Vec<Text>, elements: &[SharedElement]) -> Result<(), AllocError>
     ensures { OnOk result (ids.new.items ≡ ids.old.items ++ ids_of elements.now) }
 {
     for e in elements {
-        ids.push(e.id.try_clone()?)?;
+        ids.push(e.id().try_clone()?)?;
     }
     Ok(())
 }
 
 /// So many elements from a place on, or those that are there.
-fn run_from(elements: &[Element], start: usize, count: usize) -> &[Element]
+fn run_from(elements: &[SharedElement], start: usize, count: usize) -> &[SharedElement]
     requires { start ≤ length elements.now }
     ensures { result.now ≡ take count (drop start elements.now) }
 {

@@ -16,12 +16,11 @@ ghost use Rattle.undoing.specs.Differing.{pending};
 ghost use Rattle.replica.specs.Boards.{told, BecomeStored, GivesElements, GivesTaken, HasCaptured, HasCarriedAll, HasPutStep, HasStopped, HasStoredGiven, HasTakenAll, IsBoard, IsPlanOf, IsPlannedStep, IsUntouched, stored_by};
 
 use crate::planned::PlannedStep;
-use crate::telling::tell_all;
 use board_base::{List, Stop};
 use board_commands::{Capture, Command};
 use delta::{Entry, VersionFull};
 use effects::{Lookup, Refusal, changed};
-use elem::Element;
+use elem::{Element, copies_of};
 use elem_store::Store;
 use history::{Direction, History, HistoryStep, Step};
 use live_view::LiveView;
@@ -288,29 +287,17 @@ fn take(
 ) -> Result<(), AllocError>
     requires rise { are_rising (ids_of store.old.elements) ≡ true }
     requires view { view.old ≡ live_elements store.old.elements }
-    ensures elements { AreElements list.now }
+    ensures elements { OnOk result (AreElements list.now) }
     ensures stored { OnOk result (store.new.elements ≡ taken_all list.now store.old.elements) }
     ensures view { OnOk result (view.new ≡ live_elements (taken_all list.now store.old.elements)) }
     ensures err_stored { OnErr result (store.new.elements ≡ store.old.elements) }
     ensures err_view { OnErr result (view.new ≡ view.old) }
 {
-    tell_all(list);
     let copies = copies_of(alloc, list)?;
     store.reserve(list.len())?;
     view.take(store, list)?;
     store.take_all(copies);
     Ok(())
-}
-
-/// Copies of the elements.
-fn copies_of(alloc: Global, list: &[Element]) -> Result<List<Element>, AllocError>
-    ensures { IfOk result (λ copies. copies ≡ list.now) }
-{
-    let mut copies = Vec::new(alloc);
-    for e in list {
-        copies.push(e.try_clone()?)?;
-    }
-    Ok(List::from_vec(copies))
 }
 
 /// Notes an entry for which there is room. It takes no memory.

@@ -6,7 +6,6 @@ mod board;
 pub mod laws;
 mod planned;
 mod replica;
-mod telling;
 
 pub use board_commands::{Capture, Command, Side, Spot};
 pub use effects::Refusal;

@@ -1,10 +1,7 @@
 -- What is planned for an event, from the parts of a plan; and the step that a plan makes.
 use Rattle.std.proofs.Common.{◌≡◌, ℕ, true, false, List, [], ◌∷◌, None, Result, Ok, Err, IfOk, refl, ap, subst, ◌∙◌, append-nil}
 use Rattle.std.specs.declared.alloc.AllocError.{AllocError}
-use Rattle.frac_keys.specs.Rising.{are_rising}
 use Rattle.elem.specs.ElementValue.{ElementValue}
-use Rattle.elem_store.specs.Updates.{ids_of}
-use Rattle.elem_store.proofs.CallerLemmas.{AreStored-itself}
 use Rattle.board_ends.specs.declared.links.LinkEvent.{LinkEvent}
 use Rattle.board_ends.specs.declared.links.LinkEvent.TheVariants.{Opened, Text, Closed, Idle}
 use Rattle.room_msg.specs.Messages.{IsReadAs}
@@ -25,10 +22,6 @@ quiet change = record { change = change; told = record { links = []; text = [] }
 -- no updates change nothing
 pub none_taken : (old new : List ElementValue) → new ≡ old → HaveTaken old [] new
 none_taken old new same updates are = rw (append-nil updates, same) are
-
--- what is taken leaves the ids that are stored rising
-pub taken-rises : (old taken new : List ElementValue) → are_rising (ids_of old) ≡ true → HaveTaken old taken new → are_rising (ids_of new) ≡ true
-taken-rises old taken new rises have = (have old (AreStored-itself old rises)).ordered
 
 -- what a message changes is that its updates are taken, and no link joins or leaves
 taken-updates : (message : Message) → taken_by (change_by message) ≡ message_updates message

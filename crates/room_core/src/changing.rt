@@ -1,9 +1,7 @@
 //! Making room for a change of a room, and putting it in place.
 
-ghost use Rattle.std.specs.Prelude.{◌≡◌, ◌-◌, ◌<◌, ◌≤◌, true, OnOk, vec_capacity, vec_len};
+ghost use Rattle.std.specs.Prelude.{◌≡◌, ◌-◌, ◌<◌, ◌≤◌, OnOk, vec_capacity, vec_len};
 ghost use Rattle.std.specs.List.Sorted.{IsStrictlyIncreasing};
-ghost use Rattle.frac_keys.specs.Rising.{are_rising};
-ghost use Rattle.elem_store.specs.Updates.{ids_of};
 ghost use Rattle.room_core.specs.Rooms.{HaveTaken};
 ghost use Rattle.room_core.specs.Planned.{Suffices, joined_by, taken_by};
 
@@ -34,11 +32,9 @@ pub(crate) fn reserve_for(
 pub(crate) fn put_change(store: &mut Store, joined: &mut Vec<u64>, change: Change)
     requires fits { Suffices change store.old.spare (vec_capacity joined.old - vec_len joined.old) }
     requires rising { IsStrictlyIncreasing joined.old.items }
-    requires ordered { are_rising (ids_of store.old.elements) ≡ true }
     ensures elements { HaveTaken store.old.elements (taken_by change) store.new.elements }
     ensures joined { joined.new.items ≡ joined_by joined.old.items change }
     ensures rising { IsStrictlyIncreasing joined.new.items }
-    ensures ordered { are_rising (ids_of store.new.elements) ≡ true }
 {
     match change {
         Change::Join(link) => insert_link(joined, link),

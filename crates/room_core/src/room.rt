@@ -1,9 +1,7 @@
 //! A room.
 
-ghost use Rattle.std.specs.Prelude.{◌≡◌, [], true, IfOk};
+ghost use Rattle.std.specs.Prelude.{◌≡◌, [], IfOk};
 ghost use Rattle.std.specs.List.Sorted.{IsStrictlyIncreasing};
-ghost use Rattle.frac_keys.specs.Rising.{are_rising};
-ghost use Rattle.elem_store.specs.Updates.{ids_of};
 ghost use Rattle.board_ends.specs.declared.links.LinkEvent.{LinkEvent};
 ghost use Rattle.room_core.specs.Rooms.{IsRoomStep, without};
 ghost use Rattle.room_core.specs.Planned.{IsPlanned, IsChanged, FitsIn, texts_told};
@@ -25,10 +23,8 @@ pub struct Room {
 }
 
 impl Model for Room {
-    ghost use Rattle.std.specs.Prelude.{◌≡◌, ◌-◌, true, vec_capacity, vec_len};
+    ghost use Rattle.std.specs.Prelude.{◌-◌, vec_capacity, vec_len};
     ghost use Rattle.std.specs.List.Sorted.{IsStrictlyIncreasing};
-    ghost use Rattle.frac_keys.specs.Rising.{are_rising};
-    ghost use Rattle.elem_store.specs.Updates.{ids_of};
     ghost use Rattle.room_core.specs.Rooms.{RoomStock};
 
     ghost Value = { RoomStock };
@@ -39,8 +35,7 @@ impl Model for Room {
       spare_links = vec_capacity r.joined - vec_len r.joined;
     } };
 
-    ghost invariant = { λ r. IsStrictlyIncreasing r.joined.items
-        × (are_rising (ids_of r.store.elements) ≡ true) };
+    ghost invariant = { λ r. IsStrictlyIncreasing r.joined.items };
 }
 
 impl Room {
@@ -48,7 +43,6 @@ impl Room {
     pub fn new(alloc: Global, store: Store) -> Room
         ensures { result.state ≡ record { elements = store.elements; joined = [] } }
     {
-        store.tell();
         Room {
             store,
             joined: Vec::new(alloc),
@@ -96,7 +90,6 @@ impl Room {
     /// The stored elements. It takes no memory.
     pub fn store(&self) -> &Store
         ensures elements { result.now.elements ≡ self.now.state.elements }
-        ensures rising { are_rising (ids_of self.now.state.elements) ≡ true }
     {
         &self.store
     }

@@ -1,9 +1,10 @@
 //! What a room resumes with.
 
-ghost use Rattle.std.specs.Prelude.{◌≡◌, ◌∷◌, List as Items, Some, None, option_copied, IfOk, IsTrue};
+ghost use Rattle.std.specs.Prelude.{◌≡◌, ◌∷◌, List as Items, Some, None, true, option_copied, IfOk, IsTrue};
 ghost use Rattle.std.specs.List.{range_with_len};
-ghost use Rattle.frac_keys.specs.Rising.{ends_rise};
+ghost use Rattle.frac_keys.specs.Rising.{are_rising, ends_rise};
 ghost use Rattle.elem.specs.ElementValue.{ElementValue};
+ghost use Rattle.elem_store.specs.Updates.{ids_of};
 ghost use Rattle.room_disk.specs.Resuming.{greater_key, greatest_key, filled_above, resumed};
 
 use board_base::List;
@@ -17,7 +18,6 @@ use std::alloc::{AllocError, Global};
 pub fn resume(alloc: Global, store: Store) -> Result<Store, AllocError>
     ensures { IfOk result (λ new. new.elements ≡ resumed store.elements) }
 {
-    store.tell();
     let elements = in_order(alloc, store)?;
     let greatest = greatest_key(&elements)?;
     let filled = filled_above(alloc, elements, greatest)?;
@@ -26,7 +26,8 @@ pub fn resume(alloc: Global, store: Store) -> Result<Store, AllocError>
 
 /// The stored elements, moved out, in the order of the ids.
 fn in_order(alloc: Global, store: Store) -> Result<Vec<Element>, AllocError>
-    ensures { IfOk result (λ elements. elements.items ≡ store.elements) }
+    ensures exact { IfOk result (λ elements. elements.items ≡ store.elements) }
+    ensures ordered { are_rising (ids_of store.elements) ≡ true }
 {
     let indices = all_indices(alloc, store.len())?;
     store.into_elements_at(alloc, &indices)

@@ -1,14 +1,16 @@
 //! The text of a scene, and that of all that is stored.
 
-ghost use Rattle.std.specs.Prelude.{◌≡◌, ℕ, List as Items, [], ◌++◌, bytes_eq, map, All, IfOk, OnOk};
+ghost use Rattle.std.specs.Prelude.{◌≡◌, ℕ, List as Items, [], ◌++◌, true, bytes_eq, map, All, IfOk, OnOk};
 ghost use Rattle.std.specs.List.{IsDistinct, join_with_byte};
 ghost use Rattle.json_text.specs.Compact.{object_text};
 ghost use Rattle.json_text.specs.Members.{pairs};
 ghost use Rattle.json_text.specs.Parts.{names_of};
 ghost use Rattle.json_text.specs.Value.{IsCompact};
+ghost use Rattle.frac_keys.specs.Rising.{are_rising};
 ghost use Rattle.scene_json.specs.Layout.{IsLaidOut};
 ghost use Rattle.scene_json.specs.Lines.{IsLaidOutSoFar};
 ghost use Rattle.elem.specs.Texts.{element_text, text_or_null};
+ghost use Rattle.elem_store.specs.Updates.{ids_of};
 ghost use Rattle.file_table.specs.Table.{EntriesNest};
 ghost use Rattle.scene_file.specs.inner.Printing.{text_before_elements, text_behind_elements};
 ghost use Rattle.scene_file.specs.Scenes as scenes;
@@ -22,6 +24,9 @@ use elem_store::Store;
 use json_text::{Member, Text, push_quote};
 use scene_json::{Lines, push_comma, push_member};
 use std::alloc::{AllocError, Global};
+
+/// No element's text has fewer bytes.
+const LEAST_TEXT: usize = 128;
 
 /// The text of the scene of these elements, under this head, in this layout; no line feed ends it. Fails only for want
 /// of memory.
@@ -50,9 +55,10 @@ pub fn elements_text(
 /// Fails only for want of memory.
 pub fn state_text(alloc: Global, head: &Head, store: &Store) -> Result<Bytes, AllocError>
     ensures exact { IfOk result (λ text. text ≡ scenes.state_text head.now store.now.elements) }
+    ensures ordered { are_rising (ids_of store.now.elements) ≡ true }
 {
+    let mut state = Vec::with_capacity(alloc, store.len().saturating_mul(LEAST_TEXT))?;
     let files = head.files.by_id()?;
-    let mut state = Vec::new(alloc);
     push_front(&mut state, &head.source)?;
     push_stored(&mut state, store)?;
     push_back(&mut state, &head.app_state, &files)?;

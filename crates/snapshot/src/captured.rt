@@ -9,14 +9,13 @@ ghost use Rattle.elem_store.specs.Updates.{element_of, ids_of};
 ghost use Rattle.undoing.specs.Carrying.{with_put, with_all_put};
 ghost use Rattle.snapshot.specs.Carried.{with_made};
 
-use crate::boxed::Boxed;
-use elem::Element;
+use elem::{Element, SharedElement};
 use json_text::Text;
 use std::alloc::{AllocError, Global};
 use std::cmp::Ordering;
 
 /// The index at which the element of this id is, or at which it would be.
-fn place_of(elements: &Vec<Boxed>, id: &Text) -> Result<usize, usize>
+fn place_of(elements: &Vec<SharedElement>, id: &Text) -> Result<usize, usize>
     requires { are_rising (ids_of elements.now.items) ≡ true }
     ensures found { IfOk result (IsAt elements.now.items id.now) }
     ensures absent { IfErr result (IsGapFor elements.now.items id.now) }
@@ -25,14 +24,14 @@ fn place_of(elements: &Vec<Boxed>, id: &Text) -> Result<usize, usize>
 }
 
 /// How the id of an element compares with another id.
-fn id_order(e: &Boxed, id: &Text) -> Ordering
+fn id_order(e: &SharedElement, id: &Text) -> Ordering
     ensures { result ≡ slice_cmp nat_cmp e.now.id id.now }
 {
     e.id().as_bytes().cmp(id.as_bytes())
 }
 
 /// The element of this id.
-pub(crate) fn find<'a>(elements: &'a Vec<Boxed>, id: &Text) -> Option<&'a Element>
+pub(crate) fn find<'a>(elements: &'a Vec<SharedElement>, id: &Text) -> Option<&'a Element>
     requires { are_rising (ids_of elements.now.items) ≡ true }
     ensures { option_copied result ≡ element_of elements.now.items id.now }
 {
@@ -43,7 +42,7 @@ pub(crate) fn find<'a>(elements: &'a Vec<Boxed>, id: &Text) -> Option<&'a Elemen
 }
 
 /// Puts the element in the place of the one of its id, or adds it. It takes no memory where there is room.
-pub(crate) fn put(elements: &mut Vec<Boxed>, e: Boxed) -> Result<(), AllocError>
+pub(crate) fn put(elements: &mut Vec<SharedElement>, e: SharedElement) -> Result<(), AllocError>
     requires { are_rising (ids_of elements.old.items) ≡ true }
     ensures ok { OnOk result (elements.new.items ≡ with_put e elements.old.items) }
     ensures err { OnErr result (elements.new.items ≡ elements.old.items) }
@@ -61,7 +60,7 @@ pub(crate) fn put(elements: &mut Vec<Boxed>, e: Boxed) -> Result<(), AllocError>
 /// Puts an element, if there is one.
 pub(crate) fn put_made(
     alloc: Global,
-    elements: &mut Vec<Boxed>,
+    elements: &mut Vec<SharedElement>,
     made: Option<Element>,
 ) -> Result<(), AllocError>
     requires { are_rising (ids_of elements.old.items) ≡ true }
@@ -69,7 +68,7 @@ pub(crate) fn put_made(
     ensures err { OnErr result (elements.new.items ≡ elements.old.items) }
 {
     match made {
-        Some(e) => put(elements, Boxed::new(alloc, e)?),
+        Some(e) => put(elements, SharedElement::new(alloc, e)?),
         None => Ok(()),
     }
 }
@@ -77,20 +76,20 @@ pub(crate) fn put_made(
 /// Puts copies of other elements, one after another.
 pub(crate) fn put_copies(
     alloc: Global,
-    elements: &mut Vec<Boxed>,
+    elements: &mut Vec<SharedElement>,
     news: &[Element],
 ) -> Result<(), AllocError>
     requires { are_rising (ids_of elements.old.items) ≡ true }
     ensures { OnOk result (elements.new.items ≡ with_all_put news.now elements.old.items) }
 {
     for e in news {
-        put(elements, Boxed::copy(alloc, e)?)?;
+        put(elements, SharedElement::copy(alloc, e)?)?;
     }
     Ok(())
 }
 
 /// Puts other elements, for which there is room, one after another. It takes no memory.
-pub(crate) fn put_all(elements: &mut Vec<Boxed>, news: Vec<Boxed>)
+pub(crate) fn put_all(elements: &mut Vec<SharedElement>, news: Vec<SharedElement>)
     requires rise { are_rising (ids_of elements.old.items) ≡ true }
     requires room { length news.items + vec_len elements.old ≤ vec_capacity elements.old }
     ensures { elements.new.items ≡ with_all_put news.items elements.old.items }

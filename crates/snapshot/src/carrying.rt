@@ -3,16 +3,16 @@
 ghost use Rattle.std.specs.Prelude.{◌≡◌, true, Some, option_copied, IfOk, IfSome, OnOk, OnErr, if◌then◌else◌};
 ghost use Rattle.std.specs.Option.{option_map};
 ghost use Rattle.frac_keys.specs.Rising.{are_rising};
+ghost use Rattle.elem.specs.Facts.{IsElement};
 ghost use Rattle.elem_store.specs.Updates as updates;
 ghost use Rattle.elem_store.specs.Updates.{element_of, ids_of, is_taken, takings};
 ghost use Rattle.undoing.specs.Carrying.{with_put, with_all_put, carried_over, carried_all};
 ghost use Rattle.undoing.specs.Undoing.{undone};
 ghost use Rattle.snapshot.specs.Carried.{IsCarried, HasCarried, carried_to};
 
-use crate::boxed::Boxed;
 use crate::captured::{find, put, put_made};
 use delta::{apply, are_one_kind, difference};
-use elem::{Element, beats};
+use elem::{Element, SharedElement, beats};
 use elem_store::Store;
 use json_text::Text;
 use std::alloc::{AllocError, Global};
@@ -20,7 +20,7 @@ use std::alloc::{AllocError, Global};
 /// Carries a stored change into the elements.
 pub(crate) fn carry(
     alloc: Global,
-    elements: &mut Vec<Boxed>,
+    elements: &mut Vec<SharedElement>,
     old: Option<&Element>,
     new: &Element,
 ) -> Result<(), AllocError>
@@ -87,6 +87,7 @@ fn follow(
     requires captured_id { IfSome (option_copied captured) (λ captured. captured.id ≡ new.now.id) }
     requires id { old.now.id ≡ new.now.id }
     requires kind { old.now.kind ≡ new.now.kind }
+    requires elements { IsElement old.now × IsElement new.now }
     ensures is { IfOk result (IsCarried (option_copied captured.entry) (Some old.now) new.now) }
     ensures to { IfOk result (λ made.
         made ≡ option_map (undone (record { before = new.now; after = old.now }))
@@ -95,10 +96,6 @@ fn follow(
     let Some(captured) = captured else {
         return Ok(None);
     };
-    // Whoever reads a field knows that it is an element.
-    let _ = &captured.deleted;
-    let _ = &old.deleted;
-    let _ = &new.deleted;
     let part = difference(alloc, Some(old), new)?;
     let made = apply(alloc, &part, captured)?;
     Ok(Some(made))
@@ -107,16 +104,15 @@ fn follow(
 /// The elements that carrying makes of the captured ones, for each of a list that becomes stored.
 pub(crate) fn carrying(
     alloc: Global,
-    captured: &Vec<Boxed>,
+    captured: &Vec<SharedElement>,
     store: &Store,
     list: &[Element],
-) -> Result<Vec<Boxed>, AllocError>
+) -> Result<Vec<SharedElement>, AllocError>
     requires { are_rising (ids_of captured.now.items) ≡ true }
     ensures step { IfOk result (λ step. with_all_put step.items captured.now.items
         ≡ carried_all (takings store.now.elements list.now) captured.now.items) }
     ensures ordered { IfOk result (λ step. are_rising (ids_of step.items) ≡ true) }
 {
-    store.tell();
     let mut newer = Vec::new(alloc);
     let mut step = Vec::new(alloc);
     for e in list {
@@ -128,10 +124,10 @@ pub(crate) fn carrying(
 /// Carries an element into the step, if it becomes stored over the store with the newer ones.
 fn carry_one(
     alloc: Global,
-    captured: &Vec<Boxed>,
+    captured: &Vec<SharedElement>,
     store: &Store,
-    newer: &mut Vec<Boxed>,
-    step: &mut Vec<Boxed>,
+    newer: &mut Vec<SharedElement>,
+    step: &mut Vec<SharedElement>,
     e: &Element,
 ) -> Result<(), AllocError>
     requires captured { are_rising (ids_of captured.now.items) ≡ true }
@@ -146,6 +142,7 @@ fn carry_one(
         ≡ (if is_taken stored e.now then carried_over
         (element_of stored e.now.id) e.now now else now)) }
     ensures ordered { OnOk result (are_rising (ids_of step.new.items) ≡ true) }
+    ensures stored { are_rising (ids_of store.now.elements) ≡ true }
 {
     let old = stored_over(newer, store, &e.id);
     if !is_newer(e, old) {
@@ -153,23 +150,33 @@ fn carry_one(
     }
     let made = carried(alloc, find_over(step, captured, &e.id), old, e)?;
     put_made(alloc, step, made)?;
-    put(newer, Boxed::copy(alloc, e)?)
+    put(newer, SharedElement::copy(alloc, e)?)
 }
 
 /// The element of this id: a newer one, or what is stored.
-fn stored_over<'a>(newer: &'a Vec<Boxed>, store: &'a Store, id: &Text) -> Option<&'a Element>
+fn stored_over<'a>(
+    newer: &'a Vec<SharedElement>,
+    store: &'a Store,
+    id: &Text,
+) -> Option<&'a Element>
     requires { are_rising (ids_of newer.now.items) ≡ true }
-    ensures { option_copied result ≡ element_of
+    ensures element { option_copied result ≡ element_of
         (with_all_put newer.now.items store.now.elements) id.now }
+    ensures ordered { are_rising (ids_of store.now.elements) ≡ true }
 {
+    let stored = store.get(id);
     match find(newer, id) {
         Some(e) => Some(e),
-        None => store.get(id),
+        None => stored,
     }
 }
 
 /// The element of this id: that of the step, or the captured one.
-fn find_over<'a>(step: &'a Vec<Boxed>, captured: &'a Vec<Boxed>, id: &Text) -> Option<&'a Element>
+fn find_over<'a>(
+    step: &'a Vec<SharedElement>,
+    captured: &'a Vec<SharedElement>,
+    id: &Text,
+) -> Option<&'a Element>
     requires step { are_rising (ids_of step.now.items) ≡ true }
     requires captured { are_rising (ids_of captured.now.items) ≡ true }
     ensures { option_copied result ≡ element_of

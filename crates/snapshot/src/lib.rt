@@ -1,7 +1,6 @@
 //! What the elements of a board were when they were last captured, and what has changed since.
 #![tactic(auto)]
 
-mod boxed;
 mod captured;
 mod carrying;
 pub mod laws;

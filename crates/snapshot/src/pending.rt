@@ -10,10 +10,9 @@ ghost use Rattle.undoing.specs.Carrying.{with_put, with_all_put};
 ghost use Rattle.snapshot.specs.Pending.{pairs_since};
 ghost use Rattle.snapshot.specs.Touched.{AreUntouched, HasPutStored};
 
-use crate::boxed::Boxed;
 use crate::captured::{find, put};
 use delta::{Part, are_one_kind, difference};
-use elem::{Element, same, same_but_stamp};
+use elem::{Element, SharedElement, same, same_but_stamp};
 use elem_store::Store;
 use json_text::Text;
 use std::alloc::{AllocError, Global};
@@ -22,14 +21,13 @@ use std::collections::BTreeSet;
 /// The parts from the elements to the stored ones.
 pub(crate) fn parts_since(
     alloc: Global,
-    elements: &Vec<Boxed>,
+    elements: &Vec<SharedElement>,
     store: &Store,
 ) -> Result<Vec<Part>, AllocError>
     requires { are_rising (updates.ids_of elements.now.items) ≡ true }
     ensures { IfOk result
         (λ parts. EntryStandsFor parts.items (pairs_since elements.now.items store.now.elements)) }
 {
-    store.tell();
     let mut parts = Vec::new(alloc);
     for i in 0..store.len() {
         if let Some(e) = store.at(i) {
@@ -42,8 +40,8 @@ pub(crate) fn parts_since(
 /// The parts from the elements to other ones.
 pub(crate) fn parts_to(
     alloc: Global,
-    elements: &Vec<Boxed>,
-    news: &Vec<Boxed>,
+    elements: &Vec<SharedElement>,
+    news: &Vec<SharedElement>,
 ) -> Result<Vec<Part>, AllocError>
     requires elements { are_rising (updates.ids_of elements.now.items) ≡ true }
     requires news { are_rising (updates.ids_of news.now.items) ≡ true }
@@ -51,8 +49,8 @@ pub(crate) fn parts_to(
         (λ parts. EntryStandsFor parts.items (pairs_since elements.now.items news.now.items)) }
 {
     let mut parts = Vec::new(alloc);
-    for boxed in news {
-        let e = boxed.get();
+    for shared in news {
+        let e = shared.get();
         note(alloc, &mut parts, find(elements, &e.id), e)?;
     }
     Ok(parts)
@@ -101,15 +99,14 @@ pub(crate) fn ids_of(alloc: Global, parts: &Vec<Part>) -> Result<Vec<Text>, Allo
 }
 
 /// The stored elements, copied.
-pub(crate) fn copies_of(alloc: Global, store: &Store) -> Result<Vec<Boxed>, AllocError>
+pub(crate) fn copies_of(alloc: Global, store: &Store) -> Result<Vec<SharedElement>, AllocError>
     ensures exact { IfOk result (λ copies. copies.items ≡ store.now.elements) }
     ensures ordered { IfOk result (λ copies. are_rising (updates.ids_of copies.items) ≡ true) }
 {
-    store.tell();
     let mut copies = Vec::new(alloc);
     for i in 0..store.len() {
         if let Some(e) = store.at(i) {
-            copies.push(Boxed::copy(alloc, e)?)?;
+            copies.push(SharedElement::copy(alloc, e)?)?;
         }
     }
     Ok(copies)
@@ -118,10 +115,10 @@ pub(crate) fn copies_of(alloc: Global, store: &Store) -> Result<Vec<Boxed>, Allo
 /// Copies of the stored elements of these ids that aren't the same among the elements.
 pub(crate) fn differing(
     alloc: Global,
-    elements: &Vec<Boxed>,
+    elements: &Vec<SharedElement>,
     store: &Store,
     touched: &BTreeSet<Text>,
-) -> Result<Vec<Boxed>, AllocError>
+) -> Result<Vec<SharedElement>, AllocError>
     requires rise { are_rising (updates.ids_of elements.now.items) ≡ true }
     requires untouched { AreUntouched touched.now.keys elements.now.items store.now.elements }
     ensures over { IfOk result (λ copies. with_all_put copies.items elements.now.items
@@ -129,8 +126,8 @@ pub(crate) fn differing(
     ensures ordered { IfOk result (λ copies. are_rising (updates.ids_of copies.items) ≡ true) }
     ensures stored { are_rising (updates.ids_of store.now.elements) ≡ true }
 {
-    store.tell();
-    let mut copies = Vec::new(alloc);
+    // No more differ than were touched or are stored.
+    let mut copies = Vec::with_capacity(alloc, touched.len().min(store.len()))?;
     for id in touched.iter() {
         put_differing(alloc, &mut copies, find(elements, id), store.get(id))?;
     }
@@ -140,7 +137,7 @@ pub(crate) fn differing(
 /// Puts a copy of what is stored of an id, unless nothing is or the old element is the same.
 fn put_differing(
     alloc: Global,
-    copies: &mut Vec<Boxed>,
+    copies: &mut Vec<SharedElement>,
     old: Option<&Element>,
     stored: Option<&Element>,
 ) -> Result<(), AllocError>
@@ -152,6 +149,6 @@ fn put_differing(
     match (old, stored) {
         (_, None) => Ok(()),
         (Some(old), Some(new)) if same(old, new) => Ok(()),
-        (_, Some(new)) => put(copies, Boxed::copy(alloc, new)?),
+        (_, Some(new)) => put(copies, SharedElement::copy(alloc, new)?),
     }
 }

@@ -13,14 +13,13 @@ ghost use Rattle.snapshot.specs.Carried.{HasCarried};
 ghost use Rattle.snapshot.specs.Pending.{pairs_since};
 ghost use Rattle.snapshot.specs.Touched.{AreUntouched};
 
-use crate::boxed::Boxed;
 use crate::captured::{put_all, put_copies};
 use crate::carrying::{carry, carrying};
 use crate::pending::{copies_of, differing, ids_of, parts_since, parts_to};
 use crate::touched::Touched;
 use board_base::List;
 use delta::Entry;
-use elem::Element;
+use elem::{Element, SharedElement};
 use elem_store::Store;
 use json_text::Text;
 use std::alloc::{AllocError, Global};
@@ -29,7 +28,7 @@ use std::marker::Model;
 /// The elements as they were when they were last captured, one for each id, in the order of the ids.
 #[derive(Drop)]
 pub struct Snapshot {
-    elements: Vec<Boxed>,
+    elements: Vec<SharedElement>,
 }
 
 impl Model for Snapshot {
@@ -51,7 +50,7 @@ impl Model for Snapshot {
 /// Elements that are planned to be put into a snapshot, one for each id, in the order of the ids.
 #[derive(Drop)]
 pub struct SnapshotStep {
-    elements: Vec<Boxed>,
+    elements: Vec<SharedElement>,
 }
 
 impl Model for SnapshotStep {

@@ -1,8 +1,7 @@
--- What settling makes of one element rests on the elements at most three steps of naming from it, and on no key.
-use Rattle.std.proofs.Common.{◌≡◌, ℕ, Bool, true, false, cond, List, find, filter, map, Option, Some, None, Contains, refl, sym, ap, ◌∙◌}
+-- What settling makes of one element rests on the elements at most three steps of links from it, on its frame, and on no key.
+use Rattle.std.proofs.Common.{◌≡◌, ℕ, Bool, true, false, cond, List, find, filter, map, Option, Some, None, Contains, refl, sym, ap, ap₂, ◌∙◌}
 use Rattle.std.specs.List.{list_any}
-use Rattle.std.specs.Option.{option_map}
-use Rattle.std.proofs.lemmas.Bool.{or_left, or_right}
+use Rattle.std.specs.Option.{option_map, option_map_or}
 use Rattle.std.proofs.lemmas.List.Elements.{filter_passes}
 use Rattle.elem.specs.ElementValue.{ElementValue}
 use Rattle.elem.specs.Order.{has_id, HaveDistinctIds}
@@ -11,14 +10,13 @@ use Rattle.frames_groups.specs.Frames.{is_frame, is_frame_of, has_frame, keeps_f
 use Rattle.frames_groups.specs.Groups.{grouped, groups_settled}
 use Rattle.frames_groups.proofs.CallerLemmas.{framed-among}
 use Rattle.links.specs.Arrows.{with_settled_links}
-use Rattle.links.specs.Names.{is_id}
 use Rattle.links.specs.Settled.{settled_links, unlinked, unplaced}
-use Rattle.links.specs.Steps.{names_id, is_within}
+use Rattle.links.specs.Steps.{is_within}
 use Rattle.links.specs.Texts.{with_settled_container, settled_texts}
-use Rattle.links.proofs.CallerLemmas.{bytes_eq-refl, find-map, find-Some, map-map, near-all, links-alone, found-settled, step-to, within-own, within-more, within-step, unlinked-links, list_any-map, links-unplaced}
+use Rattle.links.proofs.CallerLemmas.{bytes_eq-refl, find-map, find-Some, map-map, near-all, links-alone, found-settled, unlinked-links, list_any-map, links-unplaced}
 use Rattle.view.specs.Settled.{settled}
 use Rattle.view.specs.Shown.{without_index}
-use Rattle.view.specs.Steps.{settled_of, settled_but_for_key, AreAlikeNear, HasAllNear}
+use Rattle.view.specs.Steps.{is_framed, settled_of, settled_but_for_key, AreAlikeNear, HasAllLinked, HasAllNear}
 use Rattle.view.proofs.SettledLaws.{same_elements}
 
 -- ---- keys play no part
@@ -68,26 +66,17 @@ found-framed list id =
 
 module _ (list : List ElementValue) (among : ElementValue → Bool) (id : List ℕ) (distinct : HaveDistinctIds list) (has_near : HasAllNear among list id) where
   all_near : (e : ElementValue) → Contains list e → is_within 3 list id e ≡ true → among e ≡ true
-  all_near = near-all list among id has_near
-
-  -- the frame that an element names is near it
-  frame-near : (e : ElementValue) → Contains list e → has_id id e ≡ true
-      → (frame : ElementValue) → Contains list frame → is_frame frame ≡ true → e.frame ≡ Some frame.id → among frame ≡ true
-  frame-near e there own frame at' is names =
-      let named : names_id frame.id e ≡ true = or_left _ _ (or_right (is_id frame.id e.container) _ (ap (is_id frame.id) names ∙ bytes_eq-refl frame.id)) in
-      all_near frame at'
-      (within-more list id 2 frame (within-more list id 1 frame (within-step list id 0 e frame there (within-own list id e own) (step-to e frame named))))
+  all_near = near-all list among id has_near.linked
 
   framed-near : (o : Option ElementValue) → find (has_id id) list ≡ o
       → option_map (framed (has_frame (settled_links (filter among list)))) (option_map (λ e. with_settled_links (settled_texts list) (with_settled_container list e)) o)
       ≡ option_map (framed (has_frame (settled_links list))) (option_map (λ e. with_settled_links (settled_texts list) (with_settled_container list e)) o)
   framed-near None is = refl
   framed-near (Some e) is =
-      let found = find-Some (has_id id) list e is in
       let y = with_settled_links (settled_texts list) (with_settled_container list e) in
       ap Some
       ((λ i. framed (λ fid. frames-linked (filter among list) fid i) y)
-      ∙ framed-among list among y (frame-near e found.0 found.1)
+      ∙ framed-among list among y (λ frame there is_one names. has_near.framed e frame is names there is_one)
       ∙ (λ i. framed (λ fid. sym (frames-linked list fid) i) y))
 
   pub settled-alone : settled_of (filter among list) id ≡ settled_of list id
@@ -103,21 +92,63 @@ module _ (list : List ElementValue) (among : ElementValue → Bool) (id : List �
       ∙ sym (found-framed (settled_links list) id)
 
 -- ---- two lists whose elements of some kind are the same, but for their keys
-part-keys : (list : List ElementValue) (among : ElementValue → Bool) (id : List ℕ) → HaveDistinctIds list → HasAllNear among list id
-    → settled_but_for_key list id ≡ element_of (settled (map without_index (filter among list))) id
-part-keys list among id distinct has_near =
-    ap (option_map without_index) (sym (settled-alone list among id distinct has_near))
-    ∙ sym (find-map (has_id id) without_index (settled (filter among list)))
-    ∙ ap (λ es. element_of es id) (sym (settled-keys (filter among list)))
+-- an element that keeps its frame name or not
+abbrev framed_if : Bool → ElementValue → ElementValue
+framed_if keeps e = cond keeps e (without_frame e)
+
+abbrev framed_all : Bool → Option ElementValue → Option ElementValue
+framed_all keeps o = option_map grouped (option_map (framed_if keeps) o)
+
+-- what settling links makes of the element of an id, but for its key
+abbrev linked_but_for_key : List ElementValue → List ℕ → Option ElementValue
+linked_but_for_key list id = option_map without_index (find (has_id id) (settled_links list))
+
+module _ (list : List ElementValue) (among : ElementValue → Bool) (id : List ℕ) (distinct : HaveDistinctIds list) (has_linked : HasAllLinked among list id) where
+  linked_near : (e : ElementValue) → Contains list e → is_within 3 list id e ≡ true → among e ≡ true
+  linked_near = near-all list among id has_linked
+
+  linked-keys : linked_but_for_key list id ≡ find (has_id id) (settled_links (map without_index (filter among list)))
+  linked-keys =
+      ap (option_map without_index) (sym (links-alone list among id distinct linked_near))
+      ∙ sym (find-map (has_id id) without_index (settled_links (filter among list)))
+      ∙ ap (find (has_id id)) (sym (links-keys (filter among list)))
+
+  -- the frame name is kept as it is before links are settled
+  framed-as : (o : Option ElementValue) → find (has_id id) list ≡ o
+      → option_map without_index (option_map grouped (option_map (framed (has_frame (settled_links list))) (option_map (λ e. with_settled_links (settled_texts list) (with_settled_container list e)) o)))
+      ≡ framed_all (is_framed list id) (option_map without_index (option_map (λ e. with_settled_links (settled_texts list) (with_settled_container list e)) o))
+  framed-as None is = refl
+  framed-as (Some e) is =
+      let y = with_settled_links (settled_texts list) (with_settled_container list e) in
+      ap (λ f. Some (without_index (grouped f))) (λ i. framed (λ fid. frames-linked list fid i) y)
+      ∙ kept (keeps_frame (has_frame list) e) y
+      ∙ ap (λ b. Some (grouped (framed_if b (without_index y)))) (ap (λ o. option_map_or (keeps_frame (has_frame list)) o false) (sym is))
+    where
+      kept : (b : Bool) (y : ElementValue) → Some (without_index (grouped (cond b y (without_frame y)))) ≡ Some (grouped (framed_if b (without_index y)))
+      kept true y = refl
+      kept false y = refl
+
+  pub settled-as : settled_but_for_key list id ≡ framed_all (is_framed list id) (find (has_id id) (settled_links (map without_index (filter among list))))
+  unfolding settled
+  settled-as =
+      let of_list = found-settled list among id distinct linked_near list in
+      ap (option_map without_index)
+      (found-framed (settled_links list) id ∙ ap (λ o. option_map grouped (option_map (framed (has_frame (settled_links list))) o)) of_list)
+      ∙ framed-as (find (has_id id) list) refl
+      ∙ ap (λ o. framed_all (is_framed list id) (option_map without_index o)) (sym of_list)
+      ∙ ap (framed_all (is_framed list id)) linked-keys
 
 pub settled-unchanged : (list other : List ElementValue) (among : ElementValue → Bool) (id : List ℕ) → HaveDistinctIds list → HaveDistinctIds other
-    → map without_index (filter among list) ≡ map without_index (filter among other) → HasAllNear among list id → HasAllNear among other id
-    → settled_but_for_key list id ≡ settled_but_for_key other id
-settled-unchanged list other among id distinct apart same has_near has_near' =
-    part-keys list among id distinct has_near ∙ ap (λ es. element_of (settled es) id) same ∙ sym (part-keys other among id apart has_near')
+    → map without_index (filter among list) ≡ map without_index (filter among other) → HasAllLinked among list id → HasAllLinked among other id
+    → is_framed list id ≡ is_framed other id → settled_but_for_key list id ≡ settled_but_for_key other id
+settled-unchanged list other among id distinct apart same has_linked has_linked' framed_alike =
+    settled-as list among id distinct has_linked
+    ∙ ap₂ (λ b es. framed_all b (find (has_id id) (settled_links es))) framed_alike same
+    ∙ sym (settled-as other among id apart has_linked')
 
 -- ---- two lists with the same elements near an id, but for their keys
 pub settled-alike : (list other : List ElementValue) (id : List ℕ) → HaveDistinctIds list → HaveDistinctIds other → AreAlikeNear list other id → settled_but_for_key list id ≡ settled_but_for_key other id
 settled-alike list other id distinct apart same =
-    part-keys list (is_within 3 list id) id distinct (filter_passes (is_within 3 list id) list) ∙ ap (λ es. element_of (settled es) id) same
-    ∙ sym (part-keys other (is_within 3 other id) id apart (filter_passes (is_within 3 other id) other))
+    settled-as list (is_within 3 list id) id distinct (filter_passes (is_within 3 list id) list)
+    ∙ ap₂ (λ b es. framed_all b (find (has_id id) (settled_links es))) same.framed same.linked
+    ∙ sym (settled-as other (is_within 3 other id) id apart (filter_passes (is_within 3 other id) other))

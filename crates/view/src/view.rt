@@ -115,7 +115,6 @@ fn ordered_of(alloc: Global, store: Store) -> Result<Vec<Element>, AllocError>
     ensures exact { IfOk result (λ ordered. ordered.items ≡ in_scene_order (live_elements store.elements)) }
     ensures live { IfOk result (λ _. HaveDistinctIds (live_elements store.elements)) }
 {
-    store.tell();
     if are_in_order(store.given()) {
         return Ok(live_given(store));
     }
@@ -161,7 +160,6 @@ fn live_of(alloc: Global, store: &Store) -> Result<Vec<Spot<'_>>, AllocError>
     ensures stored { IfOk result (λ live. AreSpotsIn store.now.elements live.items) }
     ensures ordered { IfOk result (λ _. are_rising (ids_of store.now.elements) ≡ true) }
 {
-    store.tell();
     let mut live = Vec::new(alloc);
     for i in 0..store.len() {
         if let Some(e) = store.at(i) {
@@ -255,7 +253,6 @@ fn originals_of(
 fn stored_at<'a>(store: &'a Store, spot: Option<&Spot<'_>>, id: &Text) -> Option<&'a Element>
     ensures { option_copied result ≡ element_of store.now.elements id.now }
 {
-    store.tell();
     if let Some(spot) = spot {
         if let Some(e) = store.at(spot.at) {
             if e.id == *id {

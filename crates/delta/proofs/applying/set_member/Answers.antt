@@ -40,8 +40,12 @@ before c = record {
   rest = c.e.inside.rest;
 }
 
-pub returns : goal.returns
-returns c =
+pub returns-clause-set : goal.returns-clause-set
+returns-clause-set c =
     let new : ElementValue = record (before c) { rest = c.from_vec.result } in
     subst (λ e. IsScalarSet e new c.args.name.now c.args.value) c.e.view_is
     (IsScalarSet-member (before c) c.args.name.now c.args.value c.from_vec.result (other c) (risen c.e.inside.rest c.e.invariant.rise) (put c))
+
+pub returns-clause-element : goal.returns-clause-element
+returns-clause-element c =
+    IsElement-rest (before c) c.args.name.now c.args.value c.from_vec.result c.e.invariant (not-header c.e.inside.kind c.args.name.now c.requires.free (other c)) c.requires.value (put c)

@@ -15,4 +15,4 @@ loop-e-preserved c =
     let e = c.e-item.result in
     let within : i < length all = omega arith in
     subst (λ es. HasKeys c.note_among.new.keys (elements_among c.args.ids.now es)) (sym (take_more all i e within ∙ ap (λ x. take i all ++ x ∷ []) (sym c.e-item.is)))
-    (c.in_ok-note_among.ensures (take i all) c.loop-e.invariant)
+    (rw c.get.ensures at c.in_ok-note_among.ensures (take i all) c.loop-e.invariant)

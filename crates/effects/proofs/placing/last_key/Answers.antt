@@ -1,7 +1,6 @@
 -- The last element that isn't passed over has the key.
 use Rattle.std.proofs.Common.{sym, ap, ◌∙◌}
 use Rattle.std.specs.Option.{option_copied}
-use Rattle.elem.specs.ElementValue.{ElementValue}
 use Rattle.effects.specs.Placing.{last_key, others}
 use Rattle.effects.proofs.PlacingLaws.{last_key-own, last_key-passed}
 use Rattle.effects.proofs.placing.last_key.Goals as goal
@@ -9,7 +8,7 @@ use Rattle.effects.proofs.placing.last_key.Goals as goal
 pub returns-then-not-is_of : goal.returns-then-not-is_of
 returns-then-not-is_of c =
     let except = option_copied c.args.except in
-    c.as_ref.ensures.value ∙ ap (λ (d : ElementValue). d.index) c.e.view_is
+    c.index_of.ensures
     ∙ sym (last_key-own except c.in-Some.before.now c.in-Some.e.now (sym c.is_of.ensures ∙ c.if-not-is_of.true))
     ∙ ap (λ es. last_key (others except es)) (sym c.in-Some.ensures.cases.0)
     ∙ c.loop-e.invariant

@@ -13,7 +13,7 @@ use Rattle.history.proofs.step.is_seen.Goals as goal
 pub is_part_seen-requires : goal.is_part_seen-requires
 is_part_seen-requires c =
     let stored : element_of c.args.store.now.elements c.part-item.result.id ≡ Some c.unwrap-now.result.now =
-    ap (λ (part : Delta). element_of c.args.store.now.elements part.id) (sym c.part.view_is) ∙ sym c.get.ensures ∙ ap option_copied c.unwrap-now.ensures in
+    ap (λ (part : Delta). element_of c.args.store.now.elements part.id) (sym c.part.view_is) ∙ sym c.get.ensures.element ∙ ap option_copied c.unwrap-now.ensures in
     same_id c.part-item.result.id c.unwrap-now.result.now (find-Some (has_id c.part-item.result.id) c.args.store.now.elements c.unwrap-now.result.now stored).1
 
 pub loop-part-preserved : goal.loop-part-preserved
@@ -25,7 +25,7 @@ loop-part-preserved c is =
     let here : part ≡ get_or items i part = cc in
     let within : i < length items = omega arith in
     let stored : element_of store part.id ≡ Some c.unwrap-now.result.now =
-    ap (λ (part : Delta). element_of store part.id) (sym c.part.view_is) ∙ sym c.get.ensures ∙ ap option_copied c.unwrap-now.ensures in
+    ap (λ (part : Delta). element_of store part.id) (sym c.part.view_is) ∙ sym c.get.ensures.element ∙ ap option_copied c.unwrap-now.ensures in
     let more : take (i + 1) items ≡ take i items ++ part ∷ [] = take_more items i part within ∙ ap (λ x. take i items ++ x ∷ []) (sym here) in
     let found = subst (IsSeen store) more is in
     elim (Contains-push_cases (take i items) part found.0 found.2.among) [

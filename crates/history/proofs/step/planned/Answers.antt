@@ -14,7 +14,7 @@ use Rattle.history.proofs.step.planned.Goals as goal
 pub revert-requires-clause-id : goal.revert-requires-clause-id
 revert-requires-clause-id c =
     let stored : element_of c.args.store.now.elements c.part-item.result.id ≡ Some c.unwrap-now.result.now =
-    ap (λ (part : Delta). element_of c.args.store.now.elements part.id) (sym c.part.view_is) ∙ sym c.get.ensures ∙ ap option_copied c.unwrap-now.ensures in
+    ap (λ (part : Delta). element_of c.args.store.now.elements part.id) (sym c.part.view_is) ∙ sym c.get.ensures.element ∙ ap option_copied c.unwrap-now.ensures in
     same_id c.part-item.result.id c.unwrap-now.result.now (find-Some (has_id c.part-item.result.id) c.args.store.now.elements c.unwrap-now.result.now stored).1
 
 pub returns-in_err-revert-clause-full : goal.returns-in_err-revert-clause-full
@@ -27,7 +27,7 @@ returns-in_err-revert-clause-full c =
     let here : part ≡ get_or items i part = cc in
     let within : i < length items = omega arith in
     let stored : element_of store part.id ≡ Some now =
-    ap (λ (part : Delta). element_of store part.id) (sym c.part.view_is) ∙ sym c.get.ensures ∙ ap option_copied c.unwrap-now.ensures in
+    ap (λ (part : Delta). element_of store part.id) (sym c.part.view_is) ∙ sym c.get.ensures.element ∙ ap option_copied c.unwrap-now.ensures in
     let rising = subst AreParts (sym c.as_slice-part-items.ensures) c.entry.invariant in
     let next = next-part items i part within here rising in
     let p = err_from_is_err_and c.from_residual.result c.from_residual.ensures.1 in
@@ -45,7 +45,7 @@ loop-part-preserved c =
     let here : part ≡ get_or items i part = cc in
     let within : i < length items = omega arith in
     let stored : element_of c.args.store.now.elements part.id ≡ Some c.unwrap-now.result.now =
-    ap (λ (part : Delta). element_of c.args.store.now.elements part.id) (sym c.part.view_is) ∙ sym c.get.ensures ∙ ap option_copied c.unwrap-now.ensures in
+    ap (λ (part : Delta). element_of c.args.store.now.elements part.id) (sym c.part.view_is) ∙ sym c.get.ensures.element ∙ ap option_copied c.unwrap-now.ensures in
     let next = next-part items i part within here (subst AreParts (sym c.as_slice-part-items.ensures) c.entry.invariant) in
     subst (λ parts. IsStep parts c.args.store.now.elements c.args.time c.args.nonce c.revert.new.given.items c.revert.new.made.items) (sym next.0)
     (c.in_ok-revert.ensures.ok (take i items) c.args.store.now.elements c.loop-part.invariant next.1 stored)

@@ -12,7 +12,7 @@ set_key-requires c =
 
 pub loop-key-preserved : goal.loop-key-preserved
 loop-key-preserved c = record {
-  items = c.set_key.ensures ∙ ap (rekeyed c.loop-key.at (c.in-Some.key ∷ [])) c.loop-key.invariant.items
+  items = c.in_ok-set_key.ensures ∙ ap (rekeyed c.loop-key.at (c.in-Some.key ∷ [])) c.loop-key.invariant.items
       ∙ rekeyed-push c.args.rekeying.start c.loop-key.yielded c.in-Some.key c.args.elements.now.items c.loop-key.at c.loop-key.invariant.place;
   place = omega (arith, c.loop-key.invariant.place, length-append c.loop-key.yielded (c.in-Some.key ∷ []));
   parts = rw append_assoc (c.loop-key.invariant.parts ∙ ap (λ rest. c.loop-key.yielded ++ rest) c.in-Some.ensures.steps.0);

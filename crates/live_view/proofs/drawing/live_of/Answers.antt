@@ -13,9 +13,9 @@ loop-i-preserved c =
       | in-Some+else-is_live w ↦ rw w.live-is
           (deleted_one c.args.store.now.elements c.loop-i.i w.in-Some.e.now w.in-Some.ensures.element c.loop-i.live.items
           (sym w.is_live.ensures ∙ w.if-is_live.false) c.loop-i.invariant)
-      | in_default w ↦ absurd (within_stored c.args.store.now.elements c.loop-i.i (omega (arith, c.len-i-end.ensures)) w.in_default.ensures.element)
+      | in_default w ↦ absurd (within_stored c.args.store.now.elements c.loop-i.i (omega (arith, c.len-i-end.ensures.exact)) w.in_default.ensures.element)
     ]
 
 pub returns-clause-exact : goal.returns-clause-exact
 returns-clause-exact c =
-    c.loop-i.invariant ∙ ap live_elements (take_all c.loop-i.i c.args.store.now.elements (omega (arith, c.len-i-end.ensures)))
+    c.loop-i.invariant ∙ ap live_elements (take_all c.loop-i.i c.args.store.now.elements (omega (arith, c.len-i-end.ensures.exact)))

@@ -1,14 +1,14 @@
-use Rattle.std.proofs.Common.{◌||◌, ap, ◌∙◌}
-use Rattle.std.proofs.lemmas.Result.{on_ok_weaker}
-use Rattle.live_view.specs.Reached.{is_among}
+use Rattle.std.proofs.Common.{Result, Ok, Err, OnOk}
 use Rattle.live_view.proofs.Stepping.{neighbours}
 use Rattle.live_view.proofs.reach.add_neighbours.Goals as goal
 
+both : {T E P Q R : Type 0} (r : Result T E) → (P → Q → R) → OnOk r P → OnOk r Q → OnOk r R
+both (Ok x) f p q = f p q
+both (Err e) f p q = tt
+
 pub returns-clause-stepped : goal.returns-clause-stepped
 returns-clause-stepped c =
-    let mid = c.add_named_by.new.ids.list.items in
-    on_ok_weaker c.add_all.result
-    (λ are. neighbours c.args.live.now.items c.args.table.now.rows c.args.id.now c.args.ids.now.list.items mid c.add_all.new.self.list.items c.requires.ordered c.requires.table
-    c.in_ok-add_named_by.ensures.kept c.in_ok-add_named_by.ensures.named
-    (λ x. are x ∙ ap (λ l. is_among l x || is_among mid x) c.namers.ensures.exact))
-    c.add_all.ensures.ids
+    both c.add_linking.result
+    (neighbours c.args.live.now.items c.args.id.now c.args.ids.now.list.items c.add_linked_by.new.ids.list.items c.add_linking.new.ids.list.items c.requires.ordered
+    c.in_ok-add_linked_by.ensures.kept c.in_ok-add_linked_by.ensures.linked)
+    c.add_linking.ensures.kept c.add_linking.ensures.linking

@@ -10,5 +10,5 @@ loop-e-preserved c =
     let e = c.e-item.result in
     let within : i < length elements = omega arith in
     let get_id : ElementValue → List ℕ = λ x. x.id in
-    c.in_ok-push.ensures.items ∙ ap (λ x. c.loop-e.ids.items ++ x ∷ []) (c.in_ok-try_clone.ensures ∙ ap get_id c.e.view_is)
+    c.in_ok-push.ensures.items ∙ ap (λ x. c.loop-e.ids.items ++ x ∷ []) (c.in_ok-try_clone.ensures ∙ c.id.ensures)
     ∙ push-part get_id c.args.ids.now.items c.loop-e.ids.items elements i e within c.e-item.is c.loop-e.invariant

@@ -10,7 +10,7 @@ use Rattle.room_core.proofs.texts.push_stored.Goals.{in-Some+in_ok-push_comma+in
 pub loop-i-preserved : goal.loop-i-preserved
 loop-i-preserved c =
     let stored = c.args.store.now.elements in
-    let inside : c.loop-i.i < length stored = omega (arith, c.len-i-end.ensures) in
+    let inside : c.loop-i.i < length stored = omega (arith, c.len-i-end.ensures.exact) in
     elim c.match-at.branch [
       | in-Some+in_ok-push_comma+in_ok-push_element w ↦ ap (λ v. v.items) w.out-is
           ∙ mapped-step element_text c.args.out.now.items stored w.in-Some.e.now c.loop-i.i c.loop-i.out.items w.push_comma.new.out.items w.push_element.new.out.items inside
@@ -22,4 +22,4 @@ loop-i-preserved c =
 pub returns : goal.returns
 returns c =
     c.loop-i.invariant
-    ∙ ap (λ es. c.args.out.now.items ++ join_with_byte 44 (map element_text es)) (take_all c.loop-i.i c.args.store.now.elements (omega (arith, c.len-i-end.ensures)))
+    ∙ ap (λ es. c.args.out.now.items ++ join_with_byte 44 (map element_text es)) (take_all c.loop-i.i c.args.store.now.elements (omega (arith, c.len-i-end.ensures.exact)))

@@ -18,7 +18,7 @@ carried-requires-clause-captured_id c =
 pub carried-requires-clause-id : goal.carried-requires-clause-id
 carried-requires-clause-id c =
     let now = with_all_put c.args.newer.now.items c.args.store.now.elements in
-    found-id now c.args.e.now.id (option_copied c.stored_over-old.result) (c.stored_over-old.ensures ∙ ap (element_of now) (ap (λ (e : ElementValue). e.id) c.e.view_is))
+    found-id now c.args.e.now.id (option_copied c.stored_over-old.result) (c.stored_over-old.ensures.element ∙ ap (element_of now) (ap (λ (e : ElementValue). e.id) c.e.view_is))
 
 pub returns-clause-step : goal.returns-clause-step
 returns-clause-step c =
@@ -28,7 +28,7 @@ returns-clause-step c =
     let captured = c.args.captured.now.items in
     let now = with_all_put step captured in
     let id = ap (λ (e : ElementValue). e.id) c.e.view_is in
-    let old : option_copied c.stored_over-old.result ≡ element_of stored e.id = c.stored_over-old.ensures ∙ ap (element_of stored) id in
+    let old : option_copied c.stored_over-old.result ≡ element_of stored e.id = c.stored_over-old.ensures.element ∙ ap (element_of stored) id in
     let own : option_copied c.find_over.result ≡ element_of now e.id = c.find_over.ensures ∙ ap (element_of now) id in
     let taken : is_taken stored e ≡ true = ap (is_newer e) (sym old) ∙ sym c.is_newer.ensures ∙ c.if-not-is_newer.false in
     OnOk-weaker c.put.result (c.put.new.elements.items ≡ with_put c.in_ok-copy.field-0 c.args.newer.now.items)

@@ -9,6 +9,9 @@ use Rattle.undoing.specs.Undoing.{undone}
 use Rattle.undoing.proofs.CallerLemmas.{same_kind-true}
 use Rattle.snapshot.proofs.carrying.changed.Goals as goal
 
+pub follow-requires-clause-elements : goal.follow-requires-clause-elements
+follow-requires-clause-elements c = (subst IsElement c.old.view_is c.old.invariant, subst IsElement c.new.view_is c.new.invariant)
+
 pub returns-in_ok-try_clone-clause-to : goal.returns-in_ok-try_clone-clause-to
 returns-in_ok-try_clone-clause-to c =
     let old = c.args.old.now in

@@ -28,10 +28,10 @@ loop-i-preserved c =
           let old : option_copied w.find.result ≡ element_of elements e.id = w.find.ensures ∙ ap (element_of elements) (ap (λ (e : ElementValue). e.id) w.e.view_is) in
           rw w.parts-is
           (subst (EntryStandsFor w.note.new.parts.items) (ap (λ o. pairs_since elements (take i store) ++ pair_with o e ∷ []) old ∙ pairs-more elements store i e at)
-          (w.in_ok-note.ensures _ c.loop-i.invariant (pairs-less elements store i e at c.tell.ensures.ordered)))
-      | in_default w ↦ absurd (stored-at store i (omega (arith, c.len-i-end.ensures)) w.in_default.ensures.element)
+          (w.in_ok-note.ensures _ c.loop-i.invariant (pairs-less elements store i e at c.len-i-end.ensures.ordered)))
+      | in_default w ↦ absurd (stored-at store i (omega (arith, c.len-i-end.ensures.exact)) w.in_default.ensures.element)
     ]
 
 pub returns : goal.returns
 returns c =
-    subst (λ es. EntryStandsFor c.loop-i.parts.items (pairs_since c.args.elements.now.items es)) (take_all c.loop-i.i c.args.store.now.elements (omega (arith, c.len-i-end.ensures))) c.loop-i.invariant
+    subst (λ es. EntryStandsFor c.loop-i.parts.items (pairs_since c.args.elements.now.items es)) (take_all c.loop-i.i c.args.store.now.elements (omega (arith, c.len-i-end.ensures.exact))) c.loop-i.invariant

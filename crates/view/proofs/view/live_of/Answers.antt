@@ -23,12 +23,12 @@ loop-i-preserved c =
             (sym w.is_live.ensures ∙ w.if-is_live.false) c.loop-i.invariant.exact);
         stored = rw w.live-is c.loop-i.invariant.stored;
       }
-      | in_default w ↦ absurd (within_stored stored c.loop-i.i (omega (arith, c.len-i-end.ensures)) w.in_default.ensures.element)
+      | in_default w ↦ absurd (within_stored stored c.loop-i.i (omega (arith, c.len-i-end.ensures.exact)) w.in_default.ensures.element)
     ]
 
 pub returns-clause-exact : goal.returns-clause-exact
 returns-clause-exact c =
-    c.loop-i.invariant.exact ∙ ap live_elements (take_all c.loop-i.i c.args.store.now.elements (omega (arith, c.len-i-end.ensures)))
+    c.loop-i.invariant.exact ∙ ap live_elements (take_all c.loop-i.i c.args.store.now.elements (omega (arith, c.len-i-end.ensures.exact)))
 
 pub returns-clause-ordered : goal.returns-clause-ordered
-returns-clause-ordered c = c.tell.ensures.ordered
+returns-clause-ordered c = c.len-i-end.ensures.ordered

@@ -22,6 +22,6 @@ same-but-at old new e rising has id other =
 pub update-requires : goal.update-requires
 update-requires c id other =
     let named : c.from_ref.result.now ≡ c.args.e.id ∷ [] = c.from_ref.ensures.value ∙ (ap (λ i. i ∷ []) c.in_ok-id.ensures ∙ ap (λ (e : ElementValue). e.id ∷ []) c.e.view_is) in
-    ap (λ es. element_of es id) c.self.invariant
-    ∙ same-but-at c.self.inside.store.elements c.take.new.self.elements c.args.e c.tell.ensures.ordered c.in-Ok.ensures.after id
+    ap (λ es. element_of es id) c.self.invariant.0
+    ∙ same-but-at c.self.inside.store.elements c.take.new.self.elements c.args.e c.self.invariant.1 c.in-Ok.ensures.after id
     (subst (λ ids. list_any (bytes_eq id) ids ≡ false) named other)

@@ -4,4 +4,4 @@ use Rattle.live_view.proofs.kept.Kept.follow_each.Given as goal
 
 -- those so far are followed
 abbrev pub invariant-loop-new : goal.invariant-loop-new
-invariant-loop-new l = HaveFollowed l.initial.self (take l.new-index l.news.items) l.self
+invariant-loop-new l = HaveFollowed l.fn.self (take l.new-index l.news.items) l.kept

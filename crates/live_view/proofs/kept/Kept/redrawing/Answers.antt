@@ -1,4 +1,4 @@
-use Rattle.std.proofs.Common.{◌≡◌, ℕ, Some, sym, subst, List}
+use Rattle.std.proofs.Common.{◌≡◌, ℕ, Some, sym, ◌∙◌, subst, List}
 use Rattle.std.specs.Prelude.{slice_get}
 use Rattle.elem.specs.ElementValue.{ElementValue}
 use Rattle.live_view.specs.Changes.{outline, IsRedrawn}
@@ -30,8 +30,8 @@ redrawn-requires-clause-kind c =
 pub returns : goal.returns
 returns c =
     let f = found (goal.at.returns c).After-index in (
-      c.in_ok-try_clone.ensures,
+      c.in_ok-held.ensures,
       subst (λ live. IsRedrawn live c.args.new.now c.in-Ok.held_at c.in-Some.shown_at c.in_ok-shown.shown) c.self.view_is
           (IsRedrawn-from c.self.inside.live.items c.self.inside.shown.items c.args.new.now c.index-old.result.now c.index.result.now c.in_ok-shown.shown c.in-Ok.held_at c.in-Some.shown_at
-          c.self.invariant.view f.held f.one f.at' f.same c.in_ok-shown.ensures),
+          c.self.invariant.view f.held f.one f.at' f.same (c.in_ok-shown.ensures ∙ c.in_ok-redrawn.ensures)),
     )
