@@ -8,11 +8,11 @@ use elem::{Element, same};
 use elem_read::read_element;
 use json_reader::scan;
 use json_text::{Raw, Text};
+use live_view::LiveView;
 use rand_pcg::Pcg32;
 use replica::Replica;
 use scene_json::{members, shaped};
 use std::alloc::{AllocError, Global};
-use live_view::LiveView;
 use view::view_of;
 
 /// What is drawn for an element: its version, how many ids there are, and how many of them are named by others.
